@@ -1,0 +1,79 @@
+#!/usr/bin/env python3
+"""Measures `audit` on a building job with one equality claim, for one program or for several side by side.
+
+usage: bench/audit.py [--variables N] [--repeats N] PROGRAM [PROGRAM ..]
+
+Each PROGRAM is a command line, to which the word `audit` is appended; the job comes on standard input. The programs run
+one after the other in each repeat, and the medians of wall time, processor time and peak memory are shown, with their
+ratio to the last program's. Status and output of all are compared byte for byte.
+The peak is what wait4 tells, at least this script's own size of some 15 MB.
+"""
+import argparse, json, os, random, shlex, statistics, sys, tempfile, time
+
+P = 65537
+
+
+def value_at(table, point):
+    for c in point:
+        half = len(table) // 2
+        table = [(a + (b - a) * c) % P for a, b in zip(table[:half], table[half:])]
+    return table[0]
+
+
+def job(variables):
+    rng = random.Random(variables)
+    table = [rng.randrange(10000, P) for _ in range(1 << variables)]
+    point = [rng.randrange(P) for _ in range(variables)]
+    return json.dumps({
+        "field": "65537",
+        "challenger": {"draws": [rng.randrange(P) for _ in range(variables)], "witnesses": []},
+        "order": "prefix", "bits": 0, "table": table, "variables": variables,
+        "groups": [{"kind": "eq", "claims": [{"point": point, "value": value_at(table, point)}]}],
+        "batching": 40503, "mode": {"build": "plain"},
+    }, separators=(",", ":"))
+
+
+def run(command, path, out):
+    start = time.monotonic()
+    pid = os.fork()
+    if pid == 0:
+        os.dup2(os.open(path, os.O_RDONLY), 0)
+        os.dup2(os.open(out, os.O_WRONLY | os.O_CREAT | os.O_TRUNC, 0o600), 1)
+        os.execvp(command[0], command + ["audit"])
+    _, status, usage = os.wait4(pid, 0)
+    wall = time.monotonic() - start
+    return wall * 1e3, (usage.ru_utime + usage.ru_stime) * 1e3, usage.ru_maxrss / 1024, os.waitstatus_to_exitcode(status)
+
+
+def main():
+    arguments = argparse.ArgumentParser(description=__doc__, formatter_class=argparse.RawDescriptionHelpFormatter)
+    arguments.add_argument("--variables", type=int, default=20)
+    arguments.add_argument("--repeats", type=int, default=7)
+    arguments.add_argument("programs", nargs="+")
+    given = arguments.parse_args()
+    with tempfile.TemporaryDirectory() as folder:
+        path = os.path.join(folder, "job.json")
+        with open(path, "w") as f:
+            f.write(job(given.variables))
+        print(f"2^{given.variables} entries, {os.path.getsize(path)} bytes, {given.repeats} repeats, load {os.getloadavg()[0]:.2f}")
+        samples = [[] for _ in given.programs]
+        answers = set()
+        for _ in range(given.repeats):
+            for i, program in enumerate(given.programs):
+                out = os.path.join(folder, f"out-{i}")
+                sample = run(shlex.split(program), path, out)
+                samples[i].append(sample)
+                with open(out, "rb") as f:
+                    answers.add((sample[3], f.read()))
+        medians = [[statistics.median(s[k] for s in taken) for k in range(3)] for taken in samples]
+        print(f"{'program':40}{'wall ms':>10}{'cpu ms':>10}{'peak MB':>10}")
+        for program, m in zip(given.programs, medians):
+            ratios = "  ".join(f"{a / b:.2f}" for a, b in zip(m, medians[-1]))
+            print(f"{program[-39:]:40}{m[0]:>10.1f}{m[1]:>10.1f}{m[2]:>10.1f}   x {ratios}")
+        for status, text in answers:
+            print(f"status {status}, {text.splitlines()[-1].decode() if text else 'nothing written'}")
+        if len(answers) != 1:
+            sys.exit("the programs' answers differ")
+
+
+main()

@@ -1,0 +1,71 @@
+//! A challenger whose answers are handed in.
+ghost use Rattle.std.specs.Prelude.{◌≡◌, ◌-◌, [], map, vec_len, vec_capacity};
+ghost use Rattle.sc_definitions.specs.Scripted.{scripted_rules, draws_in};
+
+use crate::challenger::Challenger;
+use sc_definitions::Event;
+use sc_field::{Field, NoMemory};
+use std::alloc::Global;
+
+/// A challenger whose draws are handed in: draw number d, counted from 0, is entry number d of the list,
+/// and zero past the list's end.
+///
+/// The elements that pass test number t stand in list number t of `good`.
+#[derive(Drop)]
+pub struct ScriptedChallenger<F: Field> {
+    events: Vec<Event>,
+    // how many of the events are draws
+    drawn: usize,
+    draws: Vec<F>,
+    good: Vec<Vec<F>>,
+    ghost drawn_is: { drawn ≡ draws_in events.items },
+}
+
+impl<F: Field> ScriptedChallenger<F> {
+    /// A challenger with an empty history.
+    pub fn new(alloc: Global, draws: Vec<F>, good: Vec<Vec<F>>) -> Self
+        ensures history { ⟦<ScriptedChallenger<F> as Challenger<F>>⟧.history result ≡ [] }
+        ensures rules { ⟦<ScriptedChallenger<F> as Challenger<F>>⟧.rules result
+            ≡ scripted_rules (map F.number draws.items) (map (λ list. map F.number list.items) good.items) }
+    {
+        ScriptedChallenger {
+            events: Vec::new(alloc),
+            drawn: 0,
+            draws,
+            good,
+        }
+    }
+
+    /// The history, the oldest event first.
+    pub fn events(&self) -> &[Event]
+        ensures { result.now ≡ ⟦<ScriptedChallenger<F> as Challenger<F>>⟧.history self.now }
+    {
+        self.events.as_slice()
+    }
+}
+
+impl<F: Field> Challenger<F> for ScriptedChallenger<F> {
+    ghost history = { λ s. s.events.items };
+
+    ghost rules = { λ s. scripted_rules (map F.number s.draws.items) (map (λ list. map F.number list.items) s.good.items) };
+
+    ghost spare = { λ s. vec_capacity s.events - vec_len s.events };
+
+    fn observe(&mut self, x: F) -> Result<(), NoMemory> {
+        self.events.push(Event::Word(x.index()))?;
+        Ok(())
+    }
+
+    #[tactic(auto, using(crate::proofs::ListReads::reads))]
+    fn sample(&mut self) -> Result<F, NoMemory> {
+        let x = self.draws.get(self.drawn).copied().unwrap_or(F::ZERO);
+        self.events.push(Event::Draw)?;
+        self.drawn += 1;
+        Ok(x)
+    }
+
+    fn reserve(&mut self, events: usize) -> Result<(), NoMemory> {
+        self.events.reserve(events)?;
+        Ok(())
+    }
+}

@@ -1,0 +1,170 @@
+-- A build of true statements leaves the product of the table's and the weights' values.
+use Rattle.std.proofs.Common.{◌≡◌, ℕ, zero, suc, ◌+◌, ◌*◌, ◌-◌, ◌^◌, ◌<◌, Option, Some, None, List, [], ◌∷◌, ◌++◌, length, if◌then◌else◌, ◌==◌, Bool, true, false, sym, ◌∙◌, ap, refl, arith, append_assoc, eqb-true}
+use Rattle.std.proofs.lemmas.List.{append-nil}
+use Rattle.sc_definitions.specs.declared.events.Event.{Event}
+use Rattle.sc_definitions.specs.declared.false_claim.FalseClaim.{FalseClaim}
+use Rattle.sc_definitions.specs.Ring.{Ops, IsRing, plus, times, power}
+use Rattle.sc_definitions.specs.Tables.{Basis, evaluation, projective, Order, prefix, suffix, IsOffered, sum_below, inner, digits, monomial, value, coefficient_value, value_in, point_of, bound_by}
+use Rattle.sc_definitions.specs.Rounds.{placed_entry, true_claim, honest_pair, next_claim, claim_along}
+use Rattle.sc_definitions.specs.Statements.{Statement, weight_of, true_value, IsTrueOf, is_true_of, AllTrueOf, first_false_claim, powers_sum, weights_at, claimed_values, true_values, batched_weight, batched_claim}
+use Rattle.sc_definitions.specs.Events.{Rules, Extension}
+use Rattle.sc_definitions.specs.Transcript.{Round, round_of, messages_of, round_events, challenge, challenges, HasFirstWitness, IsBuilt, built_rounds}
+use Rattle.sc_definitions.specs.Problem.{Problem, weights_of, claim_of, honest_of, residual_of, eval_of, weight_value_of}
+use Rattle.sc_definitions.proofs.RingLaws.{times-zero}
+use Rattle.sc_definitions.proofs.Sums.{sum-same, sum-plus, times-sum}
+use Rattle.sc_definitions.proofs.Identity.{atom, nought, ◌⊕◌, ◌⊗◌, Agree, identity}
+use Rattle.sc_definitions.proofs.RoundLaws.{true_claim-inner, true_claim-next}
+
+module _ (o : Ops) (ring : IsRing o) where
+  -- ---- batches
+
+  pub sum-zeros : (n : ℕ) → sum_below o n (λ b. 0) ≡ 0
+  unfolding sum_below Agree
+  sum-zeros zero = refl
+  sum-zeros (suc n) = ap (λ s. plus o s 0) (sum-zeros n) ∙ identity o ring [] (nought ⊕ nought) nought tt tt refl
+
+  -- the sum of table times batched weights is the batch of the true values
+  pub inner-powers_sum : (n : ℕ) (f : ℕ → ℕ) (c p : ℕ) (ss : List Statement) →
+      inner o n f (λ b. powers_sum o c p (weights_at o ss b)) ≡ powers_sum o c p (true_values o n f ss)
+  unfolding inner powers_sum true_value Agree
+  inner-powers_sum n f c p [] =
+      sum-same o (2 ^ n) _ _ (λ b _. times-zero o ring (f b)) ∙ sum-zeros (2 ^ n)
+  inner-powers_sum n f c p (s ∷ ss) =
+      let N = 2 ^ n in
+      let first : ℕ → ℕ = λ b. times o (power o c p) (times o (f b) (weight_of o s.kind b)) in
+      let others : ℕ → ℕ = λ b. times o (f b) (powers_sum o c (suc p) (weights_at o ss b)) in
+      let F = atom 0 in let P = atom 1 in let W = atom 2 in let R = atom 3 in
+      sum-same o N _ _ (λ b _. identity o ring (f b ∷ power o c p ∷ weight_of o s.kind b ∷ powers_sum o c (suc p) (weights_at o ss b) ∷ [])
+        (F ⊗ (P ⊗ W ⊕ R)) (P ⊗ (F ⊗ W) ⊕ F ⊗ R) tt tt refl)
+      ∙ sym (sum-plus o ring N first others)
+      ∙ ap (λ t. plus o t (sum_below o N others)) (sym (times-sum o ring (power o c p) N (λ b. times o (f b) (weight_of o s.kind b))))
+      ∙ ap (plus o (times o (power o c p) (sum_below o N (λ b. times o (f b) (weight_of o s.kind b))))) (inner-powers_sum n f c (suc p) ss)
+
+  values_agree : (n : ℕ) (f : ℕ → ℕ) (ss : List Statement) → AllTrueOf o n f ss → true_values o n f ss ≡ claimed_values ss
+  unfolding IsTrueOf
+  values_agree n f [] all = refl
+  values_agree n f (s ∷ ss) all = ap (λ v. v ∷ true_values o n f ss) all.0 ∙ ap (λ vs. s.claimed ∷ vs) (values_agree n f ss all.1)
+
+  -- where every statement is true, the batched claim is the true one
+  pub batch-true : (n : ℕ) (f : ℕ → ℕ) (c p : ℕ) (ss : List Statement) → AllTrueOf o n f ss →
+      inner o n f (batched_weight o c p ss) ≡ batched_claim o c p ss
+  unfolding batched_weight batched_claim
+  batch-true n f c p ss all = inner-powers_sum n f c p ss ∙ ap (powers_sum o c p) (values_agree n f ss all)
+
+  -- ---- the last claim
+
+  placed-coefficients : (f : ℕ → ℕ) (rs : List ℕ) → placed_entry projective prefix o f rs 0 0 ≡ coefficient_value o f rs
+  unfolding placed_entry coefficient_value
+  placed-coefficients f rs = sum-same o (2 ^ length rs) _ _ (λ a _. let e : a * 2 ^ 0 + 0 ≡ a = omega arith in ap (λ k. times o (f k) (monomial o rs a)) e)
+
+  -- with no variable left, the one entry is the value at the challenges
+  pub placed-end : (basis : Basis) (order : Order) → IsOffered basis order → (f : ℕ → ℕ) (rs : List ℕ) →
+      placed_entry basis order o f rs 0 0 ≡ value_in basis o f (point_of order rs)
+  unfolding placed_entry digits
+  placed-end evaluation order offered f rs = refl
+  placed-end projective prefix offered f rs = placed-coefficients f rs ∙ ap (coefficient_value o f) (sym (append-nil rs))
+  placed-end projective suffix offered f rs = absurd offered
+
+  -- the last true claim is the product of the two values at the challenges
+  pub true_claim-end : (basis : Basis) (order : Order) → IsOffered basis order → (f w : ℕ → ℕ) (rs : List ℕ) →
+      true_claim basis order o f w rs 0 ≡ times o (value_in basis o f (point_of order rs)) (value_in basis o w (point_of order rs))
+  unfolding true_claim inner sum_below Agree
+  true_claim-end basis order offered f w rs =
+      identity o ring (placed_entry basis order o f rs 0 0 ∷ placed_entry basis order o w rs 0 0 ∷ [])
+        (nought ⊕ atom 0 ⊗ atom 1) (atom 0 ⊗ atom 1) tt tt refl
+      ∙ ap (λ k. times o k (placed_entry basis order o w rs 0 0)) (placed-end basis order offered f rs)
+      ∙ ap (times o (value_in basis o f (point_of order rs))) (placed-end basis order offered w rs)
+
+-- ---- the first false statement
+
+all-step : (o : Ops) (n : ℕ) (f : ℕ → ℕ) (i : ℕ) (s : Statement) (ss : List Statement) (b : Bool) → (true_value o n f s.kind == s.claimed) ≡ b →
+    (first_false_claim o n f (suc i) ss ≡ None → AllTrueOf o n f ss) →
+    (if b then first_false_claim o n f (suc i) ss else Some (record { statement = i; claimed = s.claimed; actual = true_value o n f s.kind })) ≡ None →
+    AllTrueOf o n f (s ∷ ss)
+unfolding IsTrueOf
+all-step o n f i s ss true e others none = (eqb-true _ _ e, others none)
+all-step o n f i s ss false e others none = cc
+
+-- where none is false, all are true
+pub first_false_claim-all : (o : Ops) (n : ℕ) (f : ℕ → ℕ) (i : ℕ) (ss : List Statement) → first_false_claim o n f i ss ≡ None → AllTrueOf o n f ss
+unfolding first_false_claim is_true_of
+first_false_claim-all o n f i [] none = tt
+first_false_claim-all o n f i (s ∷ ss) none =
+    all-step o n f i s ss (true_value o n f s.kind == s.claimed) refl (first_false_claim-all o n f (suc i) ss) none
+
+-- ---- built rounds
+
+-- built rounds under the true claim leave the true claim
+pub built-claim : (o : Ops) → IsRing o → (basis : Basis) (order : Order) → IsOffered basis order → (f w : ℕ → ℕ) (R : Rules) (E : Extension) (bits : ℕ) (h : List Event) (rs : List ℕ) (n : ℕ) (rounds : List Round) →
+    IsBuilt (honest_pair basis order o f w) R E bits h rs n rounds →
+    claim_along (next_claim basis o) (true_claim basis order o f w rs n) (messages_of rounds) (challenges R E bits h rounds)
+    ≡ true_claim basis order o f w (rs ++ challenges R E bits h rounds) (n - length rounds)
+unfolding claim_along
+built-claim o ring basis order offered f w R E bits h rs n [] b =
+    let same : n ≡ n - 0 = omega arith in
+    ap (true_claim basis order o f w rs) same ∙ ap (λ t. true_claim basis order o f w t (n - 0)) (sym (append-nil rs))
+built-claim o ring basis order offered f w R E bits h rs zero (r ∷ rounds) b = absurd b
+built-claim o ring basis order offered f w R E bits h rs (suc n) (r ∷ rounds) b =
+    let x = challenge R E bits h r in
+    let h' = h ++ round_events E bits r in
+    let rest : n - length rounds ≡ suc n - length (r ∷ rounds) = omega arith in
+    ap (λ c. claim_along (next_claim basis o) c (messages_of rounds) (challenges R E bits h' rounds))
+      (ap (λ v. next_claim basis o (true_claim basis order o f w rs (suc n)) v x) b.0 ∙ sym (true_claim-next o ring basis order offered f w rs x n))
+    ∙ built-claim o ring basis order offered f w R E bits h' (rs ++ x ∷ []) n rounds b.2
+    ∙ ap (λ t. true_claim basis order o f w t (n - length rounds)) (append_assoc rs (x ∷ []) (challenges R E bits h' rounds))
+    ∙ ap (true_claim basis order o f w (rs ++ x ∷ challenges R E bits h' rounds)) rest
+
+-- the rounds of an honest prover are built
+pub built_rounds-built : (honest : List ℕ → ℕ → List ℕ) (R : Rules) (E : Extension) (h : List Event) (rs : List ℕ) (n : ℕ) →
+    IsBuilt honest R E 0 h rs n (built_rounds honest R E h rs n)
+unfolding HasFirstWitness
+built_rounds-built honest R E h rs zero = tt
+built_rounds-built honest R E h rs (suc n) =
+    let r = round_of (honest rs n) 0 in
+    (refl, refl, built_rounds-built honest R E (h ++ round_events E 0 r) (rs ++ challenge R E 0 h r ∷ []) n)
+
+pub length-built_rounds : (honest : List ℕ → ℕ → List ℕ) (R : Rules) (E : Extension) (h : List Event) (rs : List ℕ) (n : ℕ) →
+    length (built_rounds honest R E h rs n) ≡ n
+length-built_rounds honest R E h rs zero = refl
+length-built_rounds honest R E h rs (suc n) =
+    let r = round_of (honest rs n) 0 in
+    ap suc (length-built_rounds honest R E (h ++ round_events E 0 r) (rs ++ challenge R E 0 h r ∷ []) n)
+
+module _ (o : Ops) (ring : IsRing o) where
+  batch_start : (p : Problem) → true_claim p.basis p.order o p.table (weights_of o p) [] p.variables ≡ inner o p.variables p.table (batched_weight o p.batching p.initial p.statements)
+  unfolding weights_of bound_by
+  batch_start p = true_claim-inner o ring p.basis p.order p.table (weights_of o p) [] p.variables
+
+  -- true statements make the first claim true
+  pub claim-true : (p : Problem) → AllTrueOf o p.variables p.table p.statements →
+      claim_of o p ≡ true_claim p.basis p.order o p.table (weights_of o p) [] p.variables
+  unfolding claim_of
+  claim-true p all = sym (batch_start p ∙ batch-true o ring p.variables p.table p.batching p.initial p.statements all)
+
+  -- built rounds on true statements leave the product of the two values
+  pub built-residual : (p : Problem) (R : Rules) (E : Extension) (bits : ℕ) (h : List Event) (rounds : List Round) → IsOffered p.basis p.order →
+      AllTrueOf o p.variables p.table p.statements → length rounds ≡ p.variables →
+      IsBuilt (honest_pair p.basis p.order o p.table (weights_of o p)) R E bits h [] p.variables rounds →
+      residual_of o p (messages_of rounds) (challenges R E bits h rounds)
+      ≡ times o (eval_of o p (challenges R E bits h rounds)) (weight_value_of o p (challenges R E bits h rounds))
+  unfolding residual_of eval_of weight_value_of
+  built-residual p R E bits h rounds offered all whole built =
+      let w = weights_of o p in
+      let rs = challenges R E bits h rounds in
+      let none : p.variables - length rounds ≡ 0 = omega arith in
+      ap (λ c. claim_along (next_claim p.basis o) c (messages_of rounds) rs) (claim-true p all)
+      ∙ built-claim o ring p.basis p.order offered p.table w R E bits h [] p.variables rounds built
+      ∙ ap (true_claim p.basis p.order o p.table w rs) none
+      ∙ true_claim-end o ring p.basis p.order offered p.table w rs
+
+  -- the same of the rounds that an honest prover sends, where no statement is false
+  pub build-residual : (p : Problem) (R : Rules) (E : Extension) (h : List Event) → IsOffered p.basis p.order →
+      first_false_claim o p.variables p.table 0 p.statements ≡ None →
+      residual_of o p (messages_of (built_rounds (honest_of o p) R E h [] p.variables)) (challenges R E 0 h (built_rounds (honest_of o p) R E h [] p.variables))
+      ≡ times o (eval_of o p (challenges R E 0 h (built_rounds (honest_of o p) R E h [] p.variables)))
+        (weight_value_of o p (challenges R E 0 h (built_rounds (honest_of o p) R E h [] p.variables)))
+  unfolding honest_of
+  build-residual p R E h offered none =
+      let honest = honest_pair p.basis p.order o p.table (weights_of o p) in
+      built-residual p R E 0 h (built_rounds honest R E h [] p.variables) offered (first_false_claim-all o p.variables p.table 0 p.statements none)
+        (length-built_rounds honest R E h [] p.variables) (built_rounds-built honest R E h [] p.variables)

@@ -1,0 +1,17 @@
+pub mod RingLaws
+pub mod Identity
+pub mod Power
+pub mod Sums
+pub mod Maps
+pub mod TableLaws
+pub mod SuffixLaws
+pub mod PlacedLaws
+pub mod MessageLaws
+pub mod RoundLaws
+pub mod StatementLaws
+pub mod LoopLaws
+pub mod BuiltLaws
+pub mod PlayedLaws
+pub mod BuildLaws
+pub mod WorkedTables
+pub mod WorkedRounds

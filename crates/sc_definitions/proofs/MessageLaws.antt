@@ -1,0 +1,166 @@
+-- The slow round polynomial is what the kernels compute from the bound tables, and the next true claim is what it sends.
+use Rattle.std.proofs.Common.{◌≡◌, ℕ, zero, suc, ◌+◌, ◌*◌, ◌^◌, ◌<◌, List, [], ◌∷◌, ◌++◌, sym, ◌∙◌, ap, refl, arith}
+use Rattle.sc_definitions.specs.Ring.{Ops, IsRing, element, plus, times, minus}
+use Rattle.sc_definitions.specs.Tables.{Basis, evaluation, projective, Order, prefix, suffix, IsOffered, sum_below, inner, bound, bound_low, bound_coefficients, bound_in, bound_by}
+use Rattle.sc_definitions.specs.Polynomials.{poly_at}
+use Rattle.sc_definitions.specs.Rounds.{line_zero, line_one, sent_pair, sent_polynomial, extrapolated, next_claim}
+use Rattle.sc_definitions.specs.Messages.{low_entry, high_entry, first_term, leading_term, message_first, message_leading, message_of}
+use Rattle.sc_definitions.proofs.RingLaws.{plus-zero, element-zero}
+use Rattle.sc_definitions.proofs.Identity.{atom, nought, unit, ◌⊕◌, ◌⊗◌, ◌⊖◌, Agree, identity, same_element}
+use Rattle.sc_definitions.proofs.TableLaws.{two_halves, bound-zero, bound-one, inner-halves}
+use Rattle.sc_definitions.proofs.PlacedLaws.{placed_entry-bound_by, bound_by-append}
+
+module _ (o : Ops) (ring : IsRing o) where
+  -- ---- sums over the two parts of a table
+
+  pub sum-pairs : (n : ℕ) (g : ℕ → ℕ) → sum_below o (n + n) g ≡ plus o (sum_below o n (λ b. g (2 * b))) (sum_below o n (λ b. g (2 * b + 1)))
+  unfolding sum_below Agree
+  sum-pairs zero g = sym (plus-zero o ring 0 ∙ element-zero o ring)
+  sum-pairs (suc n) g =
+      let more : suc n + suc n ≡ suc (suc (n + n)) = omega arith in
+      let first : n + n ≡ 2 * n = omega arith in
+      let second : suc (n + n) ≡ 2 * n + 1 = omega arith in
+      let A = atom 0 in let B = atom 1 in let C = atom 2 in let D = atom 3 in
+      ap (λ k. sum_below o k g) more
+      ∙ ap (λ s. plus o (plus o s (g (n + n))) (g (suc (n + n)))) (sum-pairs n g)
+      ∙ ap (λ k. plus o (plus o (plus o (sum_below o n (λ b. g (2 * b))) (sum_below o n (λ b. g (2 * b + 1)))) (g k)) (g (suc (n + n)))) first
+      ∙ ap (λ k. plus o (plus o (plus o (sum_below o n (λ b. g (2 * b))) (sum_below o n (λ b. g (2 * b + 1)))) (g (2 * n))) (g k)) second
+      ∙ identity o ring (sum_below o n (λ b. g (2 * b)) ∷ sum_below o n (λ b. g (2 * b + 1)) ∷ g (2 * n) ∷ g (2 * n + 1) ∷ [])
+      (((A ⊕ B) ⊕ C) ⊕ D) ((A ⊕ C) ⊕ (B ⊕ D)) tt tt refl
+
+  -- the sum over all rows is that over the two parts
+  pub inner-parts : (order : Order) (m : ℕ) (f w : ℕ → ℕ) →
+      inner o (suc m) f w ≡ plus o (sum_below o (2 ^ m) (λ b. times o (low_entry order f b) (low_entry order w b)))
+      (sum_below o (2 ^ m) (λ b. times o (high_entry order (2 ^ m) f b) (high_entry order (2 ^ m) w b)))
+  unfolding inner low_entry high_entry
+  inner-parts prefix m f w = inner-halves o ring m f w
+  inner-parts suffix m f w =
+      ap (λ n. sum_below o n (λ b. times o (f b) (w b))) (two_halves m)
+      ∙ sum-pairs (2 ^ m) (λ b. times o (f b) (w b))
+
+  -- the products of two lines through their values at 0 and 1, in sum, at r
+  lines-sum : (n : ℕ) (f0 f1 w0 w1 : ℕ → ℕ) (r : ℕ) →
+      sum_below o n (λ b. times o (plus o (f0 b) (times o (minus o (f1 b) (f0 b)) r)) (plus o (w0 b) (times o (minus o (w1 b) (w0 b)) r)))
+      ≡ poly_at o (sent_pair evaluation o (plus o (sum_below o n (λ b. times o (f0 b) (w0 b))) (sum_below o n (λ b. times o (f1 b) (w1 b))))
+      (sum_below o n (λ b. times o (f0 b) (w0 b)))
+      (sum_below o n (λ b. times o (minus o (f1 b) (f0 b)) (minus o (w1 b) (w0 b))))) r
+  unfolding sum_below sent_pair poly_at Agree
+  lines-sum zero f0 f1 w0 w1 r =
+      let R = atom 0 in let O = nought in
+      identity o ring (r ∷ []) O (O ⊕ R ⊗ (((((O ⊕ O) ⊖ O) ⊖ O) ⊖ O) ⊕ R ⊗ (O ⊕ R ⊗ O))) tt tt refl
+  lines-sum (suc n) f0 f1 w0 w1 r =
+      let A = atom 0 in let B = atom 1 in let Q = atom 2 in
+      let F0 = atom 3 in let F1 = atom 4 in let W0 = atom 5 in let W1 = atom 6 in let R = atom 7 in
+      let a = sum_below o n (λ b. times o (f0 b) (w0 b)) in
+      let b = sum_below o n (λ b. times o (f1 b) (w1 b)) in
+      let q = sum_below o n (λ b. times o (minus o (f1 b) (f0 b)) (minus o (w1 b) (w0 b))) in
+      let line = (F0 ⊕ (F1 ⊖ F0) ⊗ R) ⊗ (W0 ⊕ (W1 ⊖ W0) ⊗ R) in
+      let A' = A ⊕ F0 ⊗ W0 in let B' = B ⊕ F1 ⊗ W1 in let Q' = Q ⊕ (F1 ⊖ F0) ⊗ (W1 ⊖ W0) in
+      let term = times o (plus o (f0 n) (times o (minus o (f1 n) (f0 n)) r)) (plus o (w0 n) (times o (minus o (w1 n) (w0 n)) r)) in
+      ap (λ s. plus o s term) (lines-sum n f0 f1 w0 w1 r)
+      ∙ identity o ring (a ∷ b ∷ q ∷ f0 n ∷ f1 n ∷ w0 n ∷ w1 n ∷ r ∷ [])
+      ((A ⊕ R ⊗ ((((A ⊕ B) ⊖ A) ⊖ A ⊖ Q) ⊕ R ⊗ (Q ⊕ R ⊗ nought))) ⊕ line)
+      (A' ⊕ R ⊗ ((((A' ⊕ B') ⊖ A') ⊖ A' ⊖ Q') ⊕ R ⊗ (Q' ⊕ R ⊗ nought)))
+      tt tt refl
+
+  -- the products of two lines by their coefficients, in sum, at r
+  coefficients-sum : (n : ℕ) (f0 f1 w0 w1 : ℕ → ℕ) (r : ℕ) →
+      sum_below o n (λ b. times o (plus o (f0 b) (times o (f1 b) r)) (plus o (w0 b) (times o (w1 b) r)))
+      ≡ poly_at o (sent_pair projective o (plus o (sum_below o n (λ b. times o (f0 b) (w0 b))) (sum_below o n (λ b. times o (f1 b) (w1 b))))
+      (sum_below o n (λ b. times o (plus o (f0 b) (f1 b)) (plus o (w0 b) (w1 b))))
+      (sum_below o n (λ b. times o (f1 b) (w1 b)))) r
+  unfolding sum_below sent_pair poly_at Agree
+  coefficients-sum zero f0 f1 w0 w1 r =
+      let R = atom 0 in let O = nought in
+      identity o ring (r ∷ []) O (((O ⊕ O) ⊖ O) ⊕ R ⊗ ((O ⊖ (O ⊕ O)) ⊕ R ⊗ (O ⊕ R ⊗ O))) tt tt refl
+  coefficients-sum (suc n) f0 f1 w0 w1 r =
+      let A = atom 0 in let B = atom 1 in let C = atom 2 in
+      let F0 = atom 3 in let F1 = atom 4 in let W0 = atom 5 in let W1 = atom 6 in let R = atom 7 in
+      let a = sum_below o n (λ b. times o (f0 b) (w0 b)) in
+      let b = sum_below o n (λ b. times o (f1 b) (w1 b)) in
+      let c = sum_below o n (λ b. times o (plus o (f0 b) (f1 b)) (plus o (w0 b) (w1 b))) in
+      let line = (F0 ⊕ F1 ⊗ R) ⊗ (W0 ⊕ W1 ⊗ R) in
+      let A' = A ⊕ F0 ⊗ W0 in let B' = B ⊕ F1 ⊗ W1 in let C' = C ⊕ (F0 ⊕ F1) ⊗ (W0 ⊕ W1) in
+      let term = times o (plus o (f0 n) (times o (f1 n) r)) (plus o (w0 n) (times o (w1 n) r)) in
+      ap (λ s. plus o s term) (coefficients-sum n f0 f1 w0 w1 r)
+      ∙ identity o ring (a ∷ b ∷ c ∷ f0 n ∷ f1 n ∷ w0 n ∷ w1 n ∷ r ∷ [])
+      ((((A ⊕ B) ⊖ B) ⊕ R ⊗ ((C ⊖ (A ⊕ B)) ⊕ R ⊗ (B ⊕ R ⊗ nought))) ⊕ line)
+      (((A' ⊕ B') ⊖ B') ⊕ R ⊗ ((C' ⊖ (A' ⊕ B')) ⊕ R ⊗ (B' ⊕ R ⊗ nought)))
+      tt tt refl
+
+  -- the sum of the bound tables is what the tables' message sends under their sum, at r
+  pub inner-bound_in : (basis : Basis) (order : Order) → IsOffered basis order → (m : ℕ) (f w : ℕ → ℕ) (r : ℕ) →
+      inner o m (bound_in basis order o m r f) (bound_in basis order o m r w)
+      ≡ next_claim basis o (inner o (suc m) f w) (message_of basis order o (2 ^ m) f w) r
+  unfolding inner bound bound_low bound_coefficients next_claim sent_polynomial low_entry high_entry first_term message_first leading_term message_leading
+  inner-bound_in evaluation prefix offered m f w r =
+      lines-sum (2 ^ m) f (λ b. f (2 ^ m + b)) w (λ b. w (2 ^ m + b)) r
+      ∙ ap (λ c. poly_at o (sent_pair evaluation o c (message_first evaluation prefix o (2 ^ m) f w) (message_leading evaluation prefix o (2 ^ m) f w)) r)
+      (sym (inner-parts prefix m f w))
+  inner-bound_in evaluation suffix offered m f w r =
+      lines-sum (2 ^ m) (λ b. f (2 * b)) (λ b. f (2 * b + 1)) (λ b. w (2 * b)) (λ b. w (2 * b + 1)) r
+      ∙ ap (λ c. poly_at o (sent_pair evaluation o c (message_first evaluation suffix o (2 ^ m) f w) (message_leading evaluation suffix o (2 ^ m) f w)) r)
+      (sym (inner-parts suffix m f w))
+  inner-bound_in projective prefix offered m f w r =
+      coefficients-sum (2 ^ m) f (λ b. f (2 ^ m + b)) w (λ b. w (2 ^ m + b)) r
+      ∙ ap (λ c. poly_at o (sent_pair projective o c (message_first projective prefix o (2 ^ m) f w) (message_leading projective prefix o (2 ^ m) f w)) r)
+      (sym (inner-parts prefix m f w))
+  inner-bound_in projective suffix offered m f w r = absurd offered
+
+  -- ---- the lines of the slow polynomial are the parts of the bound tables
+
+  pub line_zero-low : (basis : Basis) (order : Order) → IsOffered basis order → (f : ℕ → ℕ) (rs : List ℕ) (m b : ℕ) → b < 2 ^ m →
+      line_zero basis order o f rs m b ≡ element o (low_entry order (bound_by basis order o rs (suc m) f) b)
+  unfolding line_zero low_entry bound_low Agree
+  line_zero-low evaluation prefix offered f rs m b low =
+      placed_entry-bound_by o ring evaluation prefix f (rs ++ 0 ∷ []) m b low
+      ∙ ap (λ g. element o (g b)) (bound_by-append evaluation prefix o rs 0 m f)
+      ∙ bound-zero o ring (2 ^ m) b (bound_by evaluation prefix o rs (suc m) f)
+  line_zero-low evaluation suffix offered f rs m b low =
+      let F = bound_by evaluation suffix o rs (suc m) f in
+      let A = atom 0 in let B = atom 1 in
+      placed_entry-bound_by o ring evaluation suffix f (rs ++ 0 ∷ []) m b low
+      ∙ ap (λ g. element o (g b)) (bound_by-append evaluation suffix o rs 0 m f)
+      ∙ same_element o ring (F (2 * b) ∷ F (2 * b + 1) ∷ []) (A ⊕ (B ⊖ A) ⊗ nought) A refl
+  line_zero-low projective prefix offered f rs m b low =
+      let more : b < 2 ^ suc m = omega (arith, two_halves m) in
+      placed_entry-bound_by o ring projective prefix f rs (suc m) b more
+  line_zero-low projective suffix offered f rs m b low = absurd offered
+
+  pub line_one-high : (basis : Basis) (order : Order) → IsOffered basis order → (f : ℕ → ℕ) (rs : List ℕ) (m b : ℕ) → b < 2 ^ m →
+      line_one basis order o f rs m b ≡ element o (high_entry order (2 ^ m) (bound_by basis order o rs (suc m) f) b)
+  unfolding line_one high_entry bound_low Agree
+  line_one-high evaluation prefix offered f rs m b low =
+      placed_entry-bound_by o ring evaluation prefix f (rs ++ 1 ∷ []) m b low
+      ∙ ap (λ g. element o (g b)) (bound_by-append evaluation prefix o rs 1 m f)
+      ∙ bound-one o ring (2 ^ m) b (bound_by evaluation prefix o rs (suc m) f)
+  line_one-high evaluation suffix offered f rs m b low =
+      let F = bound_by evaluation suffix o rs (suc m) f in
+      let A = atom 0 in let B = atom 1 in
+      placed_entry-bound_by o ring evaluation suffix f (rs ++ 1 ∷ []) m b low
+      ∙ ap (λ g. element o (g b)) (bound_by-append evaluation suffix o rs 1 m f)
+      ∙ same_element o ring (F (2 * b) ∷ F (2 * b + 1) ∷ []) (A ⊕ (B ⊖ A) ⊗ unit) B refl
+  line_one-high projective prefix offered f rs m b low =
+      let more : 2 ^ m + b < 2 ^ suc m = omega (arith, two_halves m) in
+      placed_entry-bound_by o ring projective prefix f rs (suc m) (2 ^ m + b) more
+  line_one-high projective suffix offered f rs m b low = absurd offered
+
+  -- ---- the next claim, written out
+
+  pub next_claim-projective : (claim c q r : ℕ) →
+      next_claim projective o claim (c ∷ q ∷ []) r ≡ plus o (minus o claim q) (times o r (plus o (minus o c claim) (times o r q)))
+  unfolding next_claim sent_polynomial sent_pair poly_at Agree
+  next_claim-projective claim c q r =
+      let K = atom 0 in let C = atom 1 in let Q = atom 2 in let R = atom 3 in
+      identity o ring (claim ∷ c ∷ q ∷ r ∷ [])
+      ((K ⊖ Q) ⊕ R ⊗ ((C ⊖ K) ⊕ R ⊗ (Q ⊕ R ⊗ nought))) ((K ⊖ Q) ⊕ R ⊗ ((C ⊖ K) ⊕ R ⊗ Q)) tt tt refl
+
+  -- through the values at 0 and 1 and the leading coefficient
+  pub next_claim-extrapolated : (claim c q r : ℕ) →
+      next_claim evaluation o claim (c ∷ q ∷ []) r ≡ extrapolated o c (minus o claim c) q r
+  unfolding next_claim sent_polynomial sent_pair poly_at extrapolated Agree
+  next_claim-extrapolated claim c q r =
+      let K = atom 0 in let C = atom 1 in let Q = atom 2 in let R = atom 3 in
+      identity o ring (claim ∷ c ∷ q ∷ r ∷ [])
+      (C ⊕ R ⊗ ((((K ⊖ C) ⊖ C) ⊖ Q) ⊕ R ⊗ (Q ⊕ R ⊗ nought)))
+      ((C ⊗ (unit ⊖ R) ⊕ (K ⊖ C) ⊗ R) ⊕ Q ⊗ (R ⊗ (R ⊖ unit))) tt tt refl

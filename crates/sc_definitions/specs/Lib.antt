@@ -1,0 +1,12 @@
+pub mod Ring
+pub mod Residues
+pub mod Tables
+pub mod Polynomials
+pub mod Rounds
+pub mod Messages
+pub mod Statements
+pub mod Events
+pub mod Scripted
+pub mod Transcript
+pub mod Played
+pub mod Problem

@@ -1,0 +1,3 @@
+pub mod ProductLaws
+pub mod PowersLaws
+pub mod SumsLaws

@@ -1,0 +1,137 @@
+//! What a field is.
+ghost use Rattle.std.specs.Prelude.{◌≡◌, ℕ, ◌<◌, ◌≤◌, ◌^◌, ◌↔◌, true};
+ghost use Rattle.sc_definitions.specs.Ring.{Ops, IsField, plus, times, opposite, minus, power};
+
+use crate::powers::Powers;
+
+/// A finite field of 16 to 2^32 elements, each with a number below the size. Zero has the number 0
+/// and one the number 1. Two values are equal exactly where their numbers are.
+pub trait Field: Copy + Eq {
+    ghost use Rattle.sc_field.specs.Powers.{base_of, start_of};
+
+    // The size, the sum, the product and the opposite, as functions of numbers.
+    ghost ops: { Ops };
+
+    // An element's number, below the size.
+    ghost number: { Self → ℕ };
+
+    ghost ZERO: { Self };
+
+    ghost ONE: { Self };
+
+    ghost TWO: { Self };
+
+    /// Element number 0.
+    const ZERO: Self;
+
+    /// Element number 1.
+    const ONE: Self;
+
+    /// One plus one.
+    const TWO: Self;
+
+    /// How many elements there are: from 16 to 2^32.
+    fn size() -> u64
+        ensures { result ≡ ops.size };
+
+    /// The element with this number, which is below the size.
+    fn element(index: u64) -> Self
+        requires { index < ops.size }
+        ensures { number result ≡ index };
+
+    /// The element's number, below the size.
+    fn index(self) -> u64
+        ensures { result ≡ number self };
+
+    /// The sum.
+    fn add(self, other: Self) -> Self
+        ensures { number result ≡ plus ops (number self) (number other) };
+
+    /// `self` less `other`.
+    fn sub(self, other: Self) -> Self
+        ensures { number result ≡ minus ops (number self) (number other) };
+
+    /// The product.
+    fn mul(self, other: Self) -> Self
+        ensures { number result ≡ times ops (number self) (number other) };
+
+    /// Zero less `self`.
+    fn neg(self) -> Self
+        ensures { number result ≡ opposite ops (number self) };
+
+    /// `self` plus itself.
+    fn double(self) -> Self
+        ensures { number result ≡ plus ops (number self) (number self) }
+    {
+        self.add(self)
+    }
+
+    /// `self` times itself.
+    fn square(self) -> Self
+        ensures { number result ≡ times ops (number self) (number self) }
+    {
+        self.mul(self)
+    }
+
+    /// The power: `exponent` factors `self`, multiplied. To the 0 it is one, for zero too.
+    fn exp_u64(self, exponent: u64) -> Self
+        ensures { number result ≡ power ops (number self) exponent }
+    {
+        let mut result = Self::ONE;
+        let mut base = self;
+        let mut left = exponent;
+        while left > 0 {
+            if left % 2 == 1 {
+                result = result.mul(base);
+            }
+            base = base.square();
+            left /= 2;
+        }
+        result
+    }
+
+    /// Node number i of an interpolation, which is element number i. It is below the size.
+    fn interpolation_node(i: usize) -> Self
+        requires { i < ops.size }
+        ensures { number result ≡ i }
+    {
+        Self::element(i as u64)
+    }
+
+    /// The powers of `self`: item number i is the power i, from one on.
+    fn powers(self) -> Powers<Self>
+        ensures base { number (base_of result) ≡ number self }
+        ensures start { number (start_of result) ≡ 1 }
+    {
+        self.shifted_powers(Self::ONE)
+    }
+
+    /// The powers of `self`, each times `start`: item number i is `start` times the power i.
+    fn shifted_powers(self, start: Self) -> Powers<Self>
+        ensures base { number (base_of result) ≡ number self }
+        ensures start { number (start_of result) ≡ number start }
+    {
+        Powers {
+            next: start,
+            base: self,
+        }
+    }
+
+    // The numbers below the size, with these operations, are a field: a commutative ring of 16 to
+    // 2^32 numbers in which each but 0 has an inverse.
+    ghost is_field: { IsField ops };
+
+    ghost size_least: { 16 ≤ ops.size };
+
+    ghost size_most: { ops.size ≤ 2 ^ 32 };
+
+    ghost zero_is: { number ZERO ≡ 0 };
+
+    ghost one_is: { number ONE ≡ 1 };
+
+    ghost two_is: { number TWO ≡ plus ops 1 1 };
+
+    ghost number_below: { (x : Self) → number x < ops.size };
+
+    ghost equality: { (x y : Self) → (Self.eq x y ≡ true) ↔ (number x ≡ number y) };
+}

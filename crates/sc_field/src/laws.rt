@@ -1,0 +1,30 @@
+//! Laws of every field, as contracts: a caller calls the function and has them.
+ghost use Rattle.std.specs.Prelude.{◌≡◌, ◌<◌, ◌≤◌, ◌^◌};
+ghost use Rattle.sc_definitions.specs.Ring.{IsField};
+ghost use Rattle.sc_field.specs.Laws.{SumsSplit, SumsAdd, SumsExchange, FactorMovesIn, PowerOfNone, PowersSplit, PowerOfProduct, ItemsArePowers};
+
+use crate::field::Field;
+
+/// The numbers below the size are a field, 16 to 2^32 of them, and each element has one of them.
+pub fn field_laws<F: Field>()
+    ensures lawful { IsField F.ops }
+    ensures least { 16 ≤ F.ops.size }
+    ensures most { F.ops.size ≤ 2 ^ 32 }
+    ensures below { (x : F) → F.number x < F.ops.size }
+{}
+
+/// Laws of sums over the numbers below a bound.
+pub fn sum_laws<F: Field>()
+    ensures split { SumsSplit F.ops }
+    ensures add { SumsAdd F.ops }
+    ensures exchange { SumsExchange F.ops }
+    ensures factor { FactorMovesIn F.ops }
+{}
+
+/// Laws of powers, and what an iterator of powers gives.
+pub fn power_laws<F: Field>()
+    ensures none { PowerOfNone F.ops }
+    ensures split { PowersSplit F.ops }
+    ensures product { PowerOfProduct F.ops }
+    ensures items { ItemsArePowers F.ops F.number }
+{}

@@ -1,0 +1,24 @@
+//! Finite fields, by their numbers: what a field, an algebra over one, an extension and another
+//! representation of one are, and the integers modulo 65537.
+//!
+//! Each element has a number below the field's size, and the contracts speak of elements by their
+//! numbers alone.
+#![tactic(auto)]
+
+mod algebra;
+mod f65537;
+mod field;
+mod laws;
+mod memory;
+mod powers;
+mod representation;
+#[cfg(test)]
+mod tests;
+
+pub use algebra::{Algebra, ExtensionField};
+pub use f65537::F65537;
+pub use field::Field;
+pub use laws::{field_laws, power_laws, sum_laws};
+pub use memory::NoMemory;
+pub use powers::Powers;
+pub use representation::{FromTable, IntoTranscriptField};

@@ -1,0 +1,20 @@
+//! JSON values read by forms.
+//!
+//! A [`Form`] says what a JSON value is read as, if it is of the form, and reads it. Forms compose: a list
+//! or a pair of any form is a form, and [`member`] reads a member of an object in a form.
+//! [`read_value`] reads bytes as a JSON value.
+#![tactic(auto)]
+
+mod form;
+mod input;
+mod lists;
+mod literal;
+mod numbers;
+#[cfg(test)]
+mod tests;
+
+pub use form::{Form, Misread, is_object, member};
+pub use input::{NoValue, read_value};
+pub use lists::{ListOf, ListOfLength, PairOf};
+pub use literal::Literal;
+pub use numbers::{AtMost, Below, Unsigned};

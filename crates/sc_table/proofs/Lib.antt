@@ -1,0 +1,4 @@
+pub mod EntryLaws
+pub mod EvalLaws
+pub mod WeightLaws
+pub mod HonestLaws

@@ -1,0 +1,17 @@
+//! Tables of a field's elements, their values at points, and what a round of the sumcheck protocol sends.
+//!
+//! A table of n variables has 2^n entries. Coordinate 1 of a point belongs to the highest bit of a row,
+//! and coordinate n to the lowest. Contracts speak of elements by their numbers, as `sc_field` gives them.
+#![tactic(auto)]
+
+mod lagrange;
+mod point;
+mod poly;
+mod row;
+mod strategy;
+
+pub use lagrange::extrapolate_01inf;
+pub use point::Point;
+pub use poly::Poly;
+pub use row::Row;
+pub use strategy::{RoundMessage, sumcheck_coefficients_prefix};

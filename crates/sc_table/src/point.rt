@@ -1,0 +1,59 @@
+//! Points, and the equality weight of two points.
+
+ghost use Rattle.std.specs.Prelude.{◌≡◌, List, length, map};
+ghost use Rattle.sc_definitions.specs.Tables.{eq_product};
+
+use sc_field::Field;
+use std::marker::Model;
+
+/// A point: one coordinate for each variable. A contract sees the list of coordinates.
+#[derive(Drop)]
+pub struct Point<EF> {
+    coords: Vec<EF>,
+}
+
+impl<EF> Model for Point<EF> {
+    ghost Value = { List EF };
+
+    ghost view = { λ point. point.coords.items };
+}
+
+impl<EF> Point<EF> {
+    /// The point with these coordinates.
+    pub fn new(coords: Vec<EF>) -> Self
+        ensures { result ≡ coords.items }
+    {
+        Point { coords }
+    }
+
+    /// How many coordinates the point has.
+    pub fn num_variables(&self) -> usize
+        ensures { result ≡ length self.now }
+    {
+        self.coords.len()
+    }
+
+    /// The coordinates, the first one first.
+    pub fn as_slice(&self) -> &[EF]
+        ensures { result.now ≡ self.now }
+    {
+        &self.coords
+    }
+}
+
+impl<EF: Field> Point<EF> {
+    /// The equality weight of two lists of coordinates of one length: the product of
+    /// z x + (1 - z)(1 - x) over the pairs of coordinates. Of no coordinates it is one.
+    pub fn eval_eq(z: &[EF], x: &[EF]) -> EF
+        requires { length z.now ≡ length x.now }
+        ensures { EF.number result ≡ eq_product EF.ops (map EF.number z.now) (map EF.number x.now) }
+    {
+        let mut product = EF::ONE;
+        for (z_i, x_i) in z.iter().zip(x) {
+            let both = z_i.mul(*x_i);
+            let neither = EF::ONE.sub(*z_i).mul(EF::ONE.sub(*x_i));
+            product = product.mul(both.add(neither));
+        }
+        product
+    }
+}

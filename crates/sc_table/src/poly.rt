@@ -1,0 +1,190 @@
+//! Tables of values.
+
+ghost use Rattle.std.specs.Prelude.{◌≡◌, ℕ, suc, ◌+◌, ◌-◌, ◌*◌, ◌/◌, ◌^◌, ◌<◌, ◌≤◌, [], ◌∷◌, List, length, map, IfOk, vec_len, vec_capacity};
+ghost use Rattle.std.specs.Borrow.{sem};
+ghost use Rattle.sc_definitions.specs.Ring.{times, minus};
+ghost use Rattle.sc_definitions.specs.Tables.{entries, weight, value, bound};
+
+use crate::Point;
+use sc_field::{Algebra, Field, NoMemory};
+use std::alloc::Global;
+
+/// A table of 2^n values. Coordinate 1 of a point belongs to the highest bit of a row.
+#[derive(Drop)]
+pub struct Poly<A> {
+    evals: Vec<A>,
+    variables: usize,
+    ghost sized: { vec_len evals ≡ 2 ^ variables },
+}
+
+impl<A: Field> Poly<A> {
+    ghost use Rattle.sc_table.specs.Polys.{variables_of, table_of, with_values};
+    ghost use Rattle.sc_table.specs.PolyLoans.{LendsValues};
+
+    /// The table of these values, as many as a power of two.
+    pub fn new(evals: Vec<A>) -> Self
+        requires { (n : ℕ) × (length evals.items ≡ 2 ^ n) }
+        ensures size { length evals.items ≡ 2 ^ variables_of result }
+        ensures table { table_of A.number result ≡ entries A.number evals.items }
+    {
+        let variables = evals.len().trailing_zeros() as usize;
+        Poly { evals, variables }
+    }
+
+    /// The table of `n` variables, at most 40, with zero in each row.
+    pub fn zero(alloc: Global, n: usize) -> Result<Self, NoMemory>
+        requires { n ≤ 40 }
+        ensures variables { IfOk result (λ p. variables_of p ≡ n) }
+        ensures table { IfOk result (λ p. (b : ℕ) → table_of A.number p b ≡ 0) }
+    {
+        let mut evals = Vec::new(alloc);
+        evals.resize(1 << n, A::ZERO)?;
+        Ok(Poly {
+            evals,
+            variables: n,
+        })
+    }
+
+    /// The table of `scale` times the equality weights of the point `z`, of at most 40 coordinates.
+    ///
+    /// It takes time linear in the table's length: each coordinate, the last one first, doubles the
+    /// table that the coordinates behind it make.
+    pub fn new_from_point(alloc: Global, z: &[A], scale: A) -> Result<Self, NoMemory>
+        requires { length z.now ≤ 40 }
+        ensures variables { IfOk result (λ p. variables_of p ≡ length z.now) }
+        ensures table { IfOk result (λ p. (b : ℕ) → b < 2 ^ length z.now →
+            table_of A.number p b ≡ times A.ops (A.number scale) (weight A.ops (map A.number z.now) b)) }
+    {
+        let variables = z.len();
+        let mut evals = Vec::with_capacity(alloc, 1 << variables)?;
+        evals.push_reserved(scale);
+        for z_i in z.iter().rev() {
+            push_weighted(&mut evals, *z_i);
+        }
+        Ok(Poly { evals, variables })
+    }
+
+    /// How many variables the table has.
+    pub fn num_variables(&self) -> usize
+        ensures { result ≡ variables_of self.now }
+    {
+        self.variables
+    }
+
+    /// How many values the table has.
+    pub fn num_evals(&self) -> usize
+        ensures { result ≡ 2 ^ variables_of self.now }
+    {
+        self.evals.len()
+    }
+
+    /// The values, row 0 first.
+    pub fn as_slice(&self) -> &[A]
+        ensures numbers { entries A.number result.now ≡ table_of A.number self.now }
+        ensures size { length result.now ≡ 2 ^ variables_of self.now }
+    {
+        self.evals.as_slice()
+    }
+
+    /// The values, row 0 first, to be written; the number of variables stays.
+    pub fn as_mut_slice(&mut self) -> &mut [A]
+        ensures* writes_back { sem 𝓛 (LendsValues A.row self.entry result) }
+        ensures numbers { entries A.number result.now ≡ table_of A.number self.old }
+        ensures size { length result.now ≡ 2 ^ variables_of self.old }
+
+        // As many values as there were are the table's new ones.
+        ensures written { (values : List A) → length values ≡ 2 ^ variables_of self.old →
+            table_of A.number (with_values self.old values) ≡ entries A.number values }
+    {
+        self.evals.as_mut_slice()
+    }
+
+    /// The same table, in memory of its own.
+    pub fn copy(&self, alloc: Global) -> Result<Self, NoMemory>
+        ensures variables { IfOk result (λ p. variables_of p ≡ variables_of self.now) }
+        ensures table { IfOk result (λ p. table_of A.number p ≡ table_of A.number self.now) }
+    {
+        let evals = Vec::from_slice(alloc, &self.evals)?;
+        Ok(Poly {
+            evals,
+            variables: self.variables,
+        })
+    }
+
+    /// The sum over all rows of value times equality weight, at a point of as many coordinates as the
+    /// table has variables. It takes no memory.
+    pub fn eval<E: Algebra<A>>(&self, z: &Point<E>) -> E
+        requires { length z.now ≡ variables_of self.now }
+        ensures { E.number result ≡ value E.ops (λ b. E.embedding (table_of A.number self.now b)) (map E.number z.now) }
+    {
+        eval_slice(self.evals.as_slice(), z.as_slice())
+    }
+
+    /// The first variable is bound at `r`, and the table is halved, in its place: each value of the
+    /// first half becomes lo + (hi - lo) r over the two halves.
+    pub fn fix_prefix_var_mut<Ch: Field>(&mut self, r: Ch)
+    where
+        A: Algebra<Ch>,
+        requires { 0 < variables_of self.old }
+        ensures fewer { variables_of self.old ≡ variables_of self.new + 1 }
+        ensures bound { (b : ℕ) → b < 2 ^ variables_of self.new →
+            table_of A.number self.new b ≡ bound A.ops (2 ^ variables_of self.new) (A.embedding (Ch.number r)) (table_of A.number self.old) b }
+
+        // The value at the other coordinates is the old value with `r` placed first.
+        ensures value { (zs : List ℕ) → length zs ≡ variables_of self.new →
+            value A.ops (table_of A.number self.new) zs ≡ value A.ops (table_of A.number self.old) (A.embedding (Ch.number r) ∷ zs) }
+    {
+        let half = self.evals.len() / 2;
+        bind_halves(self.evals.as_mut_slice(), half, r);
+        self.evals.truncate(half);
+        self.variables -= 1;
+    }
+}
+
+// The weights with one more coordinate, z, before the others: the first half, for its digit 0, and the
+// second half, for its digit 1. There is room for both.
+fn push_weighted<A: Field>(weights: &mut Vec<A>, z: A)
+    requires { vec_len weights.old + vec_len weights.old ≤ vec_capacity weights.old }
+    ensures room { vec_capacity weights.new ≡ vec_capacity weights.old }
+    ensures size { length weights.new.items ≡ length weights.old.items + length weights.old.items }
+    ensures low { (b : ℕ) → b < length weights.old.items →
+        entries A.number weights.new.items b ≡ minus A.ops (entries A.number weights.old.items b) (times A.ops (entries A.number weights.old.items b) (A.number z)) }
+    ensures high { (b : ℕ) → b < length weights.old.items →
+        entries A.number weights.new.items (length weights.old.items + b) ≡ times A.ops (entries A.number weights.old.items b) (A.number z) }
+{
+    let half = weights.len();
+    for b in 0..half {
+        let high = weights[b].mul(z);
+        weights[b] = weights[b].sub(high);
+        weights.push_reserved(high);
+    }
+}
+
+// The first half becomes lo + (hi - lo) r over the two halves.
+fn bind_halves<A: Algebra<Ch>, Ch: Field>(evals: &mut [A], half: usize, r: Ch)
+    requires { half + half ≤ length evals.old }
+    ensures { (b : ℕ) → b < half →
+        entries A.number evals.new b ≡ bound A.ops half (A.embedding (Ch.number r)) (entries A.number evals.old) b }
+{
+    for b in 0..half {
+        let lo = evals[b];
+        let hi = evals[half + b];
+        evals[b] = lo.add(hi.sub(lo).mul_base(r));
+    }
+}
+
+// The value at z of the table that a slice holds, by halves.
+fn eval_slice<A: Field, E: Algebra<A>>(evals: &[A], z: &[E]) -> E
+    requires { length evals.now ≡ 2 ^ length z.now }
+    ensures { E.number result ≡ value E.ops (entries (λ x. E.embedding (A.number x)) evals.now) (map E.number z.now) }
+{
+    match z {
+        [] => E::embed(evals[0]),
+        [first, rest @ ..] => {
+            let half = evals.len() / 2;
+            let lo = eval_slice(&evals[..half], rest);
+            let hi = eval_slice(&evals[half..], rest);
+            lo.add(hi.sub(lo).mul(*first))
+        }
+    }
+}

@@ -1,0 +1,7 @@
+pub mod Lengths
+pub mod RoundSteps
+pub mod BatchSteps
+pub mod LineLaws
+pub mod Joined
+pub mod ReportLaws
+pub mod Outcomes

@@ -1,0 +1,67 @@
+-- One round, from what its calls answer.
+use Rattle.std.proofs.Common.{◌≡◌, ℕ, suc, subst, ◌+◌, ◌<◌, ◌*◌, ◌/◌, ◌^◌, List, [], ◌∷◌, ◌++◌, refl, ap, sym, ◌∙◌, arith, append_assoc}
+use Rattle.std.proofs.Math.Nat.{pow-suc}
+use Rattle.std.proofs.lemmas.List.{append-nil}
+use Rattle.sc_definitions.specs.declared.events.Event.{Event}
+use Rattle.sc_definitions.specs.declared.events.Event.TheVariants.{Word, Draw}
+use Rattle.sc_definitions.specs.Ring.{Ops, IsRing}
+use Rattle.sc_definitions.specs.Tables.{evaluation, prefix}
+use Rattle.sc_definitions.specs.Messages.{message_first, message_leading, message_of}
+use Rattle.sc_definitions.specs.Events.{Rules, own_extension, draws, extension_draw}
+use Rattle.sc_definitions.specs.Played.{IsRound, IsPlayed}
+use Rattle.sc_definitions.proofs.PlayedLaws.{IsPlayed-none, IsPlayed-more}
+use Rattle.sc_definitions.specs.Transcript.{Round, round_of, sent, before_draw, round_events, challenge}
+
+-- the message of tables of m + 1 variables
+pub message-halves : (o : Ops) (n v m : ℕ) (f w F W : ℕ → ℕ) (a b : ℕ) → n ≡ 2 ^ v → v ≡ m + 1 → F ≡ f → W ≡ w →
+    a ≡ message_first evaluation prefix o (n / 2) F W → b ≡ message_leading evaluation prefix o (n / 2) F W →
+    a ∷ b ∷ [] ≡ message_of evaluation prefix o (2 ^ m) f w
+message-halves o n v m f w F W a b size more same_f same_w first leading =
+    let twice : 2 ^ (m + 1) ≡ 2 ^ m * 2 = ap (λ k. 2 ^ k) (omega arith) ∙ pow-suc 2 m in
+    let half : n / 2 ≡ 2 ^ m = omega (arith, size ∙ ap (λ k. 2 ^ k) more ∙ twice) in
+    ap (λ c. c ∷ b ∷ []) first ∙ ap (λ c. message_first evaluation prefix o (n / 2) F W ∷ c ∷ []) leading
+    ∙ ap (λ h. message_of evaluation prefix o h F W) half ∙ ap (λ g. message_of evaluation prefix o (2 ^ m) g W) same_f
+    ∙ ap (λ g. message_of evaluation prefix o (2 ^ m) f g) same_w
+
+-- the challenge of a round without a difficulty
+pub challenge-drawn : (R : Rules) (h h₁ h₂ : List Event) (a b : ℕ) → h₁ ≡ h ++ Word a ∷ [] → h₂ ≡ h₁ ++ Word b ∷ [] →
+    R.draw h₂ ≡ challenge R own_extension 0 h (round_of (a ∷ b ∷ []) 0)
+unfolding challenge extension_draw draws before_draw sent
+challenge-drawn R h h₁ h₂ a b first second =
+    ap R.draw (second ∙ ap (λ t. t ++ Word b ∷ []) first ∙ append_assoc h (Word a ∷ []) (Word b ∷ []) ∙ sym (append-nil (h ++ Word a ∷ Word b ∷ [])))
+
+-- the history after it
+pub history-grown : (h h₁ h₂ h₃ : List Event) (a b : ℕ) → h₁ ≡ h ++ Word a ∷ [] → h₂ ≡ h₁ ++ Word b ∷ [] → h₃ ≡ h₂ ++ Draw ∷ [] →
+    h₃ ≡ h ++ round_events own_extension 0 (round_of (a ∷ b ∷ []) 0)
+unfolding round_events before_draw sent
+history-grown h h₁ h₂ h₃ a b first second third =
+    third ∙ ap (λ t. t ++ Draw ∷ []) (second ∙ ap (λ t. t ++ Word b ∷ []) first ∙ append_assoc h (Word a ∷ []) (Word b ∷ []))
+    ∙ append_assoc h (Word a ∷ Word b ∷ []) (Draw ∷ [])
+
+-- no round yet
+pub played-none : (o : Ops) (R : Rules) (n : ℕ) (f w f' w' : ℕ → ℕ) (claim : ℕ) (h h' : List Event) (rounds : List Round) (rs : List ℕ) →
+    rounds ≡ [] → rs ≡ [] → h' ≡ h → ((b : ℕ) → b < 2 ^ n → f' b ≡ f b) → ((b : ℕ) → b < 2 ^ n → w' b ≡ w b) →
+    IsPlayed evaluation prefix o R own_extension 0 n f w claim h rounds rs n f' w' claim h'
+played-none o R n f w f' w' claim h h' rounds rs no_round no_challenge same p q =
+    let none = IsPlayed-none evaluation prefix o R own_extension 0 n f w f' w' claim h p q in
+    let A : List Round → Type 0 = λ t. IsPlayed evaluation prefix o R own_extension 0 n f w claim h t [] n f' w' claim h in
+    let B : List ℕ → Type 0 = λ t. IsPlayed evaluation prefix o R own_extension 0 n f w claim h rounds t n f' w' claim h in
+    let C : List Event → Type 0 = λ t. IsPlayed evaluation prefix o R own_extension 0 n f w claim h rounds rs n f' w' claim t in
+    subst C (sym same) (subst B (sym no_challenge) (subst A (sym no_round) none))
+
+-- one round more
+pub played-more : (o : Ops) → IsRing o → (R R₁ : Rules) (n : ℕ) (f w : ℕ → ℕ) (claim : ℕ) (h : List Event) (rounds rounds' : List Round) (rs rs' : List ℕ) (v m : ℕ)
+    (f₁ w₁ : ℕ → ℕ) (claim₁ : ℕ) (h₁ : List Event) (sent : Round) (r : ℕ) (f₂ w₂ : ℕ → ℕ) (claim₂ : ℕ) (h₂ : List Event) →
+    R₁ ≡ R → v ≡ m + 1 → rounds' ≡ rounds ++ sent ∷ [] → rs' ≡ rs ++ r ∷ [] →
+    IsPlayed evaluation prefix o R own_extension 0 n f w claim h rounds rs v f₁ w₁ claim₁ h₁ →
+    IsRound evaluation prefix o R₁ own_extension 0 m f₁ w₁ claim₁ h₁ sent r f₂ w₂ claim₂ h₂ →
+    IsPlayed evaluation prefix o R own_extension 0 n f w claim h rounds' rs' m f₂ w₂ claim₂ h₂
+played-more o ring R R₁ n f w claim h rounds rounds' rs rs' v m f₁ w₁ claim₁ h₁ sent r f₂ w₂ claim₂ h₂ same_rules fewer more drawn p q =
+    let next : v ≡ suc m = omega arith in
+    let P : ℕ → Type 0 = λ k. IsPlayed evaluation prefix o R own_extension 0 n f w claim h rounds rs k f₁ w₁ claim₁ h₁ in
+    let Q : Rules → Type 0 = λ S. IsRound evaluation prefix o S own_extension 0 m f₁ w₁ claim₁ h₁ sent r f₂ w₂ claim₂ h₂ in
+    let whole = IsPlayed-more evaluation prefix o ring tt R own_extension 0 n f w claim h rounds rs m f₁ w₁ claim₁ h₁ sent r f₂ w₂ claim₂ h₂
+      (subst P next p) (subst Q same_rules q) in
+    let A : List Round → Type 0 = λ t. IsPlayed evaluation prefix o R own_extension 0 n f w claim h t (rs ++ r ∷ []) m f₂ w₂ claim₂ h₂ in
+    let B : List ℕ → Type 0 = λ t. IsPlayed evaluation prefix o R own_extension 0 n f w claim h rounds' t m f₂ w₂ claim₂ h₂ in
+    subst B (sym drawn) (subst A (sym more) whole)

@@ -1,0 +1,8 @@
+pub mod Reply
+pub mod Job
+pub mod Lines
+pub mod Statements
+pub mod Played
+pub mod Report
+pub mod Program
+pub mod Run

@@ -1,0 +1,55 @@
+-- The reply to a command line and an input.
+use Rattle.std.specs.Prelude.{ℕ, List, [], ◌∷◌, length, codes, Bool, true, false, Option, Some, None, bytes_eq, nat_lt, if◌then◌else◌}
+use Rattle.serde_json.specs.Data.{Data}
+use Rattle.sc_forms.specs.Values.{value_of}
+use Rattle.sumcheck_run.specs.Reply.{Reply, refused, usage}
+use Rattle.sumcheck_run.specs.Job.{job_form}
+use Rattle.sumcheck_run.specs.Report.{judge}
+use Rattle.sumcheck_run.specs.declared.job.Job.{Job}
+use Rattle.sumcheck_run.specs.declared.command.Command.{Command}
+use Rattle.sumcheck_run.specs.declared.command.Command.TheVariants.{Audit}
+
+-- the greatest number of bytes of an input
+abbrev pub max_input : ℕ
+max_input = 67108864
+
+unfoldable pub too_long : Reply
+too_long = refused (codes "too-long")
+
+unfoldable pub bad_json : Reply
+bad_json = refused (codes "bad-json")
+
+-- a job of a form that is not built yet
+unfoldable pub unbuilt_job : Reply
+unbuilt_job = refused (codes "unbuilt job")
+
+abbrev pub job_reply : Option Job → Reply
+job_reply None = unbuilt_job
+job_reply (Some job) = judge job
+
+-- what `audit` replies to a value
+abbrev pub audit_reply : Data → Reply
+audit_reply d = job_reply (job_form d)
+
+abbrev pub value_reply : (Data → Reply) → Option Data → Reply
+value_reply reply None = bad_json
+value_reply reply (Some d) = reply d
+
+-- what a command that replies to a value replies to bytes
+abbrev pub json_reply : (Data → Reply) → List ℕ → Reply
+json_reply reply input = if nat_lt max_input (length input) then too_long else value_reply reply (value_of input)
+
+-- the command that the words are
+abbrev pub command_of : List (List ℕ) → Option Command
+command_of [] = None
+command_of (w ∷ []) = if bytes_eq w (codes "audit") then Some Audit else None
+command_of (w ∷ x ∷ more) = None
+
+abbrev pub reads_input : Option Command → Bool
+reads_input None = false
+reads_input (Some Audit) = true
+
+-- what a command and an input are answered
+abbrev pub reply_of : Option Command → List ℕ → Reply
+reply_of None input = usage
+reply_of (Some Audit) input = json_reply audit_reply input

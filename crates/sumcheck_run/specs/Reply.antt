@@ -1,0 +1,22 @@
+-- What a command line and an input are answered: how it ends, and the text that is written.
+use Rattle.std.specs.Prelude.{ℕ, List, ◌++◌, codes}
+use Rattle.sumcheck_run.specs.declared.reply.Outcome.{Outcome}
+use Rattle.sumcheck_run.specs.declared.reply.Outcome.TheVariants.{Holds, Usage, JobRefused}
+
+pub record Reply : Type 0 where
+  pub outcome : Outcome
+  pub text : List ℕ
+
+-- the status that an outcome has
+abbrev pub code_of : Outcome → ℕ
+code_of Holds = 0
+code_of Usage = 2
+code_of JobRefused = 3
+
+-- a refused job, in one line
+unfoldable pub refused : List ℕ → Reply
+refused why = record { outcome = JobRefused; text = codes "refused " ++ why ++ codes "\n" }
+
+-- the answer to words that are no command
+unfoldable pub usage : Reply
+usage = record { outcome = Usage; text = codes "usage\n" }

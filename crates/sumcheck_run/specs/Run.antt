@@ -1,0 +1,31 @@
+-- How a run ends.
+use Rattle.std.specs.Prelude.{◌≡◌, ◌⊎◌, ℕ, ◌<◌, ◌≤◌, ◌+◌, List, [], length, take, Bool, true, false, Option}
+use Rattle.std.specs.Io.KnownBytes.{Consumes, Appends, IsAtEnd}
+use Rattle.sumcheck_run.specs.Reply.{Reply, code_of}
+use Rattle.sumcheck_run.specs.Program.{max_input}
+
+-- The input was read, to its end or to one byte past the limit. A command that reads nothing has the empty input.
+pub record IsRead (reads : Bool) (left left' : Option (List ℕ)) (input : List ℕ) : Type 0 where
+  pub taken : Consumes left left' input
+  pub size : length input ≤ max_input + 1
+  pub whole : reads ≡ true → length input ≤ max_input → IsAtEnd left'
+  pub none : reads ≡ false → input ≡ []
+
+-- Some input was read, and this is the status of the reply to it, with its whole text.
+pub record IsAnswered (reads : Bool) (reply : List ℕ → Reply) (left left' written written' : Option (List ℕ)) (code : ℕ) : Type 0 where
+  pub input : List ℕ
+  pub read : IsRead reads left left' input
+  pub status : code ≡ code_of (reply input).outcome
+  pub text : Appends written written' (reply input).text
+
+-- Some input was read, and a proper prefix of the reply's text is written.
+pub record IsCutShort (reads : Bool) (reply : List ℕ → Reply) (left left' written written' : Option (List ℕ)) : Type 0 where
+  pub input : List ℕ
+  pub read : IsRead reads left left' input
+  pub count : ℕ
+  pub proper : count < length (reply input).text
+  pub text : Appends written written' (take count (reply input).text)
+
+-- This reply's status and whole text, or want of memory.
+abbrev pub WritesReply : Reply → Option (List ℕ) → Option (List ℕ) → ℕ → Type 0
+WritesReply reply written written' code = (code ≡ 8) ⊎ ((code ≡ code_of reply.outcome) × Appends written written' reply.text)

@@ -1,0 +1,25 @@
+//! From bytes to bytes: the command line, the job that an input describes, its report, and `run`.
+//!
+//! The reply to a command and an input is one function of the definitions, `reply_of` in `specs/Program.antt`; `run` reads,
+//! answers and writes, and its contract speaks of that function alone.
+#![tactic(auto)]
+
+mod command;
+mod elements;
+mod job;
+mod lines;
+mod program;
+mod reply;
+mod report;
+mod rounds;
+mod statements;
+
+pub use command::{Command, needs_input, read_command};
+pub use job::{EqualityClaim, Job, JobForm, Script};
+pub use program::{Status, run};
+pub use reply::{Answer, Outcome};
+pub use report::judge_job;
+pub use sc_streams::{Failed, MemSink, MemSource, PlainSource, Sink, Source, StdSink, StdSource};
+
+#[cfg(test)]
+mod tests;

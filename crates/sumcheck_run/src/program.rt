@@ -1,0 +1,142 @@
+//! From bytes to bytes.
+ghost use Rattle.std.specs.Prelude.{◌≡◌, ◌⊎◌, ◌<◌, ◌≤◌, ◌+◌, List, ℕ, Some, None, false, map, string_bytes, IfOk, IsOk, IsErrOf};
+ghost use Rattle.sc_streams.specs.Faults.{HasRisen};
+ghost use Rattle.sumcheck_run.specs.Program.{audit_reply, bad_json, command_of, job_reply, json_reply, max_input, reads_input, reply_of, too_long, unbuilt_job};
+ghost use Rattle.sumcheck_run.specs.Reply.{code_of};
+ghost use Rattle.sumcheck_run.specs.Run.{IsAnswered, IsCutShort, IsRead, WritesReply};
+
+use crate::command::{Command, needs_input, read_command};
+use crate::job::JobForm;
+use crate::reply::Answer;
+use crate::report::judge_job;
+use sc_field::NoMemory;
+use sc_forms::{Form, Misread, NoValue, read_value};
+use sc_streams::{ReadFault, Sink, Source, read_all, write_all};
+use std::alloc::Global;
+
+// The greatest number of bytes of an input.
+const MAX_INPUT: usize = 67_108_864;
+
+/// The status that the program ends with.
+#[derive(Clone, Copy, Debug, PartialEq, Eq)]
+pub struct Status {
+    /// 0 a report that holds; 2 usage; 3 a refused job; 6 a read fault; 7 a write fault; 8 want of memory.
+    pub code: u8,
+}
+
+// What `audit` replies to an input. The parsed value is given up before the job is judged.
+#[tactic(auto, unfolding(crate::specs::Program::too_long, crate::specs::Program::bad_json, crate::specs::Program::unbuilt_job))]
+fn audit(alloc: Global, input: Vec<u8>) -> Result<Answer, NoMemory>
+    ensures { IfOk result (λ a. a ≡ json_reply audit_reply input.items) }
+{
+    if input.len() > MAX_INPUT {
+        return Answer::refused(alloc, "too-long");
+    }
+    let value = match read_value(alloc, &input) {
+        Ok(value) => value,
+        Err(NoValue::Bad) => return Answer::refused(alloc, "bad-json"),
+        Err(NoValue::NoMemory) => return Err(NoMemory),
+    };
+    drop(input);
+    let job = JobForm.read(alloc, &value);
+    drop(value);
+    match job {
+        Ok(job) => judge_job(alloc, job),
+        Err(Misread::NotOfForm) => Answer::refused(alloc, "unbuilt job"),
+        Err(Misread::NoMemory) => Err(NoMemory),
+    }
+}
+
+fn answer(alloc: Global, command: Option<Command>, input: Vec<u8>) -> Result<Answer, NoMemory>
+    ensures { IfOk result (λ a. a ≡ reply_of command input.items) }
+{
+    match command {
+        None => Answer::usage(alloc),
+        Some(Command::Audit) => audit(alloc, input),
+    }
+}
+
+// The input of a command, which is empty where it reads none.
+fn read_input<S: Source>(alloc: Global, reads: bool, source: &mut S) -> Result<Vec<u8>, ReadFault>
+    ensures read { IfOk result (λ v. IsRead reads (S.left source.old) (S.left source.new) v.items) }
+    ensures untouched { reads ≡ false → source.new ≡ source.old }
+    ensures unread { reads ≡ false → IsOk result }
+    ensures given { S.given source.new ≤ S.given source.old + (max_input + 1) }
+    ensures dry { S.dry source.new ≤ S.dry source.old + 1 }
+    ensures failed { IsErrOf result ReadFault.Failed
+        → HasRisen (S.faults source.old) (S.faults source.new) }
+    ensures quiet { (IsErrOf result ReadFault.Failed → ⊥)
+        → S.faults source.new ≡ S.faults source.old }
+{
+    if !reads {
+        return Ok(Vec::new(alloc));
+    }
+    read_all(alloc, source, MAX_INPUT)
+}
+
+/// Answers a command line: reads the input, and writes the reply to it and nothing else.
+///
+/// `words` are the arguments after the program's name.
+pub fn run<S: Source, K: Sink>(
+    alloc: Global,
+    words: &[String],
+    source: &mut S,
+    sink: &mut K,
+) -> Status
+    // Statuses 0 to 5: the status and the whole text of the reply to the input.
+    ensures answered { result.code ≤ 5 → let command = command_of (map string_bytes words.now) in
+        IsAnswered (reads_input command) (reply_of command) (S.left source.old) (S.left source.new)
+        (K.taken sink.old) (K.taken sink.new) result.code }
+
+    // Status 7: a proper prefix of it.
+    ensures cut_short { result.code ≡ 7 → let command = command_of (map string_bytes words.now) in
+        IsCutShort (reads_input command) (reply_of command) (S.left source.old) (S.left source.new)
+        (K.taken sink.old) (K.taken sink.new) }
+
+    // Statuses 6 and 8: nothing is written.
+    ensures silent { (result.code ≡ 6) ⊎ (result.code ≡ 8) → sink.new ≡ sink.old }
+    ensures no_other { result.code ≤ 8 }
+
+    // A command that reads nothing leaves the source as it was.
+    ensures untouched { reads_input (command_of (map string_bytes words.now)) ≡ false
+        → source.new ≡ source.old }
+
+    // Usage exactly where the words are no command, write faults and want of memory aside.
+    ensures usage { result.code ≡ 2 → command_of (map string_bytes words.now) ≡ None }
+    ensures no_command { command_of (map string_bytes words.now) ≡ None
+        → (result.code ≡ 2) ⊎ (result.code ≡ 7) ⊎ (result.code ≡ 8) }
+
+    // Where the source tells its bytes and neither has a fault: the reply to all of them, memory aside.
+    ensures headline { (input : List ℕ) → S.left source.old ≡ Some input
+        → ¬ HasRisen (S.faults source.old) (S.faults source.new)
+        → ¬ HasRisen (K.faults sink.old) (K.faults sink.new)
+        → WritesReply (reply_of (command_of (map string_bytes words.now)) input)
+        (K.taken sink.old) (K.taken sink.new) result.code }
+
+    // It reads at most one byte past the limit, and at most one read gives no byte.
+    ensures given { S.given source.new ≤ S.given source.old + (max_input + 1) }
+    ensures dry { S.dry source.new ≤ S.dry source.old + 1 }
+
+    // A fault is told only where the count rose, and a count that rose is told.
+    ensures read_fault { result.code ≡ 6 → HasRisen (S.faults source.old) (S.faults source.new) }
+    ensures write_fault { result.code ≡ 7 → HasRisen (K.faults sink.old) (K.faults sink.new) }
+    ensures read_told { S.faults source.old < S.faults source.new
+        → (result.code ≡ 6) ⊎ (result.code ≡ 8) }
+    ensures write_told { K.faults sink.old < K.faults sink.new → result.code ≡ 7 }
+{
+    let command = read_command(words);
+    let input = match read_input(alloc, needs_input(command), source) {
+        Ok(input) => input,
+        Err(ReadFault::Failed) => return Status { code: 6 },
+        Err(ReadFault::NoMemory) => return Status { code: 8 },
+    };
+    let Ok(answer) = answer(alloc, command, input) else {
+        return Status { code: 8 };
+    };
+    match write_all(sink, answer.text()) {
+        Ok(()) => Status {
+            code: answer.outcome().code(),
+        },
+        Err(_) => Status { code: 7 },
+    }
+}
