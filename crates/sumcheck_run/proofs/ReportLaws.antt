@@ -1,5 +1,5 @@
 -- The answer to a job, from what was played on its tables.
-use Rattle.std.proofs.Common.{◌≡◌, ℕ, zero, suc, ◌+◌, ◌^◌, ◌<◌, List, [], ◌∷◌, ◌++◌, slice_index, length, map, Option, Some, None, refl, ap, sym, ◌∙◌, subst, arith}
+use Rattle.std.proofs.Common.{◌≡◌, ℕ, zero, suc, ◌+◌, ◌^◌, ◌<◌, List, [], ◌∷◌, ◌++◌, slice_index, length, All, map, Option, Some, None, refl, ap, sym, ◌∙◌, subst, arith}
 use Rattle.sc_definitions.specs.declared.events.Event.{Event}
 use Rattle.sc_definitions.specs.declared.false_claim.FalseClaim.{FalseClaim}
 use Rattle.sc_definitions.specs.Ring.{Ops, IsRing}
@@ -17,6 +17,7 @@ use Rattle.sc_field.specs.ResiduesLaws.{residues_field}
 use Rattle.sc_definitions.proofs.PlayedLaws.{value-played}
 use Rattle.sumcheck_run.specs.declared.reply.Outcome.TheVariants.{Holds}
 use Rattle.sumcheck_run.specs.declared.job.Job.{Job}
+use Rattle.sumcheck_run.specs.declared.statements.EqualityStatement.{EqualityStatement}
 use Rattle.sumcheck_run.specs.Reply.{Reply, refused}
 use Rattle.sumcheck_run.specs.Lines.{claim_line, round_lines, residual_line, eval_line, weight_line, holds_line, false_claim_text}
 use Rattle.sumcheck_run.specs.Report.{field, statement_of, prefix_problem, problem_of, rules_of, rounds_of, challenges_of, report_of, build_report, judged, judge, IsMatched}
@@ -99,6 +100,21 @@ module _ (o : Ops) (ring : IsRing o) (R : Rules) (h : List Event) (n : ℕ) (f :
       ∙ ap (report_of o q (rounds_of o R h q)) drawn
 
 -- ---- the answer
+
+-- the points of the statements behind a slice have as many coordinates as the table has variables
+pub arity-as : {F : Type 0} (ss slice : List (EqualityStatement F)) (n v : ℕ) → slice ≡ ss → n ≡ v → All (λ s. length s.point ≡ v) ss → All (λ s. length s.point ≡ n) slice
+arity-as {F = F} ss slice n v same size all =
+    let P : ℕ → Type 0 = λ k. All (λ s. length s.point ≡ k) ss in
+    let Q : List (EqualityStatement F) → Type 0 = λ t. All (λ s. length s.point ≡ n) t in
+    subst Q (sym same) (subst P (sym size) all)
+
+-- what was found false is what the job's reply says
+pub found-as : (job : Job) (n : ℕ) (f : ℕ → ℕ) (ss : List Statement) (found : Option FalseClaim) →
+    n ≡ job.variables → f ≡ rows_of job.table → ss ≡ map statement_of job.claims → found ≡ first_false_claim field n f 0 ss →
+    first_false_claim field job.variables (rows_of job.table) 0 (map statement_of job.claims) ≡ found
+found-as job n f ss found size table statements is =
+    sym (is ∙ ap (λ k. first_false_claim field k f 0 ss) size ∙ ap (λ t. first_false_claim field job.variables t 0 ss) table
+      ∙ ap (first_false_claim field job.variables (rows_of job.table) 0) statements)
 
 pub judge-false : (job : Job) (fault : FalseClaim) → first_false_claim field job.variables (rows_of job.table) 0 (map statement_of job.claims) ≡ Some fault →
     judge job ≡ refused (false_claim_text fault)

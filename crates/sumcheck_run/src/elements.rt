@@ -1,8 +1,10 @@
 //! Numbers as elements of a field.
-ghost use Rattle.std.specs.Prelude.{◌≡◌, ◌<◌, All, IfOk, map};
+ghost use Rattle.std.specs.Prelude.{◌≡◌, ◌<◌, ◌^◌, All, IfOk, length, map};
+ghost use Rattle.sc_definitions.specs.Tables.{rows_of};
+ghost use Rattle.sc_table.specs.Polys.{variables_of, table_of};
 
 use sc_field::{Field, NoMemory};
-use sc_table::Row;
+use sc_table::{Poly, Row};
 use std::alloc::Global;
 
 /// The elements with these numbers, which are below the field's size.
@@ -30,4 +32,18 @@ pub(crate) fn element_lists<F: Field>(
         found.push(elements(alloc, list.as_slice())?)?;
     }
     Ok(found)
+}
+
+/// The table of 2^variables elements with these numbers.
+pub(crate) fn table<F: Field>(
+    alloc: Global,
+    numbers: &[u64],
+    variables: usize,
+) -> Result<Poly<F>, NoMemory>
+    requires fits { All (λ n. n < F.ops.size) numbers.now }
+    requires rows { length numbers.now ≡ 2 ^ variables }
+    ensures variables { IfOk result (λ p. variables_of p ≡ variables) }
+    ensures table { IfOk result (λ p. table_of F.number p ≡ rows_of numbers.now) }
+{
+    Ok(Poly::new(elements(alloc, numbers)?))
 }

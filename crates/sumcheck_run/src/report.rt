@@ -9,7 +9,7 @@ ghost use Rattle.sumcheck_run.specs.Reply.{refused};
 ghost use Rattle.sumcheck_run.specs.Report.{IsMatched, build_report, judge, prefix_problem};
 ghost use Rattle.sumcheck_run.specs.Statements.{shown_of};
 
-use crate::elements::{element_lists, elements};
+use crate::elements;
 use crate::job::{Job, Script};
 use crate::lines;
 use crate::reply::{Answer, Outcome};
@@ -36,8 +36,9 @@ pub fn judge_job(alloc: Global, job: Job) -> Result<Answer, NoMemory>
         claims,
         batching,
     } = job;
-    let statements = statements_of::<F65537>(alloc, claims.as_slice(), variables as usize)?;
-    let evals: Poly<F65537> = Poly::new(elements(alloc, table.as_slice())?);
+    let variables = variables as usize;
+    let statements = statements_of::<F65537>(alloc, claims.as_slice(), variables)?;
+    let evals = elements::table::<F65537>(alloc, table.as_slice(), variables)?;
     drop(table);
     match first_false(&evals, &statements) {
         Some(fault) => refuse_claim(alloc, fault),
@@ -57,8 +58,8 @@ fn challenger_of(alloc: Global, script: Script) -> Result<ScriptedChallenger<F65
     ensures rules { IfOk result (λ c. ⟦<ScriptedChallenger<F65537> as Challenger<F65537>>⟧.rules c
         ≡ scripted_rules script.draws script.witnesses) }
 {
-    let draws = elements(alloc, script.draws.as_slice())?;
-    let good = element_lists(alloc, script.witnesses.as_slice())?;
+    let draws = elements::elements(alloc, script.draws.as_slice())?;
+    let good = elements::element_lists(alloc, script.witnesses.as_slice())?;
     Ok(ScriptedChallenger::new(alloc, draws, good))
 }
 
