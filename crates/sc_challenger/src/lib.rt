@@ -7,4 +7,5 @@ mod scripted;
 mod tests;
 
 pub use challenger::Challenger;
+pub use sc_definitions::Event;
 pub use scripted::ScriptedChallenger;

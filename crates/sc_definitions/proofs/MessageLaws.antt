@@ -50,12 +50,12 @@ module _ (o : Ops) (ring : IsRing o) where
       identity o ring (r ∷ []) O (O ⊕ R ⊗ (((((O ⊕ O) ⊖ O) ⊖ O) ⊖ O) ⊕ R ⊗ (O ⊕ R ⊗ O))) tt tt refl
   lines-sum (suc n) f0 f1 w0 w1 r =
       let A = atom 0 in let B = atom 1 in let Q = atom 2 in
-      let F0 = atom 3 in let F1 = atom 4 in let W0 = atom 5 in let W1 = atom 6 in let R = atom 7 in
+      let F0 = atom 3 in let F1 = atom 4 in let G0 = atom 5 in let G1 = atom 6 in let R = atom 7 in
       let a = sum_below o n (λ b. times o (f0 b) (w0 b)) in
       let b = sum_below o n (λ b. times o (f1 b) (w1 b)) in
       let q = sum_below o n (λ b. times o (minus o (f1 b) (f0 b)) (minus o (w1 b) (w0 b))) in
-      let line = (F0 ⊕ (F1 ⊖ F0) ⊗ R) ⊗ (W0 ⊕ (W1 ⊖ W0) ⊗ R) in
-      let A' = A ⊕ F0 ⊗ W0 in let B' = B ⊕ F1 ⊗ W1 in let Q' = Q ⊕ (F1 ⊖ F0) ⊗ (W1 ⊖ W0) in
+      let line = (F0 ⊕ (F1 ⊖ F0) ⊗ R) ⊗ (G0 ⊕ (G1 ⊖ G0) ⊗ R) in
+      let A' = A ⊕ F0 ⊗ G0 in let B' = B ⊕ F1 ⊗ G1 in let Q' = Q ⊕ (F1 ⊖ F0) ⊗ (G1 ⊖ G0) in
       let term = times o (plus o (f0 n) (times o (minus o (f1 n) (f0 n)) r)) (plus o (w0 n) (times o (minus o (w1 n) (w0 n)) r)) in
       ap (λ s. plus o s term) (lines-sum n f0 f1 w0 w1 r)
       ∙ identity o ring (a ∷ b ∷ q ∷ f0 n ∷ f1 n ∷ w0 n ∷ w1 n ∷ r ∷ [])
@@ -75,12 +75,12 @@ module _ (o : Ops) (ring : IsRing o) where
       identity o ring (r ∷ []) O (((O ⊕ O) ⊖ O) ⊕ R ⊗ ((O ⊖ (O ⊕ O)) ⊕ R ⊗ (O ⊕ R ⊗ O))) tt tt refl
   coefficients-sum (suc n) f0 f1 w0 w1 r =
       let A = atom 0 in let B = atom 1 in let C = atom 2 in
-      let F0 = atom 3 in let F1 = atom 4 in let W0 = atom 5 in let W1 = atom 6 in let R = atom 7 in
+      let F0 = atom 3 in let F1 = atom 4 in let G0 = atom 5 in let G1 = atom 6 in let R = atom 7 in
       let a = sum_below o n (λ b. times o (f0 b) (w0 b)) in
       let b = sum_below o n (λ b. times o (f1 b) (w1 b)) in
       let c = sum_below o n (λ b. times o (plus o (f0 b) (f1 b)) (plus o (w0 b) (w1 b))) in
-      let line = (F0 ⊕ F1 ⊗ R) ⊗ (W0 ⊕ W1 ⊗ R) in
-      let A' = A ⊕ F0 ⊗ W0 in let B' = B ⊕ F1 ⊗ W1 in let C' = C ⊕ (F0 ⊕ F1) ⊗ (W0 ⊕ W1) in
+      let line = (F0 ⊕ F1 ⊗ R) ⊗ (G0 ⊕ G1 ⊗ R) in
+      let A' = A ⊕ F0 ⊗ G0 in let B' = B ⊕ F1 ⊗ G1 in let C' = C ⊕ (F0 ⊕ F1) ⊗ (G0 ⊕ G1) in
       let term = times o (plus o (f0 n) (times o (f1 n) r)) (plus o (w0 n) (times o (w1 n) r)) in
       ap (λ s. plus o s term) (coefficients-sum n f0 f1 w0 w1 r)
       ∙ identity o ring (a ∷ b ∷ c ∷ f0 n ∷ f1 n ∷ w0 n ∷ w1 n ∷ r ∷ [])

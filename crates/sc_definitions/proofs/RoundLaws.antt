@@ -38,12 +38,12 @@ module _ (o : Ops) (ring : IsRing o) where
   sums_at_one zero f0 f1 w0 w1 = identity o ring [] ((nought ⊕ (nought ⊕ nought)) ⊕ nought) nought tt tt refl
   sums_at_one (suc n) f0 f1 w0 w1 =
       let A = atom 0 in let B = atom 1 in let C = atom 2 in let D = atom 3 in
-      let F0 = atom 4 in let F1 = atom 5 in let W0 = atom 6 in let W1 = atom 7 in
+      let F0 = atom 4 in let F1 = atom 5 in let G0 = atom 6 in let G1 = atom 7 in
       let last = times o (plus o (f0 n) (f1 n)) (plus o (w0 n) (w1 n)) in
       identity o ring (sum_below o n (λ b. times o (f0 b) (w0 b)) ∷ sum_below o n (λ b. times o (f0 b) (w1 b))
       ∷ sum_below o n (λ b. times o (f1 b) (w0 b)) ∷ sum_below o n (λ b. times o (f1 b) (w1 b)) ∷ f0 n ∷ f1 n ∷ w0 n ∷ w1 n ∷ [])
-      (((A ⊕ F0 ⊗ W0) ⊕ ((B ⊕ F0 ⊗ W1) ⊕ (C ⊕ F1 ⊗ W0))) ⊕ (D ⊕ F1 ⊗ W1))
-      (((A ⊕ (B ⊕ C)) ⊕ D) ⊕ (F0 ⊕ F1) ⊗ (W0 ⊕ W1)) tt tt refl
+      (((A ⊕ F0 ⊗ G0) ⊕ ((B ⊕ F0 ⊗ G1) ⊕ (C ⊕ F1 ⊗ G0))) ⊕ (D ⊕ F1 ⊗ G1))
+      (((A ⊕ (B ⊕ C)) ⊕ D) ⊕ (F0 ⊕ F1) ⊗ (G0 ⊕ G1)) tt tt refl
       ∙ ap (λ s. plus o s last) (sums_at_one n f0 f1 w0 w1)
 
   -- the first value of the slow round polynomial's message, and its leading coefficient, from the bound tables

@@ -3,15 +3,27 @@ use Rattle.std.proofs.Common.{◌≡◌, ℕ, suc, ◌+◌, ◌-◌, ◌*◌, �
 use Rattle.std.proofs.lemmas.List.{take_all, length-map, take_rest}
 use Rattle.std.proofs.Math.Nat.{pow-suc}
 use Rattle.sc_definitions.specs.Ring.{Ops, IsRing, element, plus, times, minus}
-use Rattle.sc_definitions.specs.Tables.{value}
-use Rattle.sc_definitions.proofs.TableLaws.{value-line, value-none}
-use Rattle.sc_definitions.specs.Tables.{entries}
+use Rattle.sc_definitions.specs.Tables.{entries, value, bound}
+use Rattle.sc_definitions.proofs.RingLaws.{element-plus}
+use Rattle.sc_definitions.proofs.TableLaws.{value-bound, value-line, value-none}
 use Rattle.sc_table.proofs.EntryLaws.{entry-take, entry-drop}
 
 module _ (o : Ops) (ring : IsRing o) where
   pub value-at_none : {E : Type 0} (number : E → ℕ) (f : ℕ → ℕ) (zs : List E) → length zs < 1 → value o f (map number zs) ≡ element o (f 0)
   value-at_none number f [] h = value-none o ring f
   value-at_none number f (z ∷ zs) h = absurd (omega arith)
+
+  -- the line through the two values
+  pub value-at_one : {E : Type 0} (number : E → ℕ) (f : ℕ → ℕ) (zs : List E) (z : E) → length zs ≡ 1 → z ≡ get_or zs 0 z →
+      value o f (map number zs) ≡ plus o (f 0) (times o (minus o (f 1) (f 0)) (number z))
+  unfolding bound
+  value-at_one number f [] z size at = absurd (omega (arith, size))
+  value-at_one number f (y ∷ []) z size at =
+      value-bound o ring f (number y) []
+      ∙ value-none o ring (bound o 1 (number y) f)
+      ∙ element-plus o ring (f 0) (times o (minus o (f 1) (f 0)) (number y))
+      ∙ ap (λ k. plus o (f 0) (times o (minus o (f 1) (f 0)) (number k))) (sym at)
+  value-at_one number f (x ∷ (y ∷ ys)) z size at = absurd (omega (arith, size))
 
   pub value-at_more : {A E : Type 0} (na : A → ℕ) (ne : E → ℕ) (xs : List A) (zs : List E) (z : E) → 1 ≤ length zs → z ≡ get_or zs 0 z → length xs ≡ 2 ^ length zs →
       (low high : ℕ) →

@@ -1,12 +1,12 @@
--- Equality weights by doubling, and the equality weight of two points from the first coordinate on.
-use Rattle.std.proofs.Common.{◌≡◌, ◌≢◌, ℕ, suc, ◌+◌, ◌-◌, ◌^◌, ◌<◌, ◌≤◌, List, [], ◌∷◌, ◌++◌, length, set, map, sym, ◌∙◌, ap, refl, subst, arith, ◌⊎◌, ⊎_elim, length-append, append_assoc}
+-- Equality weights by doubling, the last coordinate first.
+use Rattle.std.proofs.Common.{◌≡◌, ◌≢◌, ℕ, suc, ◌+◌, ◌-◌, ◌^◌, ◌<◌, ◌≤◌, List, [], ◌∷◌, ◌++◌, length, set, map, sym, ◌∙◌, ap, refl, subst, arith, ⊎_elim, length-append, append_assoc}
 use Rattle.std.proofs.lemmas.Bool.{cases_lt}
 use Rattle.std.proofs.lemmas.List.{length-map, append-nil}
 use Rattle.std.proofs.Math.Pow.{pow_mono}
 use lib.ListN.{length-set}
-use Rattle.sc_definitions.specs.Ring.{Ops, IsRing, element, plus, times, minus}
-use Rattle.sc_definitions.specs.Tables.{entries, weight, eq_product}
-use Rattle.sc_definitions.proofs.RingLaws.{element-one, element-times, times-one, times_comm, times_assoc}
+use Rattle.sc_definitions.specs.Ring.{Ops, IsRing, element, times, minus}
+use Rattle.sc_definitions.specs.Tables.{entries, weight}
+use Rattle.sc_definitions.proofs.RingLaws.{times-one}
 use Rattle.sc_definitions.proofs.Identity.{atom, unit, ◌⊗◌, ◌⊖◌, Agree, identity}
 use Rattle.sc_definitions.proofs.TableLaws.{two_halves, weight-low, weight-high}
 use Rattle.sc_table.proofs.EntryLaws.{entry-set_same, entry-set_other, entry-append_left, entry-append_last}
@@ -20,14 +20,7 @@ pub record IsSplitSoFar {X : Type 0} (number : X → ℕ) (o : Ops) (z i : ℕ) 
   pub high : (b : ℕ) → b < i → entries number new (length old + b) ≡ times o (entries number old b) z
 
 module _ {X : Type 0} (number : X → ℕ) (o : Ops) (z : ℕ) (old : List X) where
-  pub split-none : IsSplitSoFar number o z 0 old old
-  split-none = record {
-    size = omega arith;
-    low = λ b h. absurd (omega (arith, h));
-    left = λ b _ _. refl;
-    high = λ b h. absurd (omega (arith, h));
-  }
-
+  -- the next entry is split: y is what is left of it, and h what is taken
   pub split-more : (i : ℕ) (new : List X) (y h : X) → i < length old → IsSplitSoFar number o z i old new →
       number h ≡ times o (entries number new i) z → number y ≡ minus o (entries number new i) (number h) →
       IsSplitSoFar number o z (i + 1) old (set new i y ++ h ∷ [])
@@ -152,37 +145,3 @@ module _ {X : Type 0} (number : X → ℕ) (o : Ops) (scale : ℕ) (all : List X
         subst (λ l. (b : ℕ) → b < 2 ^ length l → entries number items b ≡ times o scale (weight o (map number l) b)) same so_far.weights,
       )
   weighted-all (x ∷ rest) items none so_far = absurd (omega (arith, none))
-
--- ---- the equality weight of two points
-
-module _ (o : Ops) (ring : IsRing o) where
-  pub element-eq_product : (zs xs : List ℕ) → element o (eq_product o zs xs) ≡ eq_product o zs xs
-  unfolding eq_product
-  element-eq_product [] xs = element-one o ring
-  element-eq_product (z ∷ zs) [] = element-one o ring
-  element-eq_product (z ∷ zs) (x ∷ xs) = element-times o ring (plus o (times o z x) (times o (minus o 1 z) (minus o 1 x))) (eq_product o zs xs)
-
-  -- the product before the first pair is one
-  pub eq_product-init : (p : ℕ) (zs xs : List ℕ) → p ≡ 1 → times o p (eq_product o zs xs) ≡ eq_product o zs xs
-  eq_product-init p zs xs one =
-      ap (λ k. times o k (eq_product o zs xs)) one
-      ∙ times_comm o ring 1 (eq_product o zs xs) ∙ times-one o ring (eq_product o zs xs) ∙ element-eq_product zs xs
-
-  -- one pair more
-  pub eq_product-more : (p z x : ℕ) (zs xs : List ℕ) →
-      times o (times o p (plus o (times o z x) (times o (minus o 1 z) (minus o 1 x)))) (eq_product o zs xs)
-      ≡ times o p (eq_product o (z ∷ zs) (x ∷ xs))
-  unfolding eq_product
-  eq_product-more p z x zs xs =
-      times_assoc o ring p (plus o (times o z x) (times o (minus o 1 z) (minus o 1 x))) (eq_product o zs xs)
-
-  -- no pair is left
-  pub eq_product-none : {X : Type 0} (p : ℕ) (number : X → ℕ) (zs xs : List X) → (zs ≡ []) ⊎ (xs ≡ []) →
-      times o p (eq_product o (map number zs) (map number xs)) ≡ element o p
-  unfolding eq_product
-  eq_product-none p number [] xs none = times-one o ring p
-  eq_product-none p number (z ∷ zs) [] none = times-one o ring p
-  eq_product-none p number (z ∷ zs) (x ∷ xs) none =
-      absurd (⊎_elim
-      (λ e. let size : length (z ∷ zs) ≡ 0 = ap length e in omega (arith, size))
-      (λ e. let size : length (x ∷ xs) ≡ 0 = ap length e in omega (arith, size)) none)

@@ -9,6 +9,8 @@ mod point;
 mod poly;
 mod row;
 mod strategy;
+#[cfg(test)]
+mod tests;
 
 pub use lagrange::extrapolate_01inf;
 pub use point::Point;

@@ -31,7 +31,8 @@ impl<A: Field> Poly<A> {
         Poly { evals, variables }
     }
 
-    /// The table of `n` variables, at most 40, with zero in each row.
+    /// The table of `n` variables, at most 40, with zero in each row; `NoMemory` where there is no
+    /// memory for its 2^n values.
     pub fn zero(alloc: Global, n: usize) -> Result<Self, NoMemory>
         requires { n ≤ 40 }
         ensures variables { IfOk result (λ p. variables_of p ≡ n) }
@@ -48,7 +49,8 @@ impl<A: Field> Poly<A> {
     /// The table of `scale` times the equality weights of the point `z`, of at most 40 coordinates.
     ///
     /// It takes time linear in the table's length: each coordinate, the last one first, doubles the
-    /// table that the coordinates behind it make.
+    /// table that the coordinates behind it make. Memory is taken once, for the whole table, and
+    /// `NoMemory` says that there is not as much.
     pub fn new_from_point(alloc: Global, z: &[A], scale: A) -> Result<Self, NoMemory>
         requires { length z.now ≤ 40 }
         ensures variables { IfOk result (λ p. variables_of p ≡ length z.now) }
@@ -99,7 +101,7 @@ impl<A: Field> Poly<A> {
         self.evals.as_mut_slice()
     }
 
-    /// The same table, in memory of its own.
+    /// The same table, in memory of its own; `NoMemory` where there is none.
     pub fn copy(&self, alloc: Global) -> Result<Self, NoMemory>
         ensures variables { IfOk result (λ p. variables_of p ≡ variables_of self.now) }
         ensures table { IfOk result (λ p. table_of A.number p ≡ table_of A.number self.now) }
@@ -180,6 +182,12 @@ fn eval_slice<A: Field, E: Algebra<A>>(evals: &[A], z: &[E]) -> E
 {
     match z {
         [] => E::embed(evals[0]),
+
+        // The line through two values, whose slope is an element of A.
+        [only] => {
+            let (lo, hi) = (evals[0], evals[1]);
+            E::embed(lo).add(only.mul_base(hi.sub(lo)))
+        }
         [first, rest @ ..] => {
             let half = evals.len() / 2;
             let lo = eval_slice(&evals[..half], rest);

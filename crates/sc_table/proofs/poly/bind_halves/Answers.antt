@@ -1,5 +1,6 @@
 use Rattle.std.proofs.Common.{◌+◌, ◌<◌, length, arith}
-use Rattle.sc_table.proofs.EntryLaws.{entry-read, bound-more}
+use Rattle.sc_definitions.proofs.LoopLaws.{entry-read}
+use Rattle.sc_table.proofs.FoldLaws.{bound-more}
 use Rattle.sc_table.proofs.poly.bind_halves.Goals as goal
 
 pub loop-b-preserved : goal.loop-b-preserved

@@ -1,4 +1,4 @@
-use Rattle.sc_table.proofs.EntryLaws.{IsBoundSoFar}
+use Rattle.sc_table.proofs.FoldLaws.{IsBoundSoFar}
 use Rattle.sc_table.proofs.poly.bind_halves.Given as goal
 
 abbrev pub invariant-loop-b : goal.invariant-loop-b

@@ -3,7 +3,7 @@ use Rattle.std.proofs.lemmas.Slice.Zip.{Zip-more, either_empty_from_Zip}
 use Rattle.sc_definitions.specs.Ring.{plus, times, minus}
 use Rattle.sc_definitions.specs.Tables.{eq_product}
 use Rattle.sc_definitions.proofs.RingLaws.{element-small}
-use Rattle.sc_table.proofs.WeightLaws.{eq_product-init, eq_product-more, eq_product-none}
+use Rattle.sc_table.proofs.PointLaws.{eq_product-init, eq_product-more, eq_product-none}
 use Rattle.sc_table.proofs.point.Point.eval_eq.Goals as goal
 
 pub loop-z_i-init : goal.loop-z_i-init

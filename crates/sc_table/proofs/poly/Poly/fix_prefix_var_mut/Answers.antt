@@ -2,7 +2,8 @@ use Rattle.std.proofs.Common.{◌≡◌, length, ◌/◌, ◌^◌, ◌<◌, ◌�
 use Rattle.sc_definitions.specs.Tables.{bound}
 use Rattle.sc_definitions.specs.Tables.{entries}
 use Rattle.sc_definitions.proofs.TableLaws.{value-bound, value-same}
-use Rattle.sc_table.proofs.EntryLaws.{entry-kept, half_of_power}
+use Rattle.sc_table.proofs.EntryLaws.{entry-kept}
+use Rattle.sc_table.proofs.PowerLaws.{half_of_power}
 use Rattle.sc_table.proofs.poly.Poly.fix_prefix_var_mut.Goals as goal
 
 pub returns-clause-bound : goal.returns-clause-bound

@@ -1,5 +1,5 @@
 use Rattle.std.proofs.Common.{◌≡◌, ◌∙◌, length, sym}
-use Rattle.sc_table.proofs.EntryLaws.{variables_of_length}
+use Rattle.sc_table.proofs.PowerLaws.{variables_of_length}
 use Rattle.sc_table.proofs.poly.Poly.new.Goals as goal
 
 pub invariant_of-result : goal.invariant_of-result

@@ -1,0 +1,35 @@
+-- Lengths that are powers of two.
+use Rattle.std.proofs.Common.{◌≡◌, ℕ, zero, suc, ◌-◌, ◌*◌, ◌/◌, ◌%◌, ◌^◌, ◌<◌, ◌≤◌, sym, ◌∙◌, ap, refl, arith, ⊎_elim}
+use Rattle.std.proofs.lemmas.Bool.{cases_lt}
+use Rattle.std.proofs.Math.Nat.{pow-suc}
+use Rattle.std.proofs.Math.Pow.{pow_mono}
+use lib.Count.{count_trailing_zeros, under}
+
+-- half of one is that of one variable less
+pub half_of_power : (n v : ℕ) → 0 < v → n ≡ 2 ^ v → 2 ^ (v - 1) ≡ n / 2
+half_of_power n zero pos is = absurd (omega arith)
+half_of_power n (suc v) pos is =
+    let low : suc v - 1 ≡ v = omega arith in
+    let twice : n ≡ 2 ^ v * 2 = is ∙ pow-suc 2 v in
+    ap (λ k. 2 ^ k) low ∙ omega arith
+
+-- the zeros at the end of a power's digits are as many as its exponent says
+pub zeros-power : (k n : ℕ) → n < k → count_trailing_zeros k (2 ^ n) ≡ n
+unfolding count_trailing_zeros
+zeros-power zero n low = absurd (omega arith)
+zeros-power (suc k) zero low = refl
+zeros-power (suc k) (suc n) low =
+    let twice : 2 ^ suc n ≡ 2 ^ n * 2 = pow-suc 2 n in
+    let even : 2 ^ suc n % 2 ≡ 0 = omega arith in
+    let half : 2 ^ suc n / 2 ≡ 2 ^ n = omega arith in
+    ap (λ d. under d (count_trailing_zeros k (2 ^ suc n / 2))) even
+    ∙ ap (λ m. suc (count_trailing_zeros k m)) half
+    ∙ ap suc (zeros-power k n (omega arith))
+
+-- a length that is a power of two fits, so its exponent is below 64
+pub variables_of_length : (n len : ℕ) → len ≡ 2 ^ n → len < 2 ^ 64 → len ≡ 2 ^ count_trailing_zeros 64 len
+variables_of_length n len is fits =
+    ⊎_elim
+    (λ low. is ∙ ap (λ k. 2 ^ k) (sym (ap (count_trailing_zeros 64) is ∙ zeros-power 64 n low)))
+    (λ high. let big : 2 ^ 64 ≤ 2 ^ n = pow_mono high in absurd (omega arith))
+    (cases_lt n 64)
