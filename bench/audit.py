@@ -8,7 +8,7 @@ one after the other in each repeat, and the medians of wall time, processor time
 ratio to the last program's. Status and output of all are compared byte for byte.
 The peak is what wait4 tells, at least this script's own size of some 15 MB.
 """
-import argparse, json, os, random, shlex, statistics, sys, tempfile, time
+import argparse, json, os, random, shlex, shutil, statistics, sys, tempfile, time
 
 P = 65537
 
@@ -51,6 +51,9 @@ def main():
     arguments.add_argument("--repeats", type=int, default=7)
     arguments.add_argument("programs", nargs="+")
     given = arguments.parse_args()
+    for program in given.programs:
+        if not program or shutil.which(shlex.split(program)[0]) is None:
+            sys.exit(f"no such program: {program}")
     with tempfile.TemporaryDirectory() as folder:
         path = os.path.join(folder, "job.json")
         with open(path, "w") as f:

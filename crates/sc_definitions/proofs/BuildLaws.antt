@@ -1,10 +1,9 @@
 -- A build of true statements leaves the product of the table's and the weights' values.
-use Rattle.std.proofs.Common.{◌≡◌, ℕ, zero, suc, ◌+◌, ◌*◌, ◌-◌, ◌^◌, ◌<◌, Option, Some, None, List, [], ◌∷◌, ◌++◌, length, if◌then◌else◌, ◌==◌, Bool, true, false, sym, ◌∙◌, ap, refl, arith, append_assoc, eqb-true}
+use Rattle.std.proofs.Common.{◌≡◌, ℕ, zero, suc, ◌+◌, ◌*◌, ◌-◌, ◌^◌, Some, None, List, [], ◌∷◌, ◌++◌, length, if◌then◌else◌, ◌==◌, Bool, true, false, sym, ◌∙◌, ap, refl, arith, append_assoc, eqb-true}
 use Rattle.std.proofs.lemmas.List.{append-nil}
 use Rattle.sc_definitions.specs.declared.events.Event.{Event}
-use Rattle.sc_definitions.specs.declared.false_claim.FalseClaim.{FalseClaim}
 use Rattle.sc_definitions.specs.Ring.{Ops, IsRing, plus, times, power}
-use Rattle.sc_definitions.specs.Tables.{Basis, evaluation, projective, Order, prefix, suffix, IsOffered, sum_below, inner, digits, monomial, value, coefficient_value, value_in, point_of, bound_by}
+use Rattle.sc_definitions.specs.Tables.{Basis, evaluation, projective, Order, prefix, suffix, IsOffered, sum_below, inner, digits, monomial, coefficient_value, value_in, point_of, bound_by}
 use Rattle.sc_definitions.specs.Rounds.{placed_entry, true_claim, honest_pair, next_claim, claim_along}
 use Rattle.sc_definitions.specs.Statements.{Statement, weight_of, true_value, IsTrueOf, is_true_of, AllTrueOf, first_false_claim, powers_sum, weights_at, claimed_values, true_values, batched_weight, batched_claim}
 use Rattle.sc_definitions.specs.Events.{Rules, Extension}
@@ -35,7 +34,7 @@ module _ (o : Ops) (ring : IsRing o) where
       let others : ℕ → ℕ = λ b. times o (f b) (powers_sum o c (suc p) (weights_at o ss b)) in
       let F = atom 0 in let P = atom 1 in let W = atom 2 in let R = atom 3 in
       sum-same o N _ _ (λ b _. identity o ring (f b ∷ power o c p ∷ weight_of o s.kind b ∷ powers_sum o c (suc p) (weights_at o ss b) ∷ [])
-        (F ⊗ (P ⊗ W ⊕ R)) (P ⊗ (F ⊗ W) ⊕ F ⊗ R) tt tt refl)
+      (F ⊗ (P ⊗ W ⊕ R)) (P ⊗ (F ⊗ W) ⊕ F ⊗ R) tt tt refl)
       ∙ sym (sum-plus o ring N first others)
       ∙ ap (λ t. plus o t (sum_below o N others)) (sym (times-sum o ring (power o c p) N (λ b. times o (f b) (weight_of o s.kind b))))
       ∙ ap (plus o (times o (power o c p) (sum_below o N (λ b. times o (f b) (weight_of o s.kind b))))) (inner-powers_sum n f c (suc p) ss)
@@ -71,7 +70,7 @@ module _ (o : Ops) (ring : IsRing o) where
   unfolding true_claim inner sum_below Agree
   true_claim-end basis order offered f w rs =
       identity o ring (placed_entry basis order o f rs 0 0 ∷ placed_entry basis order o w rs 0 0 ∷ [])
-        (nought ⊕ atom 0 ⊗ atom 1) (atom 0 ⊗ atom 1) tt tt refl
+      (nought ⊕ atom 0 ⊗ atom 1) (atom 0 ⊗ atom 1) tt tt refl
       ∙ ap (λ k. times o k (placed_entry basis order o w rs 0 0)) (placed-end basis order offered f rs)
       ∙ ap (times o (value_in basis o f (point_of order rs))) (placed-end basis order offered w rs)
 
@@ -109,7 +108,7 @@ built-claim o ring basis order offered f w R E bits h rs (suc n) (r ∷ rounds) 
     let h' = h ++ round_events E bits r in
     let rest : n - length rounds ≡ suc n - length (r ∷ rounds) = omega arith in
     ap (λ c. claim_along (next_claim basis o) c (messages_of rounds) (challenges R E bits h' rounds))
-      (ap (λ v. next_claim basis o (true_claim basis order o f w rs (suc n)) v x) b.0 ∙ sym (true_claim-next o ring basis order offered f w rs x n))
+    (ap (λ v. next_claim basis o (true_claim basis order o f w rs (suc n)) v x) b.0 ∙ sym (true_claim-next o ring basis order offered f w rs x n))
     ∙ built-claim o ring basis order offered f w R E bits h' (rs ++ x ∷ []) n rounds b.2
     ∙ ap (λ t. true_claim basis order o f w t (n - length rounds)) (append_assoc rs (x ∷ []) (challenges R E bits h' rounds))
     ∙ ap (true_claim basis order o f w (rs ++ x ∷ challenges R E bits h' rounds)) rest
@@ -162,9 +161,9 @@ module _ (o : Ops) (ring : IsRing o) where
       first_false_claim o p.variables p.table 0 p.statements ≡ None →
       residual_of o p (messages_of (built_rounds (honest_of o p) R E h [] p.variables)) (challenges R E 0 h (built_rounds (honest_of o p) R E h [] p.variables))
       ≡ times o (eval_of o p (challenges R E 0 h (built_rounds (honest_of o p) R E h [] p.variables)))
-        (weight_value_of o p (challenges R E 0 h (built_rounds (honest_of o p) R E h [] p.variables)))
+      (weight_value_of o p (challenges R E 0 h (built_rounds (honest_of o p) R E h [] p.variables)))
   unfolding honest_of
   build-residual p R E h offered none =
       let honest = honest_pair p.basis p.order o p.table (weights_of o p) in
       built-residual p R E 0 h (built_rounds honest R E h [] p.variables) offered (first_false_claim-all o p.variables p.table 0 p.statements none)
-        (length-built_rounds honest R E h [] p.variables) (built_rounds-built honest R E h [] p.variables)
+      (length-built_rounds honest R E h [] p.variables) (built_rounds-built honest R E h [] p.variables)

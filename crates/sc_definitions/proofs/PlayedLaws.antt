@@ -92,27 +92,27 @@ IsPlayed-more basis order o ring offered R E bits n f w claim h rounds rs m f₁
     let f_at : (k : ℕ) → k < 2 ^ m + 2 ^ m → f₁ k ≡ bound_by basis order o rs (suc m) f k = λ k low. p.evals k (omega (arith, low, twice)) in
     let w_at : (k : ℕ) → k < 2 ^ m + 2 ^ m → w₁ k ≡ bound_by basis order o rs (suc m) w k = λ k low. p.weights k (omega (arith, low, twice)) in
     let honest : sent.values ≡ honest_pair basis order o f w (challenges R E bits h rounds) m =
-      q.message ∙ message-same basis order o (2 ^ m) f₁ _ w₁ _ f_at w_at
-      ∙ sym (honest_pair-message o ring basis order offered f w rs m)
-      ∙ ap (λ t. honest_pair basis order o f w t m) p.drawn in
+    q.message ∙ message-same basis order o (2 ^ m) f₁ _ w₁ _ f_at w_at
+    ∙ sym (honest_pair-message o ring basis order offered f w rs m)
+    ∙ ap (λ t. honest_pair basis order o f w t m) p.drawn in
     let so_far = rounds_events E bits rounds in
     let witnessed : HasFirstWitness R E bits (h ++ so_far) sent = subst (λ t. HasFirstWitness R E bits t sent) p.history q.witness in
     record {
       built = IsBuilt-append (honest_pair basis order o f w) R E bits h [] n rounds sent m p.built p.count honest witnessed;
       count = p.count ∙ sym (omega (arith, length-append rounds (sent ∷ [])));
       drawn = ap (λ t. rs ++ t ∷ []) (q.drawn ∙ ap (λ t. challenge R E bits t sent) p.history)
-        ∙ ap (λ t. t ++ challenge R E bits (h ++ so_far) sent ∷ []) p.drawn ∙ sym (challenges-append R E bits h rounds (sent ∷ []));
+          ∙ ap (λ t. t ++ challenge R E bits (h ++ so_far) sent ∷ []) p.drawn ∙ sym (challenges-append R E bits h rounds (sent ∷ []));
       history = q.history ∙ ap (λ t. t ++ round_events E bits sent) p.history
-        ∙ append_assoc h so_far (round_events E bits sent)
-        ∙ ap (λ t. h ++ t) (sym (flat_map-append (round_events E bits) rounds (sent ∷ []) ∙ ap (λ t. so_far ++ t) (append-nil (round_events E bits sent))));
+          ∙ append_assoc h so_far (round_events E bits sent)
+          ∙ ap (λ t. h ++ t) (sym (flat_map-append (round_events E bits) rounds (sent ∷ []) ∙ ap (λ t. so_far ++ t) (append-nil (round_events E bits sent))));
       evals = λ b low. q.evals b low ∙ bound_in-same basis order o m r b f₁ _ low p.evals
-        ∙ sym (ap (λ g. g b) (bound_by-append basis order o rs r m f));
+          ∙ sym (ap (λ g. g b) (bound_by-append basis order o rs r m f));
       weights = λ b low. q.weights b low ∙ bound_in-same basis order o m r b w₁ _ low p.weights
-        ∙ sym (ap (λ g. g b) (bound_by-append basis order o rs r m w));
+          ∙ sym (ap (λ g. g b) (bound_by-append basis order o rs r m w));
       along = q.next ∙ ap (λ c. next_claim basis o c sent.values r) p.along
-        ∙ sym (ap (λ t. claim_along (next_claim basis o) claim t (rs ++ r ∷ [])) (messages-append rounds sent)
+          ∙ sym (ap (λ t. claim_along (next_claim basis o) claim t (rs ++ r ∷ [])) (messages-append rounds sent)
           ∙ claim_along-append (next_claim basis o) claim (messages_of rounds) rs sent.values r
-            (length-messages rounds ∙ sym (ap length p.drawn ∙ length-challenges R E bits h rounds)));
+          (length-messages rounds ∙ sym (ap length p.drawn ∙ length-challenges R E bits h rounds)));
     }
 
 -- all rounds were played: the one entry that is left is the table's value at the challenges

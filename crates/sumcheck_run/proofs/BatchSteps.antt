@@ -1,9 +1,8 @@
 -- Statements that are batched, or tested, one after the other.
-use Rattle.std.proofs.Common.{◌≡◌, ◌≢◌, ℕ, zero, suc, ◌+◌, ◌^◌, ◌<◌, ◌≤◌, Option, Some, None, List, [], ◌∷◌, ◌++◌, length, All, get_or, set, take, drop, map, sym, ◌∙◌, ap, refl, subst, arith, ⊎_elim, add-one}
+use Rattle.std.proofs.Common.{◌≡◌, ◌≢◌, ℕ, zero, suc, ◌+◌, ◌^◌, ◌<◌, ◌≤◌, Some, None, List, [], ◌∷◌, ◌++◌, length, All, get_or, set, take, drop, map, sym, ◌∙◌, ap, refl, subst, arith, ⊎_elim}
 use Rattle.std.proofs.lemmas.Bool.{cases_lt}
 use Rattle.std.proofs.lemmas.List.{length-append, length-map, length-take-le, map-append, take_more}
 use Rattle.std.proofs.Math.Seq.{drop-cons}
-use Rattle.sc_definitions.specs.declared.false_claim.FalseClaim.{FalseClaim}
 use Rattle.sc_definitions.specs.Ring.{Ops, IsRing, plus, times, power}
 use Rattle.sc_definitions.specs.Tables.{entries, weight, value}
 use Rattle.sc_definitions.specs.Statements.{equality, Statement, claims, weight_of, true_value, first_false_claim, batched_weight, batched_claim}
@@ -73,13 +72,13 @@ IsBatched-more o ring n c ss ss' zs v f f' part claim claim' coefficient coeffic
     let factor : coefficient ≡ power o c (0 + length ss) = so_far.next ∙ ap (power o c) none in
     subst P (sym longer) (record {
       weights = λ b low. added b low ∙ ap (λ x. plus o x (part b)) (so_far.weights b low)
-        ∙ ap (plus o (batched_weight o c 0 ss b)) (part_is b low ∙ ap (λ k. times o k (weight o zs b)) factor)
-        ∙ sym (batched_weight-append o ring c 0 ss s b);
+          ∙ ap (plus o (batched_weight o c 0 ss b)) (part_is b low ∙ ap (λ k. times o k (weight o zs b)) factor)
+          ∙ sym (batched_weight-append o ring c 0 ss s b);
       claimed = claim_is ∙ ap (λ x. plus o x (times o coefficient v)) so_far.claimed
-        ∙ ap (λ k. plus o (batched_claim o c 0 ss) (times o k v)) factor
-        ∙ sym (batched_claim-append o ring c 0 ss s);
+          ∙ ap (λ k. plus o (batched_claim o c 0 ss) (times o k v)) factor
+          ∙ sym (batched_claim-append o ring c 0 ss s);
       next = next_is ∙ ap (λ k. times o k c) so_far.next ∙ times_comm o ring (power o c (length ss)) c
-        ∙ sym (power-suc o c (length ss)) ∙ ap (power o c) (sym (one_more ss s));
+          ∙ sym (power-suc o c (length ss)) ∙ ap (power o c) (sym (one_more ss s));
     })
 
 -- ---- the first false statement

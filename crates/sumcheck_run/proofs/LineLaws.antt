@@ -1,5 +1,5 @@
 -- Lines of rounds, one after the other.
-use Rattle.std.proofs.Common.{◌≡◌, ℕ, zero, suc, ◌+◌, ◌<◌, List, [], ◌∷◌, ◌++◌, length, get_or, take, map, refl, ap, sym, ◌∙◌, arith, append_assoc}
+use Rattle.std.proofs.Common.{◌≡◌, ℕ, suc, ◌+◌, ◌<◌, List, [], ◌∷◌, ◌++◌, length, get_or, take, map, ap, sym, ◌∙◌, arith, append_assoc}
 use Rattle.std.specs.Prelude.{codes, decimal}
 use Rattle.std.proofs.lemmas.List.{append-nil, take_more, map-append, length-map, length-take-le}
 use Rattle.sc_definitions.specs.Transcript.{Round}
@@ -11,8 +11,8 @@ colon-spaced P A B =
     append_assoc P (58 ∷ []) ((32 ∷ A) ++ ((32 ∷ B) ++ []))
     ∙ ap (λ t. P ++ 58 ∷ 32 ∷ (A ++ 32 ∷ t)) (append-nil B)
     ∙ sym (append_assoc (P ++ 58 ∷ 32 ∷ [] ++ A) (32 ∷ []) B
-      ∙ append_assoc (P ++ 58 ∷ 32 ∷ []) A (32 ∷ B)
-      ∙ append_assoc P (58 ∷ 32 ∷ []) (A ++ 32 ∷ B))
+    ∙ append_assoc (P ++ 58 ∷ 32 ∷ []) A (32 ∷ B)
+    ∙ append_assoc P (58 ∷ 32 ∷ []) (A ++ 32 ∷ B))
 
 -- the line of a round that sent two values
 pub round_line-pair : (i a b r : ℕ) →

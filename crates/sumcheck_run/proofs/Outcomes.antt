@@ -4,16 +4,12 @@ use Rattle.std.specs.Prelude.{if◌then◌else◌, nat_lt}
 use Rattle.serde_json.specs.Data.{Data}
 use Rattle.sc_forms.specs.Values.{value_of}
 use Rattle.sc_definitions.specs.declared.false_claim.FalseClaim.{FalseClaim}
-use Rattle.sc_definitions.specs.Tables.{rows_of}
-use Rattle.sc_definitions.specs.Statements.{first_false_claim}
-use Rattle.sumcheck_run.specs.declared.reply.Outcome.{Outcome}
-use Rattle.sumcheck_run.specs.declared.reply.Outcome.TheVariants.{Holds, Usage, JobRefused}
 use Rattle.sumcheck_run.specs.declared.command.Command.{Command}
 use Rattle.sumcheck_run.specs.declared.command.Command.TheVariants.{Audit}
 use Rattle.sumcheck_run.specs.declared.job.Job.{Job}
 use Rattle.sumcheck_run.specs.Reply.{Reply, code_of, refused, usage}
 use Rattle.sumcheck_run.specs.Job.{job_form}
-use Rattle.sumcheck_run.specs.Report.{field, statement_of, judged, judge}
+use Rattle.sumcheck_run.specs.Report.{judged, judge}
 use Rattle.sumcheck_run.specs.Program.{max_input, too_long, bad_json, unbuilt_job, job_reply, audit_reply, value_reply, json_reply, reply_of}
 
 -- it is no usage

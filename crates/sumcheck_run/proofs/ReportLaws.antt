@@ -1,5 +1,5 @@
 -- The answer to a job, from what was played on its tables.
-use Rattle.std.proofs.Common.{◌≡◌, ℕ, zero, suc, ◌+◌, ◌^◌, ◌<◌, List, [], ◌∷◌, ◌++◌, slice_index, length, All, map, Option, Some, None, refl, ap, sym, ◌∙◌, subst, arith}
+use Rattle.std.proofs.Common.{◌≡◌, ℕ, zero, suc, ◌^◌, ◌<◌, List, [], ◌∷◌, ◌++◌, slice_index, length, All, map, Option, Some, None, ap, sym, ◌∙◌, subst, arith}
 use Rattle.sc_definitions.specs.declared.events.Event.{Event}
 use Rattle.sc_definitions.specs.declared.false_claim.FalseClaim.{FalseClaim}
 use Rattle.sc_definitions.specs.Ring.{Ops, IsRing}
@@ -18,7 +18,7 @@ use Rattle.sc_definitions.proofs.PlayedLaws.{value-played}
 use Rattle.sumcheck_run.specs.declared.reply.Outcome.TheVariants.{Holds}
 use Rattle.sumcheck_run.specs.declared.job.Job.{Job}
 use Rattle.sumcheck_run.specs.declared.statements.EqualityStatement.{EqualityStatement}
-use Rattle.sumcheck_run.specs.Reply.{Reply, refused}
+use Rattle.sumcheck_run.specs.Reply.{refused}
 use Rattle.sumcheck_run.specs.Lines.{claim_line, round_lines, residual_line, eval_line, weight_line, holds_line, false_claim_text}
 use Rattle.sumcheck_run.specs.Report.{field, statement_of, prefix_problem, problem_of, rules_of, rounds_of, challenges_of, report_of, build_report, judged, judge, IsMatched}
 
@@ -88,7 +88,7 @@ module _ (o : Ops) (ring : IsRing o) (R : Rules) (h : List Event) (n : ℕ) (f :
       let same : rounds ≡ rounds_of o R h q = rounds-built rounds count p.built in
       let drawn : rs ≡ challenges_of o R h q = challenges-built rounds rs same p.drawn in
       let along : claim₁ ≡ claim_along (next_claim evaluation o) (claim_of o q) (messages_of rounds) rs =
-        p.along ∙ ap (λ x. claim_along (next_claim evaluation o) x (messages_of rounds) rs) claim_is in
+      p.along ∙ ap (λ x. claim_along (next_claim evaluation o) x (messages_of rounds) rs) claim_is in
       let residual : claim₁ ≡ residual_of o q (messages_of rounds) rs = residual-played rounds rs claim₁ along in
       let eval : f₁ 0 ≡ eval_of o q rs = eval-played f₁ rs low p.evals in
       let weight : w₁ 0 ≡ weight_value_of o q rs = weight-played w₁ rs high p.weights in
@@ -114,7 +114,7 @@ pub found-as : (job : Job) (n : ℕ) (f : ℕ → ℕ) (ss : List Statement) (fo
     first_false_claim field job.variables (rows_of job.table) 0 (map statement_of job.claims) ≡ found
 found-as job n f ss found size table statements is =
     sym (is ∙ ap (λ k. first_false_claim field k f 0 ss) size ∙ ap (λ t. first_false_claim field job.variables t 0 ss) table
-      ∙ ap (first_false_claim field job.variables (rows_of job.table) 0) statements)
+    ∙ ap (first_false_claim field job.variables (rows_of job.table) 0) statements)
 
 pub judge-false : (job : Job) (fault : FalseClaim) → first_false_claim field job.variables (rows_of job.table) 0 (map statement_of job.claims) ≡ Some fault →
     judge job ≡ refused (false_claim_text fault)
@@ -129,12 +129,12 @@ pub judge-true : (job : Job) (text : List ℕ) (R : Rules) (h : List Event) (n :
 unfolding judge
 judge-true job text R h n f ss c none is rules start size table statements batching =
     let rest : text ≡ build_report field (rules_of job) [] (problem_of job) =
-      is ∙ ap (λ x. build_report field x h (prefix_problem n f ss c)) rules
-      ∙ ap (λ x. build_report field (rules_of job) x (prefix_problem n f ss c)) start
-      ∙ ap (λ x. build_report field (rules_of job) [] (prefix_problem x f ss c)) size
-      ∙ ap (λ x. build_report field (rules_of job) [] (prefix_problem job.variables x ss c)) table
-      ∙ ap (λ x. build_report field (rules_of job) [] (prefix_problem job.variables (rows_of job.table) x c)) statements
-      ∙ ap (λ x. build_report field (rules_of job) [] (prefix_problem job.variables (rows_of job.table) (map statement_of job.claims) x)) batching in
+    is ∙ ap (λ x. build_report field x h (prefix_problem n f ss c)) rules
+    ∙ ap (λ x. build_report field (rules_of job) x (prefix_problem n f ss c)) start
+    ∙ ap (λ x. build_report field (rules_of job) [] (prefix_problem x f ss c)) size
+    ∙ ap (λ x. build_report field (rules_of job) [] (prefix_problem job.variables x ss c)) table
+    ∙ ap (λ x. build_report field (rules_of job) [] (prefix_problem job.variables (rows_of job.table) x c)) statements
+    ∙ ap (λ x. build_report field (rules_of job) [] (prefix_problem job.variables (rows_of job.table) (map statement_of job.claims) x)) batching in
     ap (judged job) none ∙ ap (λ t. record { outcome = Holds; text = t }) (sym rest)
 
 -- true statements leave the product of the two values

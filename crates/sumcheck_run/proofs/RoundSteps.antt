@@ -1,5 +1,5 @@
 -- One round, from what its calls answer.
-use Rattle.std.proofs.Common.{◌≡◌, ℕ, suc, subst, ◌+◌, ◌<◌, ◌*◌, ◌/◌, ◌^◌, List, [], ◌∷◌, ◌++◌, refl, ap, sym, ◌∙◌, arith, append_assoc}
+use Rattle.std.proofs.Common.{◌≡◌, ℕ, suc, subst, ◌+◌, ◌<◌, ◌*◌, ◌/◌, ◌^◌, List, [], ◌∷◌, ◌++◌, ap, sym, ◌∙◌, arith, append_assoc}
 use Rattle.std.proofs.Math.Nat.{pow-suc}
 use Rattle.std.proofs.lemmas.List.{append-nil}
 use Rattle.sc_definitions.specs.declared.events.Event.{Event}
@@ -61,7 +61,7 @@ played-more o ring R R₁ n f w claim h rounds rounds' rs rs' v m f₁ w₁ clai
     let P : ℕ → Type 0 = λ k. IsPlayed evaluation prefix o R own_extension 0 n f w claim h rounds rs k f₁ w₁ claim₁ h₁ in
     let Q : Rules → Type 0 = λ S. IsRound evaluation prefix o S own_extension 0 m f₁ w₁ claim₁ h₁ sent r f₂ w₂ claim₂ h₂ in
     let whole = IsPlayed-more evaluation prefix o ring tt R own_extension 0 n f w claim h rounds rs m f₁ w₁ claim₁ h₁ sent r f₂ w₂ claim₂ h₂
-      (subst P next p) (subst Q same_rules q) in
+    (subst P next p) (subst Q same_rules q) in
     let A : List Round → Type 0 = λ t. IsPlayed evaluation prefix o R own_extension 0 n f w claim h t (rs ++ r ∷ []) m f₂ w₂ claim₂ h₂ in
     let B : List ℕ → Type 0 = λ t. IsPlayed evaluation prefix o R own_extension 0 n f w claim h rounds' t m f₂ w₂ claim₂ h₂ in
     subst B (sym drawn) (subst A (sym more) whole)

@@ -1,5 +1,5 @@
 -- The job that a value describes, where it is of the form that is built.
-use Rattle.std.specs.Prelude.{◌≡◌, ℕ, ◌<◌, ◌≤◌, ◌^◌, ◌==◌, List, length, All, ⊤, codes, nat_le, if◌then◌else◌, Option, Some, None, option_map, option_and_then, is_none, flat_map}
+use Rattle.std.specs.Prelude.{◌≡◌, ℕ, ◌<◌, ◌≤◌, ◌^◌, ◌==◌, List, length, All, ⊤, codes, nat_le, if◌then◌else◌, Option, Some, None, option_and_then, is_none, flat_map}
 use Rattle.serde_json.specs.Data.{Data}
 use Rattle.serde_json.specs.Find.{get}
 use Rattle.sc_forms.specs.Forms.{below_form, at_most_form, literal_form, list_form, list_of_length_form, member_form}

@@ -9,12 +9,11 @@ ghost use Rattle.sumcheck_run.specs.Reply.{refused};
 ghost use Rattle.sumcheck_run.specs.Report.{IsMatched, build_report, judge, prefix_problem};
 ghost use Rattle.sumcheck_run.specs.Statements.{shown_of};
 
-use crate::elements;
 use crate::job::{Job, Script};
-use crate::lines;
 use crate::reply::{Answer, Outcome};
 use crate::rounds::{Pair, PlayedRound, play};
 use crate::statements::{EqualityStatement, batch, first_false, statements_of};
+use crate::{elements, lines};
 use sc_challenger::{Challenger, ScriptedChallenger};
 use sc_definitions::FalseClaim;
 use sc_field::{F65537, Field, NoMemory};
@@ -124,7 +123,13 @@ fn push_rounds<F: Field>(text: &mut String, rounds: &[PlayedRound<F>]) -> Result
     for (i, round) in rounds.iter().enumerate() {
         let message = round.message;
         let challenge = round.challenge.index();
-        lines::push_round(text, i, message.c_a.index(), message.c_inf.index(), challenge)?;
+        lines::push_round(
+            text,
+            i,
+            message.c_a.index(),
+            message.c_inf.index(),
+            challenge,
+        )?;
     }
     Ok(())
 }

@@ -1,4 +1,4 @@
-use Rattle.std.proofs.Common.{◌≡◌, ◌^◌, length, sym, ◌∙◌, ap}
+use Rattle.std.proofs.Common.{length, sym, ◌∙◌, ap}
 use Rattle.std.proofs.lemmas.List.{length-map}
 use Rattle.sumcheck_run.proofs.Lengths.{pow-same}
 use Rattle.sumcheck_run.proofs.ReportLaws.{entries-numbers}

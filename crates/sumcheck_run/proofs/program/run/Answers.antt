@@ -9,7 +9,7 @@ returns-in-Ok-write_all-clause-usage g c = λ e.
     let command = c.read_command-command.result in
     let input = c.in-Ok.input.items in
     let is : c.code.result ≡ code_of (reply_of command input).outcome =
-      c.code.ensures.code ∙ ap code_of (c.outcome.ensures ∙ ap (λ (a : Reply). a.outcome) c.in-Ok-answer.ensures) in
+    c.code.ensures.code ∙ ap code_of (c.outcome.ensures ∙ ap (λ (a : Reply). a.outcome) c.in-Ok-answer.ensures) in
     sym c.read_command-command.ensures ∙ usage-only command input (sym is ∙ e)
 
 pub returns-in-Ok-write_all-clause-no_command : goal.returns-in-Ok-write_all-clause-no_command
@@ -17,5 +17,5 @@ returns-in-Ok-write_all-clause-no_command g c = λ none.
     let command = c.read_command-command.result in
     let input = c.in-Ok.input.items in
     let is : c.code.result ≡ code_of (reply_of command input).outcome =
-      c.code.ensures.code ∙ ap code_of (c.outcome.ensures ∙ ap (λ (a : Reply). a.outcome) c.in-Ok-answer.ensures) in
+    c.code.ensures.code ∙ ap code_of (c.outcome.ensures ∙ ap (λ (a : Reply). a.outcome) c.in-Ok-answer.ensures) in
     inl (is ∙ ap (λ k. code_of (reply_of k input).outcome) (c.read_command-command.ensures ∙ none) ∙ usage-code input)

@@ -10,8 +10,8 @@ loop-i-preserved g c =
     let i = c.loop-i.i in
     let x = c.index-rounds-i.result in
     let line : round_line i (c.index.result ∷ c.index-in-loop-i.result ∷ []) c.index-challenge.result
-        ≡ round_line i (number x.message.c_a ∷ number x.message.c_inf ∷ []) (number x.challenge) =
-      cc (c.index.ensures, c.index-in-loop-i.ensures, c.index-challenge.ensures) in
+    ≡ round_line i (number x.message.c_a ∷ number x.message.c_inf ∷ []) (number x.challenge) =
+    cc (c.index.ensures, c.index-in-loop-i.ensures, c.index-challenge.ensures) in
     c.in_ok-push_round.ensures
     ∙ ap (λ t. string_bytes c.loop-i.text ++ t) line
     ∙ ap (λ t. t ++ round_line i (number x.message.c_a ∷ number x.message.c_inf ∷ []) (number x.challenge)) c.loop-i.invariant

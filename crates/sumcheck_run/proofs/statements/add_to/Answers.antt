@@ -1,4 +1,4 @@
-use Rattle.std.proofs.Common.{◌≡◌, ◌<◌, length, refl, arith}
+use Rattle.std.proofs.Common.{◌<◌, length, refl, arith}
 use Rattle.sc_table.proofs.EntryLaws.{entry-read}
 use Rattle.sumcheck_run.proofs.BatchSteps.{added-more}
 use Rattle.sumcheck_run.proofs.statements.add_to.Goals as goal

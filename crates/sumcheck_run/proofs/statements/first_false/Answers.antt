@@ -1,5 +1,4 @@
-use Rattle.std.proofs.Common.{◌≡◌, ℕ, length, map, drop, sym, ◌∙◌, ap, subst, arith, add-one}
-use Rattle.std.proofs.lemmas.List.{length-map}
+use Rattle.std.proofs.Common.{◌≡◌, map, drop, sym, ◌∙◌, ap, arith, add-one}
 use Rattle.sc_definitions.specs.Statements.{first_false_claim}
 use Rattle.sc_table.specs.Polys.{variables_of, table_of}
 use Rattle.sumcheck_run.specs.Statements.{shown_of}
@@ -15,7 +14,7 @@ returns-then-index g c =
     let other = λ (e : number c.eval-actual.result ≡ number s.claimed). c.if-index.true (c.index.ensures ∙ e ∙ sym c.index-in-loop-i.ensures) in
     sym (c.loop-i.invariant
     ∙ first_false-found g.F.Field.ops _ _ i (map number s.point) _ _ _ _ (arity-at number ss i s _ c.loop-i-test.true c.index-statements-i.is c.requires)
-      c.eval-actual.ensures other (shown-split number ss i s c.loop-i-test.true c.index-statements-i.is)
+    c.eval-actual.ensures other (shown-split number ss i s c.loop-i-test.true c.index-statements-i.is)
     ∙ cc (c.index-then-index.ensures, c.index-then-index-2.ensures))
 
 pub loop-i-preserved : goal.loop-i-preserved
@@ -27,7 +26,7 @@ loop-i-preserved g c =
     let is_true = sym c.index.ensures ∙ c.if-index.false ∙ c.index-in-loop-i.ensures in
     c.loop-i.invariant
     ∙ first_false-next g.F.Field.ops _ _ i (map number s.point) _ _ _ _ (arity-at number ss i s _ c.loop-i-test.true c.index-statements-i.is c.requires)
-      c.eval-actual.ensures is_true (shown-split number ss i s c.loop-i-test.true c.index-statements-i.is)
+    c.eval-actual.ensures is_true (shown-split number ss i s c.loop-i-test.true c.index-statements-i.is)
     ∙ ap (λ k. first_false_claim g.F.Field.ops (variables_of c.args.evals.now) (table_of number c.args.evals.now) k (map (shown_of number) (drop k ss))) (sym (add-one i))
 
 pub returns : goal.returns

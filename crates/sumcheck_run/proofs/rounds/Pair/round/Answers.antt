@@ -1,4 +1,4 @@
-use Rattle.std.proofs.Common.{◌≡◌, ℕ, ◌+◌, ◌^◌, ◌<◌, [], ◌∷◌, sym, ◌∙◌, ap, subst, refl, arith}
+use Rattle.std.proofs.Common.{◌≡◌, ℕ, ◌^◌, ◌<◌, sym, ◌∙◌, ap, subst, refl, arith}
 use Rattle.sc_definitions.specs.Tables.{bound}
 use Rattle.sc_definitions.specs.Rounds.{extrapolated}
 use Rattle.sc_definitions.specs.Transcript.{HasFirstWitness}
@@ -26,17 +26,17 @@ returns-clause-round g c =
     let r = f.number c.in_ok-challenge.challenge in
     record {
       message = message-halves f.ops _ _ m _ _ _ _ a b c.as_slice.ensures.size c.fix_prefix_var_mut.ensures.fewer
-        c.as_slice.ensures.numbers c.as_slice-2.ensures.numbers
-        c.sumcheck_coefficients_prefix-message.ensures.first c.sumcheck_coefficients_prefix-message.ensures.leading;
+          c.as_slice.ensures.numbers c.as_slice-2.ensures.numbers
+          c.sumcheck_coefficients_prefix-message.ensures.first c.sumcheck_coefficients_prefix-message.ensures.leading;
       witness = refl;
       drawn = c.in_ok-challenge.ensures.drawn
-        ∙ ap (λ q. q.draw (h c.observe-2.new.self)) (c.observe-2.ensures.rules ∙ c.observe.ensures.rules)
-        ∙ challenge-drawn (R before) (h before) _ _ a b c.in_ok-observe.ensures.ok c.in_ok-observe-2.ensures.ok;
+          ∙ ap (λ q. q.draw (h c.observe-2.new.self)) (c.observe-2.ensures.rules ∙ c.observe.ensures.rules)
+          ∙ challenge-drawn (R before) (h before) _ _ a b c.in_ok-observe.ensures.ok c.in_ok-observe-2.ensures.ok;
       history = history-grown (h before) _ _ _ a b c.in_ok-observe.ensures.ok c.in_ok-observe-2.ensures.ok c.in_ok-challenge.ensures.ok;
       evals = λ k low. c.fix_prefix_var_mut.ensures.bound k low;
       weights = λ k low. (let P : ℕ → Type 0 = λ n. k < 2 ^ n → table_of f.number c.fix_prefix_var_mut-2.new.self k ≡ bound f.ops (2 ^ n) r (table_of f.number c.args.self.now.weights) k in
-        subst P same (c.fix_prefix_var_mut-2.ensures.bound k)) low;
+          subst P same (c.fix_prefix_var_mut-2.ensures.bound k)) low;
       next = c.extrapolate_01inf-self.ensures.value
-        ∙ ap (λ d. extrapolated f.ops a d b r) c.sub-at_one.ensures
-        ∙ sym (next_claim-extrapolated f.ops ring (f.number c.args.self.now.claim) a b r);
+          ∙ ap (λ d. extrapolated f.ops a d b r) c.sub-at_one.ensures
+          ∙ sym (next_claim-extrapolated f.ops ring (f.number c.args.self.now.claim) a b r);
     }
