@@ -1,7 +1,9 @@
 #!/usr/bin/env python3
-"""Measures `audit` on a building job with one equality claim, for one program or for several side by side.
+"""Measures `audit` on a job with one equality claim, for one program or for several side by side.
 
-usage: bench/audit.py [--variables N] [--repeats N] PROGRAM [PROGRAM ..]
+usage: bench/audit.py [--variables N] [--repeats N] [--check] PROGRAM [PROGRAM ..]
+
+The job is built, or with --check the rounds that the first program builds are handed in as a proof.
 
 Each PROGRAM is a command line, to which the word `audit` is appended; the job comes on standard input. The programs run
 one after the other in each repeat, and the medians of wall time, processor time and peak memory are shown, with their
@@ -20,7 +22,7 @@ def value_at(table, point):
     return table[0]
 
 
-def job(variables):
+def job(variables, mode):
     rng = random.Random(variables)
     table = [rng.randrange(10000, P) for _ in range(1 << variables)]
     point = [rng.randrange(P) for _ in range(variables)]
@@ -29,8 +31,18 @@ def job(variables):
         "challenger": {"draws": [rng.randrange(P) for _ in range(variables)], "witnesses": []},
         "order": "prefix", "bits": 0, "table": table, "variables": variables,
         "groups": [{"kind": "eq", "claims": [{"point": point, "value": value_at(table, point)}]}],
-        "batching": 40503, "mode": {"build": "plain"},
+        "batching": 40503, "mode": mode,
     }, separators=(",", ":"))
+
+
+def proof(command, variables, folder):
+    path, out = os.path.join(folder, "build.json"), os.path.join(folder, "built")
+    with open(path, "w") as f:
+        f.write(job(variables, {"build": "plain"}))
+    run(command, path, out)
+    with open(out) as f:
+        rounds = [[int(x) for x in line.split()[2:4]] for line in f if line.startswith("round ")]
+    return {"check": {"rounds": rounds, "witnesses": []}}
 
 
 def run(command, path, out):
@@ -49,6 +61,7 @@ def main():
     arguments = argparse.ArgumentParser(description=__doc__, formatter_class=argparse.RawDescriptionHelpFormatter)
     arguments.add_argument("--variables", type=int, default=20)
     arguments.add_argument("--repeats", type=int, default=7)
+    arguments.add_argument("--check", action="store_true")
     arguments.add_argument("programs", nargs="+")
     given = arguments.parse_args()
     for program in given.programs:
@@ -56,8 +69,11 @@ def main():
             sys.exit(f"no such program: {program}")
     with tempfile.TemporaryDirectory() as folder:
         path = os.path.join(folder, "job.json")
+        mode = {"build": "plain"}
+        if given.check:
+            mode = proof(shlex.split(given.programs[0]), given.variables, folder)
         with open(path, "w") as f:
-            f.write(job(given.variables))
+            f.write(job(given.variables, mode))
         print(f"2^{given.variables} entries, {os.path.getsize(path)} bytes, {given.repeats} repeats, load {os.getloadavg()[0]:.2f}")
         samples = [[] for _ in given.programs]
         answers = set()

@@ -5,6 +5,7 @@
 //! [`read_value`] reads bytes as a JSON value.
 #![tactic(auto)]
 
+mod either;
 mod form;
 mod input;
 mod lists;
@@ -13,8 +14,9 @@ mod numbers;
 #[cfg(test)]
 mod tests;
 
+pub use either::{Either, NoForm};
 pub use form::{Form, Misread, is_object, member};
 pub use input::{NoValue, read_value};
-pub use lists::{ListOf, ListOfLength, PairOf};
+pub use lists::{FirstOther, ListOf, ListOfLength, PairOf};
 pub use literal::Literal;
 pub use numbers::{AtMost, Below, Unsigned};

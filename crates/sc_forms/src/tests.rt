@@ -3,8 +3,8 @@ ghost use Rattle.std.specs.Prelude.{codes, option_and_then, option_map};
 ghost use Rattle.sc_forms.specs.Forms.{below_form, list_form, member_form};
 
 use crate::{
-    AtMost, Below, Form, ListOf, ListOfLength, Literal, Misread, NoValue, PairOf, Unsigned,
-    is_object, member, read_value,
+    AtMost, Below, Either, FirstOther, Form, ListOf, ListOfLength, Literal, Misread, NoForm,
+    NoValue, PairOf, Unsigned, is_object, member, read_value,
 };
 use sc_table::Row;
 use serde_json::Value;
@@ -264,5 +264,46 @@ fn a_table_of_a_million_numbers_is_read(rt: HostRuntime) -> Result<(), Fail> {
     assert_eq!(rt; row.len(), count);
     assert_eq!(rt; row.as_slice().first(), Some(&65_536));
     assert_eq!(rt; row.as_slice().last(), Some(&0));
+    Ok(())
+}
+
+#[test]
+fn one_of_two_forms_or_none_at_all(rt: HostRuntime) -> Result<(), Fail> {
+    let kinds = Either {
+        left: Literal { text: "next" },
+        right: Below { bound: 10 },
+    };
+    for (text, want) in [
+        ("\"next\"", Ok(())),
+        ("9", Ok(())),
+        ("10", Err(Misread::NotOfForm)),
+        ("\"eq\"", Err(Misread::NotOfForm)),
+    ] {
+        assert_eq!(rt; read_text(rt.alloc(), &kinds, text)?, want, "{text}");
+        assert_eq!(rt;
+            read_text(rt.alloc(), &NoForm, text)?,
+            Err(Misread::NotOfForm),
+            "{text}"
+        );
+    }
+    Ok(())
+}
+
+#[test]
+fn the_first_item_of_another_form_is_read(rt: HostRuntime) -> Result<(), Fail> {
+    let list = FirstOther {
+        item: Literal { text: "eq" },
+        other: Below { bound: 10 },
+    };
+    for (text, want) in [
+        ("[\"eq\",7,8]", Ok(7)),
+        ("[7,\"eq\"]", Ok(7)),
+        ("[\"eq\",\"next\",7]", Err(Misread::NotOfForm)),
+        ("[\"eq\",\"eq\"]", Err(Misread::NotOfForm)),
+        ("[]", Err(Misread::NotOfForm)),
+        ("7", Err(Misread::NotOfForm)),
+    ] {
+        assert_eq!(rt; read_text(rt.alloc(), &list, text)?, want, "{text}");
+    }
     Ok(())
 }

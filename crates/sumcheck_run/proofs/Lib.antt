@@ -5,3 +5,4 @@ pub mod LineLaws
 pub mod Joined
 pub mod ReportLaws
 pub mod Outcomes
+pub mod ShapeLaws

@@ -1,26 +1,31 @@
 -- The answer to a job, from what was played on its tables.
-use Rattle.std.proofs.Common.{◌≡◌, ℕ, zero, suc, ◌^◌, ◌<◌, List, [], ◌∷◌, ◌++◌, slice_index, length, All, map, Option, Some, None, ap, sym, ◌∙◌, subst, arith}
+use Rattle.std.proofs.Common.{◌≡◌, ℕ, zero, suc, ◌^◌, ◌<◌, List, [], ◌∷◌, ◌++◌, slice_index, length, map, Bool, Option, None, Some, ◌==◌, ap, sym, ◌∙◌, arith}
 use Rattle.sc_definitions.specs.declared.events.Event.{Event}
 use Rattle.sc_definitions.specs.declared.false_claim.FalseClaim.{FalseClaim}
-use Rattle.sc_definitions.specs.Ring.{Ops, IsRing}
-use Rattle.sc_definitions.specs.Tables.{evaluation, prefix, bound_by, entries, rows_of}
+use Rattle.sc_definitions.specs.Ring.{Ops, IsRing, times}
+use Rattle.std.proofs.lemmas.List.{append-nil}
+use Rattle.sc_definitions.proofs.TableLaws.{value-same}
+use Rattle.sc_definitions.specs.Tables.{evaluation, prefix, value, bound_by, entries, rows_of}
 use Rattle.sc_definitions.specs.Rounds.{honest_pair, next_claim, claim_along}
 use Rattle.sc_definitions.specs.Statements.{Statement, first_false_claim, batched_weight, batched_claim}
 use Rattle.sc_definitions.specs.Events.{Rules, own_extension}
 use Rattle.sc_definitions.specs.Transcript.{Round, messages_of, challenges, IsBuilt}
-use Rattle.sc_definitions.specs.Problem.{weights_of, claim_of, honest_of, residual_of, eval_of, weight_value_of}
+use Rattle.sc_definitions.specs.Problem.{Problem, weights_of, claim_of, honest_of, residual_of, eval_of, weight_value_of}
 use Rattle.sc_definitions.specs.Played.{IsPlayed}
 use Rattle.sc_definitions.proofs.RingLaws.{element-small}
 use Rattle.sc_definitions.proofs.BuiltLaws.{built_rounds-unique}
 use Rattle.sc_definitions.proofs.BuildLaws.{build-residual}
 use Rattle.sc_field.specs.ResiduesLaws.{residues_field}
 use Rattle.sc_definitions.proofs.PlayedLaws.{value-played}
-use Rattle.sumcheck_run.specs.declared.reply.Outcome.TheVariants.{Holds}
+use Rattle.sumcheck_run.specs.declared.job.Proof.{Proof}
+use Rattle.sumcheck_run.specs.declared.job.Mode.TheVariants.{Build, Check}
+use Rattle.sumcheck_run.specs.declared.shape.ShapeFault.{ShapeFault}
+use Rattle.sumcheck_run.specs.Shape.{shape_fault, proof_fault}
 use Rattle.sumcheck_run.specs.declared.job.Job.{Job}
-use Rattle.sumcheck_run.specs.declared.statements.EqualityStatement.{EqualityStatement}
 use Rattle.sumcheck_run.specs.Reply.{refused}
-use Rattle.sumcheck_run.specs.Lines.{claim_line, round_lines, residual_line, eval_line, weight_line, holds_line, false_claim_text}
-use Rattle.sumcheck_run.specs.Report.{field, statement_of, prefix_problem, problem_of, rules_of, rounds_of, challenges_of, report_of, build_report, judged, judge, IsMatched}
+use Rattle.sumcheck_run.specs.Lines.{claim_line, round_lines, residual_line, eval_line, weight_line, holds_line, shape_fault_text}
+use Rattle.sumcheck_run.specs.Report.{field, statement_of, prefix_problem, judge, judge_mode, judge_shape, build_reply, proved, rounds_in, problem_of, rules_of, rounds_of, challenges_of, report_of, build_report, is_matched, verdict_reply, replayed, check_reply, IsMatched}
+use Rattle.sumcheck_run.specs.Played.{IsReplayed}
 
 -- ---- tables
 
@@ -79,7 +84,7 @@ module _ (o : Ops) (ring : IsRing o) (R : Rules) (h : List Event) (n : ℕ) (f :
   pub report-played : (rounds : List Round) (rs : List ℕ) (claim : ℕ) (f₁ w₁ : ℕ → ℕ) (claim₁ : ℕ) (h₁ : List Event) →
       claim ≡ claim_of o (prefix_problem n f ss c) → f₁ 0 < o.size → w₁ 0 < o.size →
       IsPlayed evaluation prefix o R own_extension 0 n f (weights_of o (prefix_problem n f ss c)) claim h rounds rs 0 f₁ w₁ claim₁ h₁ →
-      claim_line claim ++ round_lines 0 rounds rs ++ residual_line claim₁ ++ eval_line (f₁ 0) ++ weight_line (w₁ 0) ++ holds_line
+      (claim_line claim ++ round_lines 0 rounds rs ++ residual_line claim₁ ++ eval_line (f₁ 0) ++ weight_line (w₁ 0)) ++ holds_line
       ≡ build_report o R h (prefix_problem n f ss c)
   unfolding build_report report_of
   report-played rounds rs claim f₁ w₁ claim₁ h₁ claim_is low high p =
@@ -92,50 +97,96 @@ module _ (o : Ops) (ring : IsRing o) (R : Rules) (h : List Event) (n : ℕ) (f :
       let residual : claim₁ ≡ residual_of o q (messages_of rounds) rs = residual-played rounds rs claim₁ along in
       let eval : f₁ 0 ≡ eval_of o q rs = eval-played f₁ rs low p.evals in
       let weight : w₁ 0 ≡ weight_value_of o q rs = weight-played w₁ rs high p.weights in
-      ap (λ x. claim_line x ++ round_lines 0 rounds rs ++ residual_line claim₁ ++ eval_line (f₁ 0) ++ weight_line (w₁ 0) ++ holds_line) claim_is
-      ∙ ap (λ x. claim_line (claim_of o q) ++ round_lines 0 rounds rs ++ residual_line x ++ eval_line (f₁ 0) ++ weight_line (w₁ 0) ++ holds_line) residual
-      ∙ ap (λ x. claim_line (claim_of o q) ++ round_lines 0 rounds rs ++ residual_line (residual_of o q (messages_of rounds) rs) ++ eval_line x ++ weight_line (w₁ 0) ++ holds_line) eval
-      ∙ ap (λ x. claim_line (claim_of o q) ++ round_lines 0 rounds rs ++ residual_line (residual_of o q (messages_of rounds) rs) ++ eval_line (eval_of o q rs) ++ weight_line x ++ holds_line) weight
-      ∙ ap (λ t. report_of o q t rs) same
-      ∙ ap (report_of o q (rounds_of o R h q)) drawn
+      ap (λ x. (claim_line x ++ round_lines 0 rounds rs ++ residual_line claim₁ ++ eval_line (f₁ 0) ++ weight_line (w₁ 0)) ++ holds_line) claim_is
+      ∙ ap (λ x. (claim_line (claim_of o q) ++ round_lines 0 rounds rs ++ residual_line x ++ eval_line (f₁ 0) ++ weight_line (w₁ 0)) ++ holds_line) residual
+      ∙ ap (λ x. (claim_line (claim_of o q) ++ round_lines 0 rounds rs ++ residual_line (residual_of o q (messages_of rounds) rs) ++ eval_line x ++ weight_line (w₁ 0)) ++ holds_line) eval
+      ∙ ap (λ x. (claim_line (claim_of o q) ++ round_lines 0 rounds rs ++ residual_line (residual_of o q (messages_of rounds) rs) ++ eval_line (eval_of o q rs) ++ weight_line x) ++ holds_line) weight
+      ∙ ap (λ t. report_of o q t rs ++ holds_line) same
+      ∙ ap (λ t. report_of o q (rounds_of o R h q) t ++ holds_line) drawn
+
+  -- the values at a point of as many coordinates
+  pub eval-at : (zs : List ℕ) (x : ℕ) → x ≡ value o f zs → x ≡ eval_of o (prefix_problem n f ss c) zs
+  unfolding eval_of
+  eval-at zs x is = is ∙ ap (value o f) (sym (append-nil zs))
+
+  pub weight-at : (zs : List ℕ) (w₁ : ℕ → ℕ) (x : ℕ) → length zs ≡ n → ((b : ℕ) → b < 2 ^ n → w₁ b ≡ batched_weight o c 0 ss b) → x ≡ value o w₁ zs →
+      x ≡ weight_value_of o (prefix_problem n f ss c) zs
+  unfolding weight_value_of
+  weight-at zs w₁ x size same is =
+      let power : 2 ^ length zs ≡ 2 ^ n = ap (λ k. 2 ^ k) size in
+      is ∙ value-same o w₁ (weights_of o (prefix_problem n f ss c)) zs (λ b low. weights-batched b (w₁ b) (same b (omega (arith, low, power))))
+      ∙ ap (value o (weights_of o (prefix_problem n f ss c))) (sym (append-nil zs))
+
+  -- the lines of rounds that were replayed are their report
+  pub report-replayed : (rounds : List Round) (rs : List ℕ) (claim claim₁ x y : ℕ) (h₁ : List Event) → claim ≡ claim_of o (prefix_problem n f ss c) →
+      IsReplayed o R claim h rounds rs claim₁ h₁ → x ≡ eval_of o (prefix_problem n f ss c) rs → y ≡ weight_value_of o (prefix_problem n f ss c) rs →
+      claim_line claim ++ round_lines 0 rounds rs ++ residual_line claim₁ ++ eval_line x ++ weight_line y
+      ≡ report_of o (prefix_problem n f ss c) rounds (replayed R h rounds)
+  unfolding report_of
+  report-replayed rounds rs claim claim₁ x y h₁ claim_is p eval weight =
+      let q = prefix_problem n f ss c in
+      let residual : claim₁ ≡ residual_of o q (messages_of rounds) rs =
+      residual-played rounds rs claim₁ (p.along ∙ ap (λ t. claim_along (next_claim evaluation o) t (messages_of rounds) rs) claim_is) in
+      ap (λ t. claim_line t ++ round_lines 0 rounds rs ++ residual_line claim₁ ++ eval_line x ++ weight_line y) claim_is
+      ∙ ap (λ t. claim_line (claim_of o q) ++ round_lines 0 rounds rs ++ residual_line t ++ eval_line x ++ weight_line y) residual
+      ∙ ap (λ t. claim_line (claim_of o q) ++ round_lines 0 rounds rs ++ residual_line (residual_of o q (messages_of rounds) rs) ++ eval_line t ++ weight_line y) eval
+      ∙ ap (λ t. claim_line (claim_of o q) ++ round_lines 0 rounds rs ++ residual_line (residual_of o q (messages_of rounds) rs) ++ eval_line (eval_of o q rs) ++ weight_line t) weight
+      ∙ ap (report_of o q rounds) p.drawn
+
+  -- the reply to rounds that were replayed
+  pub reply-replayed : (rounds : List Round) (rs : List ℕ) (claim claim₁ x y : ℕ) (h₁ : List Event) (text : List ℕ) (b : Bool) (found : Option FalseClaim) →
+      claim ≡ claim_of o (prefix_problem n f ss c) → IsReplayed o R claim h rounds rs claim₁ h₁ →
+      x ≡ eval_of o (prefix_problem n f ss c) rs → y ≡ weight_value_of o (prefix_problem n f ss c) rs →
+      text ≡ claim_line claim ++ round_lines 0 rounds rs ++ residual_line claim₁ ++ eval_line x ++ weight_line y →
+      b ≡ (claim₁ == times o x y) → found ≡ first_false_claim o n f 0 ss →
+      verdict_reply b found text ≡ check_reply o R h (prefix_problem n f ss c) rounds
+  unfolding check_reply
+  reply-replayed rounds rs claim claim₁ x y h₁ text b found claim_is p eval weight text_is matched found_is =
+      let q = prefix_problem n f ss c in
+      let residual : claim₁ ≡ residual_of o q (messages_of rounds) rs =
+      residual-played rounds rs claim₁ (p.along ∙ ap (λ t. claim_along (next_claim evaluation o) t (messages_of rounds) rs) claim_is) in
+      let told : b ≡ is_matched o q rounds (replayed R h rounds) =
+      matched ∙ ap (λ t. t == times o x y) residual ∙ ap (λ t. residual_of o q (messages_of rounds) rs == times o t y) eval
+      ∙ ap (λ t. residual_of o q (messages_of rounds) rs == times o (eval_of o q rs) t) weight ∙ ap (is_matched o q rounds) p.drawn in
+      ap (λ t. verdict_reply t found text) told
+      ∙ ap (λ t. verdict_reply (is_matched o q rounds (replayed R h rounds)) t text) found_is
+      ∙ ap (verdict_reply (is_matched o q rounds (replayed R h rounds)) (first_false_claim o n f 0 ss))
+      (text_is ∙ report-replayed rounds rs claim claim₁ x y h₁ claim_is p eval weight)
 
 -- ---- the answer
 
--- the points of the statements behind a slice have as many coordinates as the table has variables
-pub arity-as : {F : Type 0} (ss slice : List (EqualityStatement F)) (n v : ℕ) → slice ≡ ss → n ≡ v → All (λ s. length s.point ≡ v) ss → All (λ s. length s.point ≡ n) slice
-arity-as {F = F} ss slice n v same size all =
-    let P : ℕ → Type 0 = λ k. All (λ s. length s.point ≡ k) ss in
-    let Q : List (EqualityStatement F) → Type 0 = λ t. All (λ s. length s.point ≡ n) t in
-    subst Q (sym same) (subst P (sym size) all)
-
--- what was found false is what the job's reply says
-pub found-as : (job : Job) (n : ℕ) (f : ℕ → ℕ) (ss : List Statement) (found : Option FalseClaim) →
-    n ≡ job.variables → f ≡ rows_of job.table → ss ≡ map statement_of job.claims → found ≡ first_false_claim field n f 0 ss →
-    first_false_claim field job.variables (rows_of job.table) 0 (map statement_of job.claims) ≡ found
-found-as job n f ss found size table statements is =
-    sym (is ∙ ap (λ k. first_false_claim field k f 0 ss) size ∙ ap (λ t. first_false_claim field job.variables t 0 ss) table
-    ∙ ap (first_false_claim field job.variables (rows_of job.table) 0) statements)
-
-pub judge-false : (job : Job) (fault : FalseClaim) → first_false_claim field job.variables (rows_of job.table) 0 (map statement_of job.claims) ≡ Some fault →
-    judge job ≡ refused (false_claim_text fault)
+pub judged-shape : (job : Job) (len : ℕ) (fault : ShapeFault) → len ≡ length job.table → shape_fault len job.variables ≡ Some fault →
+    judge job ≡ refused (shape_fault_text fault)
 unfolding judge
-judge-false job fault is = ap (judged job) is
+judged-shape job len fault size is =
+    let reply = judge_mode job job.mode in
+    ap (λ t. judge_shape t reply) (ap (λ k. shape_fault k job.variables) (sym size) ∙ is)
 
-pub judge-true : (job : Job) (text : List ℕ) (R : Rules) (h : List Event) (n : ℕ) (f : ℕ → ℕ) (ss : List Statement) (c : ℕ) →
-    first_false_claim field job.variables (rows_of job.table) 0 (map statement_of job.claims) ≡ None →
-    text ≡ build_report field R h (prefix_problem n f ss c) →
-    R ≡ rules_of job → h ≡ [] → n ≡ job.variables → f ≡ rows_of job.table → ss ≡ map statement_of job.claims → c ≡ job.batching →
-    judge job ≡ record { outcome = Holds; text = text }
+judged-mode : (job : Job) (len : ℕ) → len ≡ length job.table → shape_fault len job.variables ≡ None → judge job ≡ judge_mode job job.mode
 unfolding judge
-judge-true job text R h n f ss c none is rules start size table statements batching =
-    let rest : text ≡ build_report field (rules_of job) [] (problem_of job) =
-    is ∙ ap (λ x. build_report field x h (prefix_problem n f ss c)) rules
-    ∙ ap (λ x. build_report field (rules_of job) x (prefix_problem n f ss c)) start
-    ∙ ap (λ x. build_report field (rules_of job) [] (prefix_problem x f ss c)) size
-    ∙ ap (λ x. build_report field (rules_of job) [] (prefix_problem job.variables x ss c)) table
-    ∙ ap (λ x. build_report field (rules_of job) [] (prefix_problem job.variables (rows_of job.table) x c)) statements
-    ∙ ap (λ x. build_report field (rules_of job) [] (prefix_problem job.variables (rows_of job.table) (map statement_of job.claims) x)) batching in
-    ap (judged job) none ∙ ap (λ t. record { outcome = Holds; text = t }) (sym rest)
+judged-mode job len size is =
+    let reply = judge_mode job job.mode in
+    ap (λ t. judge_shape t reply) (ap (λ k. shape_fault k job.variables) (sym size) ∙ is)
+
+pub judged-build : (job : Job) (len : ℕ) (R : Rules) (h : List Event) (p : Problem) (batching : ℕ) → len ≡ length job.table → shape_fault len job.variables ≡ None →
+    job.mode ≡ Build → R ≡ rules_of job → h ≡ [] → batching ≡ job.batching →
+    p ≡ prefix_problem job.variables (rows_of job.table) (map statement_of job.claims) batching → build_reply field R h p ≡ judge job
+judged-build job len R h p batching size fits mode rules start same is =
+    ap (λ t. build_reply field t h p) rules ∙ ap (λ t. build_reply field (rules_of job) t p) start
+    ∙ ap (build_reply field (rules_of job) []) (is ∙ ap (prefix_problem job.variables (rows_of job.table) (map statement_of job.claims)) same)
+    ∙ sym (judged-mode job len size fits ∙ ap (judge_mode job) mode)
+
+pub judged-check : (job : Job) (len n : ℕ) (R : Rules) (h : List Event) (p : Problem) (proof : Option Proof) (batching : ℕ) → len ≡ length job.table →
+    shape_fault len job.variables ≡ None → job.mode ≡ Check proof → R ≡ rules_of job → h ≡ [] → batching ≡ job.batching → n ≡ job.variables →
+    p ≡ prefix_problem job.variables (rows_of job.table) (map statement_of job.claims) batching →
+    proved (proof_fault n proof) (check_reply field R h p (rounds_in proof)) ≡ judge job
+judged-check job len n R h p proof batching size fits mode rules start same arity is =
+    ap (λ t. proved (proof_fault t proof) (check_reply field R h p (rounds_in proof))) arity
+    ∙ ap (λ t. proved (proof_fault job.variables proof) (check_reply field t h p (rounds_in proof))) rules
+    ∙ ap (λ t. proved (proof_fault job.variables proof) (check_reply field (rules_of job) t p (rounds_in proof))) start
+    ∙ ap (λ t. proved (proof_fault job.variables proof) (check_reply field (rules_of job) [] t (rounds_in proof)))
+    (is ∙ ap (prefix_problem job.variables (rows_of job.table) (map statement_of job.claims)) same)
+    ∙ sym (judged-mode job len size fits ∙ ap (judge_mode job) mode)
 
 -- true statements leave the product of the two values
 pub matched : (job : Job) → IsMatched job

@@ -1,7 +1,11 @@
 -- One round, from what its calls answer.
-use Rattle.std.proofs.Common.{◌≡◌, ℕ, suc, subst, ◌+◌, ◌<◌, ◌*◌, ◌/◌, ◌^◌, List, [], ◌∷◌, ◌++◌, ap, sym, ◌∙◌, arith, append_assoc}
+use Rattle.std.proofs.Common.{◌≡◌, ℕ, suc, subst, ◌+◌, ◌<◌, ◌*◌, ◌/◌, ◌^◌, List, [], ◌∷◌, ◌++◌, length, map, take, get_or, refl, ap, sym, ◌∙◌, arith, append_assoc}
 use Rattle.std.proofs.Math.Nat.{pow-suc}
-use Rattle.std.proofs.lemmas.List.{append-nil}
+use Rattle.std.proofs.lemmas.List.{append-nil, take_more, map-append}
+use Rattle.std.proofs.lemmas.Grind.{flat_map-append}
+use Rattle.sc_definitions.specs.Rounds.{next_claim, claim_along}
+use Rattle.sc_definitions.proofs.BuiltLaws.{challenges-append, length-challenges, length-messages, messages-append, claim_along-append}
+use Rattle.sumcheck_run.specs.Played.{IsReplayed}
 use Rattle.sc_definitions.specs.declared.events.Event.{Event}
 use Rattle.sc_definitions.specs.declared.events.Event.TheVariants.{Word, Draw}
 use Rattle.sc_definitions.specs.Ring.{Ops, IsRing}
@@ -10,7 +14,7 @@ use Rattle.sc_definitions.specs.Messages.{message_first, message_leading, messag
 use Rattle.sc_definitions.specs.Events.{Rules, own_extension, draws, extension_draw}
 use Rattle.sc_definitions.specs.Played.{IsRound, IsPlayed}
 use Rattle.sc_definitions.proofs.PlayedLaws.{IsPlayed-none, IsPlayed-more}
-use Rattle.sc_definitions.specs.Transcript.{Round, round_of, sent, before_draw, round_events, challenge}
+use Rattle.sc_definitions.specs.Transcript.{Round, round_of, messages_of, sent, before_draw, round_events, rounds_events, challenge}
 
 -- the message of tables of m + 1 variables
 pub message-halves : (o : Ops) (n v m : ℕ) (f w F W : ℕ → ℕ) (a b : ℕ) → n ≡ 2 ^ v → v ≡ m + 1 → F ≡ f → W ≡ w →
@@ -65,3 +69,39 @@ played-more o ring R R₁ n f w claim h rounds rounds' rs rs' v m f₁ w₁ clai
     let A : List Round → Type 0 = λ t. IsPlayed evaluation prefix o R own_extension 0 n f w claim h t (rs ++ r ∷ []) m f₂ w₂ claim₂ h₂ in
     let B : List ℕ → Type 0 = λ t. IsPlayed evaluation prefix o R own_extension 0 n f w claim h rounds' t m f₂ w₂ claim₂ h₂ in
     subst B (sym drawn) (subst A (sym more) whole)
+
+-- ---- rounds that are replayed
+
+-- no round yet
+pub replayed-none : (o : Ops) (R : Rules) (claim : ℕ) (h h' : List Event) (rs : List ℕ) → rs ≡ [] → h' ≡ h → IsReplayed o R claim h [] rs claim h'
+unfolding claim_along
+replayed-none o R claim h h' rs none same =
+    let P : List ℕ → Type 0 = λ t. IsReplayed o R claim h [] t claim h' in
+    subst P (sym none) (record { drawn = refl; history = same ∙ sym (append-nil h); along = refl })
+
+-- one round more
+pub replayed-more : (o : Ops) (R R₁ : Rules) (claim : ℕ) (h : List Event) (rounds rounds' : List Round) (rs rs' : List ℕ) (c₁ : ℕ) (h₁ : List Event)
+    (q : Round) (r : ℕ) (c₂ : ℕ) (h₂ : List Event) → R₁ ≡ R → rounds' ≡ rounds ++ q ∷ [] → rs' ≡ rs ++ r ∷ [] →
+    IsReplayed o R claim h rounds rs c₁ h₁ → r ≡ challenge R₁ own_extension 0 h₁ q → h₂ ≡ h₁ ++ round_events own_extension 0 q →
+    c₂ ≡ next_claim evaluation o c₁ q.values r → IsReplayed o R claim h rounds' rs' c₂ h₂
+replayed-more o R R₁ claim h rounds rounds' rs rs' c₁ h₁ q r c₂ h₂ same_rules more longer p drawn grown next =
+    let so_far = rounds_events own_extension 0 rounds in
+    let whole : IsReplayed o R claim h (rounds ++ q ∷ []) (rs ++ r ∷ []) c₂ h₂ = record {
+      drawn = ap (λ t. rs ++ t ∷ []) (drawn ∙ ap (λ S. challenge S own_extension 0 h₁ q) same_rules ∙ ap (λ t. challenge R own_extension 0 t q) p.history)
+          ∙ ap (λ t. t ++ challenge R own_extension 0 (h ++ so_far) q ∷ []) p.drawn ∙ sym (challenges-append R own_extension 0 h rounds (q ∷ []));
+      history = grown ∙ ap (λ t. t ++ round_events own_extension 0 q) p.history
+          ∙ append_assoc h so_far (round_events own_extension 0 q)
+          ∙ ap (λ t. h ++ t) (sym (flat_map-append (round_events own_extension 0) rounds (q ∷ []) ∙ ap (λ t. so_far ++ t) (append-nil (round_events own_extension 0 q))));
+      along = next ∙ ap (λ c. next_claim evaluation o c q.values r) p.along
+          ∙ sym (ap (λ t. claim_along (next_claim evaluation o) claim t (rs ++ r ∷ [])) (messages-append rounds q)
+          ∙ claim_along-append (next_claim evaluation o) claim (messages_of rounds) rs q.values r
+          (length-messages rounds ∙ sym (ap length p.drawn ∙ length-challenges R own_extension 0 h rounds)));
+    } in
+    let A : List Round → Type 0 = λ t. IsReplayed o R claim h t (rs ++ r ∷ []) c₂ h₂ in
+    let B : List ℕ → Type 0 = λ t. IsReplayed o R claim h rounds' t c₂ h₂ in
+    subst B (sym longer) (subst A (sym more) whole)
+
+-- the first k + 1 of some items
+pub mapped-more : {X Y : Type 0} (f : X → Y) (xs : List X) (k : ℕ) (x : X) → k < length xs → x ≡ get_or xs k x →
+    map f (take (k + 1) xs) ≡ map f (take k xs) ++ f x ∷ []
+mapped-more f xs k x low is = ap (map f) (take_more xs k x low ∙ ap (λ t. take k xs ++ t ∷ []) (sym is)) ∙ map-append f (take k xs) (x ∷ [])

@@ -1,11 +1,18 @@
--- The job that a value describes, where it is of the form that is built.
-use Rattle.std.specs.Prelude.{◌≡◌, ℕ, ◌<◌, ◌≤◌, ◌^◌, ◌==◌, List, length, All, ⊤, codes, nat_le, if◌then◌else◌, Option, Some, None, option_and_then, is_none, flat_map}
+-- The job that a value describes, or why it describes none that is built.
+use Rattle.std.specs.Prelude.{ℕ, ◌<◌, ◌≤◌, List, length, All, ⊤, codes, nat_le, if◌then◌else◌, Option, Some, None, is_some, option_map, option_and_then, flat_map, Result, Ok, Err}
 use Rattle.serde_json.specs.Data.{Data}
-use Rattle.serde_json.specs.Find.{get}
-use Rattle.sc_forms.specs.Forms.{below_form, at_most_form, literal_form, list_form, list_of_length_form, member_form}
+use Rattle.serde_json.specs.Find.{get, as_null}
+use Rattle.sc_forms.specs.Forms.{at_most_form, below_form, either_form, first_other_form, is_object, list_form, list_of_length_form, literal_form, member_form, no_form, pair_form}
+use Rattle.sumcheck_run.specs.Members.{needed, unless_misfit}
 use Rattle.sumcheck_run.specs.Statements.{EqualityFits}
+use Rattle.sumcheck_run.specs.declared.member.Member.TheVariants.{Whole, Field, Challenger, Order, Bits, Table, Variables, Groups, Batching, Mode as ModeMember}
+use Rattle.sumcheck_run.specs.declared.member.Misfit.{Misfit}
+use Rattle.sumcheck_run.specs.declared.member.Misfit.TheVariants.{Bad}
 use Rattle.sumcheck_run.specs.declared.job.Script.{Script}
 use Rattle.sumcheck_run.specs.declared.job.EqualityClaim.{EqualityClaim}
+use Rattle.sumcheck_run.specs.declared.job.Proof.{Proof}
+use Rattle.sumcheck_run.specs.declared.job.Mode.{Mode}
+use Rattle.sumcheck_run.specs.declared.job.Mode.TheVariants.{Build, Check}
 use Rattle.sumcheck_run.specs.declared.job.Job.{Job}
 
 -- the size of the jobs' field
@@ -52,28 +59,62 @@ few_claims claims = if nat_le (length claims) most_statements then Some claims e
 abbrev pub groups_form : ℕ → Data → Option (List EqualityClaim)
 groups_form variables d = option_and_then (λ groups. few_claims (flat_map (λ group. group) groups)) (list_form (group_form variables) d)
 
--- the plain build, and no check
-abbrev pub plain_build_form : Data → Option ⊤
-plain_build_form d =
-    with_member d (codes "build") (literal_form (codes "plain")) (λ plain.
-    if is_none (get (codes "check") d) then Some plain else None)
+-- a proof: the two values of each round, and the witnesses
+abbrev pub proof_form : Data → Option Proof
+proof_form d =
+    with_member d (codes "rounds") (list_form (pair_form element_form)) (λ rounds.
+    with_member d (codes "witnesses") (list_form element_form) (λ witnesses.
+    Some (record { rounds = rounds; witnesses = witnesses })))
 
--- a job over the integers modulo 65537 under a scripted challenger, in prefix order, with no difficulty and equality
--- statements alone, whose table has 2^variables entries, at most 2^24
-abbrev pub job_form : Data → Option Job
-job_form d =
-    with_member d (codes "field") (literal_form (codes "65537")) (λ _.
-    with_member d (codes "challenger") script_form (λ script.
-    with_member d (codes "order") (literal_form (codes "prefix")) (λ _.
-    with_member d (codes "bits") (at_most_form 0) (λ _.
-    with_member d (codes "table") (list_form element_form) (λ table.
-    with_member d (codes "variables") (at_most_form 24) (λ variables.
-    with_member d (codes "groups") (groups_form variables) (λ claims.
-    with_member d (codes "batching") element_form (λ batching.
-    with_member d (codes "mode") plain_build_form (λ _.
-    if length table == 2 ^ variables
-    then Some (record { script = script; table = table; variables = variables; claims = claims; batching = batching })
-    else None)))))))))
+-- a proof, or none
+abbrev pub check_form : Data → Option (Option Proof)
+check_form d = if is_some (as_null d) then Some None else option_map (λ proof. Some proof) (proof_form d)
+
+abbrev pub mode_by : Option Data → Option Data → Option Mode
+mode_by (Some build) None = option_map (λ _. Build) (literal_form (codes "plain") build)
+mode_by None (Some check) = option_map (λ proof. Check proof) (check_form check)
+mode_by None None = None
+mode_by (Some build) (Some check) = None
+
+-- exactly one of a build, which is plain, and a check
+abbrev pub mode_form : Data → Option Mode
+mode_form d = mode_by (get (codes "build") d) (get (codes "check") d)
+
+abbrev pub later_build_by : Option Data → Option Data → Option ⊤
+later_build_by (Some build) None = if is_object build then Some tt else literal_form (codes "represented") build
+later_build_by None check = None
+later_build_by (Some build) (Some check) = None
+
+-- a build by a strategy that is not built yet
+abbrev pub later_build_form : Data → Option ⊤
+later_build_form d = later_build_by (get (codes "build") d) (get (codes "check") d)
+
+-- a group of a kind that is not built yet
+abbrev pub later_group_form : Data → Option ⊤
+later_group_form d = member_form (either_form (literal_form (codes "next")) (literal_form (codes "select"))) (codes "kind") d
+
+-- the claims of all groups; else the first group that is not of its form decides
+abbrev pub needed_groups : ℕ → Data → Result (List EqualityClaim) Misfit
+needed_groups variables d = needed (groups_form variables) (first_other_form (group_form variables) later_group_form) Groups d
+
+-- the members, in the order in which they are tested
+abbrev pub members_of : Data → Result Job Misfit
+members_of d =
+    unless_misfit (needed (literal_form (codes "65537")) (either_form (literal_form (codes "257x2")) (literal_form (codes "16"))) Field d) (λ _.
+    unless_misfit (needed script_form (literal_form (codes "hash")) Challenger d) (λ script.
+    unless_misfit (needed (literal_form (codes "prefix")) (literal_form (codes "suffix")) Order d) (λ _.
+    unless_misfit (needed (at_most_form 0) (at_most_form 65535) Bits d) (λ _.
+    unless_misfit (needed (list_form element_form) no_form Table d) (λ table.
+    unless_misfit (needed (at_most_form 64) no_form Variables d) (λ variables.
+    unless_misfit (needed_groups variables d) (λ claims.
+    unless_misfit (needed element_form no_form Batching d) (λ batching.
+    unless_misfit (needed mode_form later_build_form ModeMember d) (λ mode.
+    Ok (record { script = script; table = table; variables = variables; claims = claims; batching = batching; mode = mode }))))))))))
+
+-- the job that a value describes: one over the integers modulo 65537 under a scripted challenger, in prefix order, with
+-- no difficulty and equality statements alone; else its first member that is not of its form
+abbrev pub job_of : Data → Result Job Misfit
+job_of d = if is_object d then members_of d else Err (Bad Whole)
 
 -- ---- what the numbers of a job that was read have
 
@@ -85,10 +126,19 @@ pub record ScriptFits (s : Script) : Type 0 where
   pub draws : AreElements s.draws
   pub witnesses : All AreElements s.witnesses
 
+pub record ProofFits (p : Proof) : Type 0 where
+  pub rounds : All (λ pair. (pair.0 < field_size) × (pair.1 < field_size)) p.rounds
+  pub witnesses : AreElements p.witnesses
+
+abbrev pub ModeFits : Mode → Type 0
+ModeFits Build = ⊤
+ModeFits (Check None) = ⊤
+ModeFits (Check (Some proof)) = ProofFits proof
+
 pub record JobFits (job : Job) : Type 0 where
   pub script : ScriptFits job.script
   pub table : AreElements job.table
-  pub rows : length job.table ≡ 2 ^ job.variables
-  pub few : job.variables ≤ 24
+  pub few : job.variables ≤ 64
   pub claims : All (EqualityFits field_size job.variables) job.claims
   pub batching : job.batching < field_size
+  pub mode : ModeFits job.mode

@@ -2,6 +2,10 @@
 use Rattle.std.specs.Prelude.{ℕ, suc, List, [], ◌∷◌, ◌++◌, codes, decimal}
 use Rattle.sc_definitions.specs.declared.false_claim.FalseClaim.{FalseClaim}
 use Rattle.sc_definitions.specs.Transcript.{Round}
+use Rattle.sumcheck_run.specs.declared.shape.ShapeFault.{ShapeFault}
+use Rattle.sumcheck_run.specs.declared.shape.ShapeFault.TheVariants.{TableLength, Arity}
+use Rattle.sumcheck_run.specs.declared.shape.ProofFault.{ProofFault}
+use Rattle.sumcheck_run.specs.declared.shape.ProofFault.TheVariants.{MissingSumcheckData, RoundCountMismatch, PowWitnessCountMismatch}
 
 -- numbers, a space before each
 unfoldable pub spaced : List ℕ → List ℕ
@@ -34,6 +38,20 @@ weight_line x = codes "weight " ++ decimal x ++ codes "\n"
 unfoldable pub holds_line : List ℕ
 holds_line = codes "verdict holds\n"
 
+unfoldable pub refuted_line : List ℕ
+refuted_line = codes "verdict refuted\n"
+
 -- what a false statement is refused with
 unfoldable pub false_claim_text : FalseClaim → List ℕ
 false_claim_text c = codes "false-claim " ++ decimal c.statement ++ codes " claimed " ++ decimal c.claimed ++ codes " true " ++ decimal c.actual
+
+-- what a job of a wrong shape is refused with
+unfoldable pub shape_fault_text : ShapeFault → List ℕ
+shape_fault_text (TableLength len) = codes "job-shape table-length " ++ decimal len
+shape_fault_text (Arity expected actual) = codes "job-shape variables " ++ decimal actual ++ codes " expected " ++ decimal expected
+
+-- what a proof of a wrong shape is refused with
+unfoldable pub proof_fault_text : ProofFault → List ℕ
+proof_fault_text (MissingSumcheckData expected_rounds) = codes "missing " ++ decimal expected_rounds
+proof_fault_text (RoundCountMismatch expected actual) = codes "rounds expected " ++ decimal expected ++ codes " actual " ++ decimal actual
+proof_fault_text (PowWitnessCountMismatch expected actual) = codes "witnesses expected " ++ decimal expected ++ codes " actual " ++ decimal actual

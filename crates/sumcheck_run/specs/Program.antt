@@ -1,9 +1,11 @@
 -- The reply to a command line and an input.
-use Rattle.std.specs.Prelude.{ℕ, List, [], ◌∷◌, length, codes, Bool, true, false, Option, Some, None, bytes_eq, nat_lt, if◌then◌else◌}
+use Rattle.std.specs.Prelude.{ℕ, List, [], ◌∷◌, length, codes, Bool, true, false, Option, Some, None, Result, Ok, Err, bytes_eq, nat_lt, if◌then◌else◌}
 use Rattle.serde_json.specs.Data.{Data}
 use Rattle.sc_forms.specs.Values.{value_of}
 use Rattle.sumcheck_run.specs.Reply.{Reply, refused, usage}
-use Rattle.sumcheck_run.specs.Job.{job_form}
+use Rattle.sumcheck_run.specs.Job.{job_of}
+use Rattle.sumcheck_run.specs.Members.{misfit_text}
+use Rattle.sumcheck_run.specs.declared.member.Misfit.{Misfit}
 use Rattle.sumcheck_run.specs.Report.{judge}
 use Rattle.sumcheck_run.specs.declared.job.Job.{Job}
 use Rattle.sumcheck_run.specs.declared.command.Command.{Command}
@@ -19,17 +21,13 @@ too_long = refused (codes "too-long")
 unfoldable pub bad_json : Reply
 bad_json = refused (codes "bad-json")
 
--- a job of a form that is not built yet
-unfoldable pub unbuilt_job : Reply
-unbuilt_job = refused (codes "unbuilt job")
-
-abbrev pub job_reply : Option Job → Reply
-job_reply None = unbuilt_job
-job_reply (Some job) = judge job
+abbrev pub job_reply : Result Job Misfit → Reply
+job_reply (Ok job) = judge job
+job_reply (Err fault) = refused (misfit_text fault)
 
 -- what `audit` replies to a value
 abbrev pub audit_reply : Data → Reply
-audit_reply d = job_reply (job_form d)
+audit_reply d = job_reply (job_of d)
 
 abbrev pub value_reply : (Data → Reply) → Option Data → Reply
 value_reply reply None = bad_json

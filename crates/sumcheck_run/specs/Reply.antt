@@ -1,7 +1,7 @@
 -- What a command line and an input are answered: how it ends, and the text that is written.
 use Rattle.std.specs.Prelude.{ℕ, List, ◌++◌, codes}
 use Rattle.sumcheck_run.specs.declared.reply.Outcome.{Outcome}
-use Rattle.sumcheck_run.specs.declared.reply.Outcome.TheVariants.{Holds, Usage, JobRefused}
+use Rattle.sumcheck_run.specs.declared.reply.Outcome.TheVariants.{Holds, Refuted, Usage, JobRefused, ProofRefused}
 
 pub record Reply : Type 0 where
   pub outcome : Outcome
@@ -10,12 +10,18 @@ pub record Reply : Type 0 where
 -- the status that an outcome has
 abbrev pub code_of : Outcome → ℕ
 code_of Holds = 0
+code_of Refuted = 1
 code_of Usage = 2
 code_of JobRefused = 3
+code_of ProofRefused = 4
 
 -- a refused job, in one line
 unfoldable pub refused : List ℕ → Reply
 refused why = record { outcome = JobRefused; text = codes "refused " ++ why ++ codes "\n" }
+
+-- a refused proof, in one line
+unfoldable pub proof_refused : List ℕ → Reply
+proof_refused why = record { outcome = ProofRefused; text = codes "proof refused " ++ why ++ codes "\n" }
 
 -- the answer to words that are no command
 unfoldable pub usage : Reply

@@ -1,10 +1,13 @@
 //! Numbers as elements of a field.
 ghost use Rattle.std.specs.Prelude.{◌≡◌, ◌<◌, ◌^◌, All, IfOk, length, map};
 ghost use Rattle.sc_definitions.specs.Tables.{rows_of};
+ghost use Rattle.sumcheck_run.specs.Played.{round_sent};
+ghost use Rattle.sumcheck_run.specs.Report.{pairs_in, rounds_in};
 ghost use Rattle.sc_table.specs.Polys.{variables_of, table_of};
 
+use crate::job::Proof;
 use sc_field::{Field, NoMemory};
-use sc_table::{Poly, Row};
+use sc_table::{Poly, RoundMessage, Row};
 use std::alloc::Global;
 
 /// The elements with these numbers, which are below the field's size.
@@ -46,4 +49,25 @@ pub(crate) fn table<F: Field>(
     ensures table { IfOk result (λ p. table_of F.number p ≡ rows_of numbers.now) }
 {
     Ok(Poly::new(elements(alloc, numbers)?))
+}
+
+/// The messages of a proof's rounds; none of no proof.
+pub(crate) fn messages<F: Field>(
+    alloc: Global,
+    proof: Option<Proof>,
+) -> Result<Vec<RoundMessage<F>>, NoMemory>
+    requires { All (λ pair. (pair.0 < F.ops.size) × (pair.1 < F.ops.size)) (pairs_in proof) }
+    ensures { IfOk result (λ v. map (round_sent F.number) v.items ≡ rounds_in proof) }
+{
+    let Some(proof) = proof else {
+        return Ok(Vec::new(alloc));
+    };
+    let mut found = Vec::with_capacity(alloc, proof.rounds.len())?;
+    for pair in proof.rounds.as_slice() {
+        found.push(RoundMessage {
+            c_a: F::element(pair.0),
+            c_inf: F::element(pair.1),
+        })?;
+    }
+    Ok(found)
 }

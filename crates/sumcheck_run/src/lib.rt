@@ -6,20 +6,27 @@
 
 mod command;
 mod elements;
+mod instance;
 mod job;
 mod lines;
+mod member;
 mod program;
+mod reading;
 mod reply;
 mod report;
 mod rounds;
+mod shape;
 mod statements;
 
 pub use command::{Command, needs_input, read_command};
-pub use job::{EqualityClaim, Job, JobForm, Script};
+pub use job::{EqualityClaim, Job, Mode, Proof, Script};
+pub use member::{Member, Misfit, Unread};
 pub use program::{Status, run};
+pub use reading::read_job;
 pub use reply::{Answer, Outcome};
 pub use report::judge_job;
 pub use sc_streams::{Failed, MemSink, MemSource, PlainSource, Sink, Source, StdSink, StdSource};
+pub use shape::{ProofFault, ShapeFault};
 
 #[cfg(test)]
 mod tests;

@@ -1,7 +1,10 @@
 //! The lines of a report, of the numbers in them.
 ghost use Rattle.std.specs.Prelude.{◌≡◌, ◌++◌, [], ◌∷◌, OnOk, IfOk, string_bytes};
-ghost use Rattle.sumcheck_run.specs.Lines.{claim_line, eval_line, false_claim_text, holds_line, residual_line, round_line, spaced, weight_line};
+ghost use Rattle.sumcheck_run.specs.Lines.{claim_line, eval_line, false_claim_text, holds_line, proof_fault_text, refuted_line, residual_line, round_line, shape_fault_text, spaced, weight_line};
+ghost use Rattle.sumcheck_run.specs.Members.{misfit_text};
 
+use crate::member::Misfit;
+use crate::shape::{ProofFault, ShapeFault};
 use sc_definitions::FalseClaim;
 use std::alloc::{AllocError, Global};
 
@@ -64,4 +67,56 @@ pub(crate) fn false_claim_text(alloc: Global, fault: FalseClaim) -> Result<Strin
         actual,
     } = fault;
     format!(in alloc; "false-claim {statement} claimed {claimed} true {actual}")
+}
+
+#[tactic(auto, unfolding(crate::specs::Lines::refuted_line))]
+pub(crate) fn push_refuted(text: &mut String) -> Result<(), AllocError>
+    ensures { OnOk result (string_bytes text.new ≡ string_bytes text.old ++ refuted_line) }
+{
+    text.push_str("verdict refuted\n")
+}
+
+#[tactic(auto, unfolding(crate::specs::Members::misfit_text))]
+pub(crate) fn misfit_text(alloc: Global, fault: Misfit) -> Result<String, AllocError>
+    ensures { IfOk result (λ s. string_bytes s ≡ misfit_text fault) }
+{
+    match fault {
+        Misfit::Bad(member) => {
+            let name = member.name();
+            format!(in alloc; "bad-job {name}")
+        }
+        Misfit::Unbuilt(member) => {
+            let name = member.name();
+            format!(in alloc; "unbuilt {name}")
+        }
+    }
+}
+
+#[tactic(auto, unfolding(crate::specs::Lines::shape_fault_text))]
+pub(crate) fn shape_fault_text(alloc: Global, fault: ShapeFault) -> Result<String, AllocError>
+    ensures { IfOk result (λ s. string_bytes s ≡ shape_fault_text fault) }
+{
+    match fault {
+        ShapeFault::TableLength { len } => format!(in alloc; "job-shape table-length {len}"),
+        ShapeFault::Arity { expected, actual } => {
+            format!(in alloc; "job-shape variables {actual} expected {expected}")
+        }
+    }
+}
+
+#[tactic(auto, unfolding(crate::specs::Lines::proof_fault_text))]
+pub(crate) fn proof_fault_text(alloc: Global, fault: ProofFault) -> Result<String, AllocError>
+    ensures { IfOk result (λ s. string_bytes s ≡ proof_fault_text fault) }
+{
+    match fault {
+        ProofFault::MissingSumcheckData { expected_rounds } => {
+            format!(in alloc; "missing {expected_rounds}")
+        }
+        ProofFault::RoundCountMismatch { expected, actual } => {
+            format!(in alloc; "rounds expected {expected} actual {actual}")
+        }
+        ProofFault::PowWitnessCountMismatch { expected, actual } => {
+            format!(in alloc; "witnesses expected {expected} actual {actual}")
+        }
+    }
 }

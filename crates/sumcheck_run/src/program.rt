@@ -1,16 +1,19 @@
 //! From bytes to bytes.
 ghost use Rattle.std.specs.Prelude.{◌≡◌, ◌⊎◌, ◌<◌, ◌≤◌, ◌+◌, List, ℕ, Some, None, false, map, string_bytes, IfOk, IsOk, IsErrOf};
 ghost use Rattle.sc_streams.specs.Faults.{HasRisen};
-ghost use Rattle.sumcheck_run.specs.Program.{audit_reply, bad_json, command_of, job_reply, json_reply, max_input, reads_input, reply_of, too_long, unbuilt_job};
-ghost use Rattle.sumcheck_run.specs.Reply.{code_of};
+ghost use Rattle.sumcheck_run.specs.Program.{audit_reply, bad_json, command_of, job_reply, json_reply, max_input, reads_input, reply_of, too_long};
+ghost use Rattle.sumcheck_run.specs.Reply.{code_of, refused};
+ghost use Rattle.sumcheck_run.specs.Members.{misfit_text};
 ghost use Rattle.sumcheck_run.specs.Run.{IsAnswered, IsCutShort, IsRead, WritesReply};
 
 use crate::command::{Command, needs_input, read_command};
-use crate::job::JobForm;
+use crate::lines;
+use crate::member::{Misfit, Unread};
+use crate::reading::read_job;
 use crate::reply::Answer;
 use crate::report::judge_job;
 use sc_field::NoMemory;
-use sc_forms::{Form, Misread, NoValue, read_value};
+use sc_forms::{NoValue, read_value};
 use sc_streams::{ReadFault, Sink, Source, read_all, write_all};
 use std::alloc::Global;
 
@@ -20,12 +23,13 @@ const MAX_INPUT: usize = 67_108_864;
 /// The status that the program ends with.
 #[derive(Clone, Copy, Debug, PartialEq, Eq)]
 pub struct Status {
-    /// 0 a report that holds; 2 usage; 3 a refused job; 6 a read fault; 7 a write fault; 8 want of memory.
+    /// 0 a report that holds; 1 another report; 2 usage; 3 a refused job; 4 a refused proof; 6 a read fault; 7 a write fault;
+    /// 8 want of memory.
     pub code: u8,
 }
 
 // What `audit` replies to an input. The parsed value is given up before the job is judged.
-#[tactic(auto, unfolding(crate::specs::Program::too_long, crate::specs::Program::bad_json, crate::specs::Program::unbuilt_job))]
+#[tactic(auto, unfolding(crate::specs::Program::too_long, crate::specs::Program::bad_json))]
 fn audit(alloc: Global, input: Vec<u8>) -> Result<Answer, NoMemory>
     ensures { IfOk result (λ a. a ≡ json_reply audit_reply input.items) }
 {
@@ -38,13 +42,20 @@ fn audit(alloc: Global, input: Vec<u8>) -> Result<Answer, NoMemory>
         Err(NoValue::NoMemory) => return Err(NoMemory),
     };
     drop(input);
-    let job = JobForm.read(alloc, &value);
+    let job = read_job(alloc, &value);
     drop(value);
     match job {
         Ok(job) => judge_job(alloc, job),
-        Err(Misread::NotOfForm) => Answer::refused(alloc, "unbuilt job"),
-        Err(Misread::NoMemory) => Err(NoMemory),
+        Err(Unread::Misfit(fault)) => refuse_misfit(alloc, fault),
+        Err(Unread::NoMemory) => Err(NoMemory),
     }
+}
+
+fn refuse_misfit(alloc: Global, fault: Misfit) -> Result<Answer, NoMemory>
+    ensures { IfOk result (λ a. a ≡ refused (misfit_text fault)) }
+{
+    let why = lines::misfit_text(alloc, fault)?;
+    Answer::refused(alloc, &why)
 }
 
 fn answer(alloc: Global, command: Option<Command>, input: Vec<u8>) -> Result<Answer, NoMemory>

@@ -1,6 +1,6 @@
 //! What a command line and an input are answered.
 ghost use Rattle.std.specs.Prelude.{◌≡◌, ◌≤◌, ◌++◌, codes, string_bytes, IfOk};
-ghost use Rattle.sumcheck_run.specs.Reply.{Reply, code_of, refused, usage};
+ghost use Rattle.sumcheck_run.specs.Reply.{Reply, code_of, proof_refused, refused, usage};
 
 use sc_field::NoMemory;
 use std::alloc::Global;
@@ -11,10 +11,14 @@ use std::marker::Model;
 pub enum Outcome {
     /// Every statement is true of the table, and the report says so.
     Holds,
+    /// What the proof leaves is not the product of the two values.
+    Refuted,
     /// The words are no command.
     Usage,
-    /// The input is refused.
+    /// The job is refused.
     JobRefused,
+    /// The proof is refused.
+    ProofRefused,
 }
 
 impl Outcome {
@@ -25,8 +29,10 @@ impl Outcome {
     {
         match self {
             Outcome::Holds => 0,
+            Outcome::Refuted => 1,
             Outcome::Usage => 2,
             Outcome::JobRefused => 3,
+            Outcome::ProofRefused => 4,
         }
     }
 }
@@ -62,6 +68,15 @@ impl Answer {
     {
         let text = format!(in alloc; "refused {why}\n")?;
         Ok(Answer::new(Outcome::JobRefused, text))
+    }
+
+    /// A refused proof, in one line.
+    #[tactic(auto, unfolding(crate::specs::Reply::proof_refused))]
+    pub fn proof_refused(alloc: Global, why: &str) -> Result<Self, NoMemory>
+        ensures { IfOk result (λ a. a ≡ proof_refused why.now) }
+    {
+        let text = format!(in alloc; "proof refused {why}\n")?;
+        Ok(Answer::new(Outcome::ProofRefused, text))
     }
 
     /// The answer to words that are no command.

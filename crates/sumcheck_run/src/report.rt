@@ -1,31 +1,37 @@
 //! The answer to a job.
-ghost use Rattle.std.specs.Prelude.{◌≡◌, ◌≤◌, ◌++◌, All, IfOk, OnOk, [], length, map, string_bytes};
+ghost use Rattle.std.specs.Prelude.{◌≡◌, ◌<◌, ◌≤◌, ◌^◌, ◌++◌, All, IfOk, OnOk, [], length, map, string_bytes};
 ghost use Rattle.sc_definitions.specs.Scripted.{scripted_rules};
-ghost use Rattle.sc_table.specs.Polys.{variables_of, table_of};
+ghost use Rattle.sc_table.specs.Polys.{variables_of};
+ghost use Rattle.sumcheck_run.specs.Instance.{problem_shown};
 ghost use Rattle.sumcheck_run.specs.Job.{JobFits, ScriptFits};
-ghost use Rattle.sumcheck_run.specs.Lines.{claim_line, eval_line, false_claim_text, holds_line, residual_line, round_lines, weight_line};
-ghost use Rattle.sumcheck_run.specs.Played.{drawn_of, sent_of};
-ghost use Rattle.sumcheck_run.specs.Reply.{refused};
-ghost use Rattle.sumcheck_run.specs.Report.{IsMatched, build_report, judge, prefix_problem};
-ghost use Rattle.sumcheck_run.specs.Statements.{shown_of};
+ghost use Rattle.sumcheck_run.specs.Lines.{claim_line, eval_line, false_claim_text, holds_line, proof_fault_text, residual_line, round_lines, shape_fault_text, weight_line};
+ghost use Rattle.sumcheck_run.specs.Played.{drawn_of, round_sent, sent_of};
+ghost use Rattle.sumcheck_run.specs.Reply.{proof_refused, refused};
+ghost use Rattle.sumcheck_run.specs.Report.{IsMatched, build_reply, build_report, check_reply, judge, pairs_in, prefix_problem, proved, rounds_in, statement_of, verdict_reply};
+ghost use Rattle.sumcheck_run.specs.Statements.{EqualityFits};
+ghost use Rattle.sumcheck_run.specs.Shape.{proof_fault};
+ghost use Rattle.sc_definitions.specs.Tables.{rows_of};
 
-use crate::job::{Job, Script};
+use crate::instance::Instance;
+use crate::job::{EqualityClaim, Job, Mode, Proof, Script};
 use crate::reply::{Answer, Outcome};
-use crate::rounds::{Pair, PlayedRound, play};
-use crate::statements::{EqualityStatement, batch, first_false, statements_of};
+use crate::rounds::{Pair, PlayedRound, challenges_of, play, replay};
+use crate::shape::{ProofFault, ShapeFault, proof_fault, shape_fault};
+use crate::statements::{batch, first_false, statements_of};
 use crate::{elements, lines};
 use sc_challenger::{Challenger, ScriptedChallenger};
 use sc_definitions::FalseClaim;
 use sc_field::{F65537, Field, NoMemory};
-use sc_table::Poly;
+use sc_table::{Point, RoundMessage, Row};
 use std::alloc::Global;
 
-/// The answer to a job: its report, or the refusal of its first false statement.
+/// The answer to a job: its report, or the refusal of its shape, its first false statement or its proof.
+#[tactic(auto, using(crate::proofs::ReportLaws::matched))]
 pub fn judge_job(alloc: Global, job: Job) -> Result<Answer, NoMemory>
     requires { JobFits job }
     ensures reply { IfOk result (λ a. a ≡ judge job) }
 
-    // So the verdict that a report states is right.
+    // So the verdict that a build's report states is right.
     ensures matched { IsMatched job }
 {
     let Job {
@@ -34,20 +40,43 @@ pub fn judge_job(alloc: Global, job: Job) -> Result<Answer, NoMemory>
         variables,
         claims,
         batching,
+        mode,
     } = job;
     let variables = variables as usize;
-    let statements = statements_of::<F65537>(alloc, claims.as_slice(), variables)?;
-    let evals = elements::table::<F65537>(alloc, table.as_slice(), variables)?;
-    drop(table);
-    match first_false(&evals, &statements) {
-        Some(fault) => refuse_claim(alloc, fault),
-        None => {
-            let mut challenger = challenger_of(alloc, script)?;
-            let batching = F65537::element(batching);
-            let text = build(alloc, &mut challenger, evals, &statements, batching)?;
-            Ok(Answer::new(Outcome::Holds, text))
-        }
+    if let Some(fault) = shape_fault(table.len(), variables) {
+        return refuse_shape(alloc, fault);
     }
+    let mut challenger = challenger_of(alloc, script)?;
+    let instance = instance_of(alloc, &claims, &table, variables, F65537::element(batching))?;
+    drop(table);
+    match mode {
+        Mode::Build => judge_build(alloc, &mut challenger, instance),
+        Mode::Check(proof) => judge_check(alloc, &mut challenger, &instance, proof),
+    }
+}
+
+// The elements of a table and of the claims on it.
+fn instance_of<F: Field>(
+    alloc: Global,
+    claims: &Row<EqualityClaim>,
+    table: &Row<u64>,
+    variables: usize,
+    batching: F,
+) -> Result<Instance<F>, NoMemory>
+    requires few { variables ≤ 40 }
+    requires fits { All (λ n. n < F.ops.size) table.now }
+    requires rows { length table.now ≡ 2 ^ variables }
+    requires claims { All (EqualityFits F.ops.size variables) claims.now }
+    ensures { IfOk result (λ i. problem_shown F.number i
+        ≡ prefix_problem variables (rows_of table.now) (map statement_of claims.now) (F.number batching)) }
+{
+    let statements = statements_of(alloc, claims.as_slice(), variables)?;
+    let evals = elements::table(alloc, table.as_slice(), variables)?;
+    Ok(Instance {
+        evals,
+        statements,
+        batching,
+    })
 }
 
 // The challenger with an empty history that a script describes.
@@ -62,28 +91,121 @@ fn challenger_of(alloc: Global, script: Script) -> Result<ScriptedChallenger<F65
     Ok(ScriptedChallenger::new(alloc, draws, good))
 }
 
-// Builds the rounds of a table and its statements, and reports on them.
+// The rounds of a problem are built, unless a statement is false.
+fn judge_build<F: Field, C: Challenger<F>>(
+    alloc: Global,
+    challenger: &mut C,
+    instance: Instance<F>,
+) -> Result<Answer, NoMemory>
+    ensures { IfOk result (λ a. a
+        ≡ build_reply F.ops (C.rules challenger.old) (C.history challenger.old) (problem_shown F.number instance)) }
+{
+    match first_false(&instance.evals, &instance.statements) {
+        Some(fault) => refuse_claim(alloc, fault),
+        None => {
+            let text = build(alloc, challenger, instance)?;
+            Ok(Answer::new(Outcome::Holds, text))
+        }
+    }
+}
+
+// Builds the rounds of a problem, and reports on them.
 fn build<F: Field, C: Challenger<F>>(
     alloc: Global,
     challenger: &mut C,
-    evals: Poly<F>,
-    statements: &[EqualityStatement<F>],
-    batching: F,
+    instance: Instance<F>,
 ) -> Result<String, NoMemory>
-    requires few { variables_of evals ≤ 40 }
-    requires arity { All (λ s. length s.point ≡ variables_of evals) statements.now }
     ensures { IfOk result (λ text. string_bytes text
-        ≡ build_report F.ops (C.rules challenger.old) (C.history challenger.old)
-        (prefix_problem (variables_of evals) (table_of F.number evals) (map (shown_of F.number) statements.now) (F.number batching))) }
+        ≡ build_report F.ops (C.rules challenger.old) (C.history challenger.old) (problem_shown F.number instance)) }
 {
-    let (weights, claim) = batch(alloc, evals.num_variables(), statements, batching)?;
+    let Instance {
+        evals,
+        statements,
+        batching,
+    } = instance;
+    let (weights, claim) = batch(alloc, evals.num_variables(), &statements, batching)?;
     let mut pair = Pair {
         evals,
         weights,
         claim,
     };
     let rounds = play(alloc, challenger, &mut pair)?;
-    report_text(alloc, claim, &rounds, &pair)
+    let eval = pair.evals.as_slice()[0];
+    let weight = pair.weights.as_slice()[0];
+    let mut text = report_text(alloc, claim, &rounds, pair.claim, eval, weight)?;
+    lines::push_holds(&mut text)?;
+    Ok(text)
+}
+
+// A proof of the right shape is replayed.
+fn judge_check<F: Field, C: Challenger<F>>(
+    alloc: Global,
+    challenger: &mut C,
+    instance: &Instance<F>,
+    proof: Option<Proof>,
+) -> Result<Answer, NoMemory>
+    requires { All (λ pair. (pair.0 < F.ops.size) × (pair.1 < F.ops.size)) (pairs_in proof) }
+    ensures { IfOk result (λ a. a ≡ proved (proof_fault (variables_of instance.now.evals) proof)
+        (check_reply F.ops (C.rules challenger.old) (C.history challenger.old) (problem_shown F.number instance.now) (rounds_in proof))) }
+{
+    match proof_fault(instance.evals.num_variables(), &proof) {
+        Some(fault) => refuse_proof(alloc, fault),
+        None => {
+            let messages = elements::messages(alloc, proof)?;
+            judge_rounds(alloc, challenger, instance, &messages)
+        }
+    }
+}
+
+// The report of rounds that are handed in, one for each variable.
+fn judge_rounds<F: Field, C: Challenger<F>>(
+    alloc: Global,
+    challenger: &mut C,
+    instance: &Instance<F>,
+    messages: &[RoundMessage<F>],
+) -> Result<Answer, NoMemory>
+    requires { length messages.now ≡ variables_of instance.now.evals }
+    ensures { IfOk result (λ a. a ≡ check_reply F.ops (C.rules challenger.old) (C.history challenger.old)
+        (problem_shown F.number instance.now) (map (round_sent F.number) messages.now)) }
+{
+    let variables = instance.evals.num_variables();
+    let (weights, claim) = batch(alloc, variables, &instance.statements, instance.batching)?;
+    let (rounds, residual) = replay(alloc, challenger, claim, messages)?;
+    let point = Point::new(challenges_of(alloc, &rounds)?);
+    let eval: F = instance.evals.eval(&point);
+    let weight: F = weights.eval(&point);
+    let text = report_text(alloc, claim, &rounds, residual, eval, weight)?;
+    let matched = residual.index() == eval.mul(weight).index();
+    let fault = first_false(&instance.evals, &instance.statements);
+    say_verdict(alloc, text, matched, fault)
+}
+
+// The verdict on rounds that are handed in, behind their report. What is said of lucky ones comes later.
+fn say_verdict(
+    alloc: Global,
+    report: String,
+    matched: bool,
+    fault: Option<FalseClaim>,
+) -> Result<Answer, NoMemory>
+    ensures { IfOk result (λ a. a ≡ verdict_reply matched fault (string_bytes report)) }
+{
+    let mut text = report;
+    if !matched {
+        lines::push_refuted(&mut text)?;
+        return Ok(Answer::new(Outcome::Refuted, text));
+    }
+    if fault.is_some() {
+        return Answer::refused(alloc, "unbuilt verdict");
+    }
+    lines::push_holds(&mut text)?;
+    Ok(Answer::new(Outcome::Holds, text))
+}
+
+fn refuse_shape(alloc: Global, fault: ShapeFault) -> Result<Answer, NoMemory>
+    ensures { IfOk result (λ a. a ≡ refused (shape_fault_text fault)) }
+{
+    let why = lines::shape_fault_text(alloc, fault)?;
+    Answer::refused(alloc, &why)
 }
 
 fn refuse_claim(alloc: Global, fault: FalseClaim) -> Result<Answer, NoMemory>
@@ -93,26 +215,32 @@ fn refuse_claim(alloc: Global, fault: FalseClaim) -> Result<Answer, NoMemory>
     Answer::refused(alloc, &why)
 }
 
-// The report of rounds that left no variable.
+fn refuse_proof(alloc: Global, fault: ProofFault) -> Result<Answer, NoMemory>
+    ensures { IfOk result (λ a. a ≡ proof_refused (proof_fault_text fault)) }
+{
+    let why = lines::proof_fault_text(alloc, fault)?;
+    Answer::proof_refused(alloc, &why)
+}
+
+// The lines of a report up to the verdict.
 fn report_text<F: Field>(
     alloc: Global,
     claim: F,
     rounds: &[PlayedRound<F>],
-    end: &Pair<F>,
+    residual: F,
+    eval: F,
+    weight: F,
 ) -> Result<String, NoMemory>
-    requires { variables_of end.now.evals ≡ 0 }
     ensures { IfOk result (λ s. string_bytes s ≡ claim_line (F.number claim)
         ++ round_lines 0 (map (sent_of F.number) rounds.now) (map (drawn_of F.number) rounds.now)
-        ++ residual_line (F.number end.now.claim) ++ eval_line (table_of F.number end.now.evals 0)
-        ++ weight_line (table_of F.number end.now.weights 0) ++ holds_line) }
+        ++ residual_line (F.number residual) ++ eval_line (F.number eval) ++ weight_line (F.number weight)) }
 {
     let mut text = String::new(alloc);
     lines::push_claim(&mut text, claim.index())?;
     push_rounds(&mut text, rounds)?;
-    lines::push_residual(&mut text, end.claim.index())?;
-    lines::push_eval(&mut text, end.evals.as_slice()[0].index())?;
-    lines::push_weight(&mut text, end.weights.as_slice()[0].index())?;
-    lines::push_holds(&mut text)?;
+    lines::push_residual(&mut text, residual.index())?;
+    lines::push_eval(&mut text, eval.index())?;
+    lines::push_weight(&mut text, weight.index())?;
     Ok(text)
 }
 

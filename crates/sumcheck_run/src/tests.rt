@@ -33,7 +33,13 @@ const THREE: &str =
 const CUBE: &str =
     r#"{"field":"65537","challenger":{"draws":[10,20,65536],"witnesses":[]},"order":"prefix","bits":0,"table":[3,1,4,1,5,9,2,6],"variables":3,"groups":[{"kind":"eq","claims":[{"point":[0,1,1],"value":1},{"point":[1,0,1],"value":9},{"point":[2,3,5],"value":VALUE}]}],"batching":7,"mode":{"build":"plain"}}"#;
 
-const UNBUILT: &str = "refused unbuilt job\n";
+// The false claim, with a proof of one round; DRAW is its challenge.
+const LUCKY: &str =
+    r#"{"field":"65537","challenger":{"draws":[DRAW],"witnesses":[]},"order":"prefix","bits":0,"table":[1,2],"variables":1,"groups":[{"kind":"eq","claims":[{"point":[0],"value":5}]}],"batching":1,"mode":{"check":{"rounds":[[5,1]],"witnesses":[]}}}"#;
+
+// Two false claims whose batch is true, with the rounds of an honest prover.
+const LUCKY_BATCH: &str =
+    r#"{"field":"65537","challenger":{"draws":[5],"witnesses":[]},"order":"prefix","bits":0,"table":[1,2],"variables":1,"groups":[{"kind":"eq","claims":[{"point":[0],"value":4},{"point":[1],"value":1}]}],"batching":3,"mode":{"check":{"rounds":[[1,2]],"witnesses":[]}}}"#;
 
 // Each word, input, status and text.
 const ROWS: [(&str, &str, u8, &str); 16] = [
@@ -71,69 +77,193 @@ const ROWS: [(&str, &str, u8, &str); 16] = [
     ("audit", "", 3, "refused bad-json\n"),
     ("audit", "{", 3, "refused bad-json\n"),
     ("audit", "[] []", 3, "refused bad-json\n"),
-    ("audit", "[]", 3, UNBUILT),
-    ("audit", "7", 3, UNBUILT),
-    ("audit", "{}", 3, UNBUILT),
+    ("audit", "[]", 3, "refused bad-job job\n"),
+    ("audit", "7", 3, "refused bad-job job\n"),
+    ("audit", "{}", 3, "refused bad-job field\n"),
     ("Audit", FIRST, 2, "usage\n"),
     ("audits", FIRST, 2, "usage\n"),
     ("", FIRST, 2, "usage\n"),
     ("audits", "", 2, "usage\n"),
 ];
 
-// What stands in the first job, and in its place what is not built.
-const CHANGES: [(&str, &str); 42] = [
+// What stands in the first job, what in its place is refused, and by what text.
+const CHANGES: [(&str, &str, &str); 67] = [
     // a member that is missing
-    (r#""field":"65537","#, ""),
-    (r#""challenger":{"draws":[3,4],"witnesses":[]},"#, ""),
-    (r#""draws":[3,4],"#, ""),
-    (r#","witnesses":[]"#, ""),
-    (r#""order":"prefix","#, ""),
-    (r#""bits":0,"#, ""),
-    (r#""table":[1,2,3,4],"#, ""),
-    (r#""variables":2,"#, ""),
+    (r#""field":"65537","#, "", "bad-job field"),
+    (
+        r#""challenger":{"draws":[3,4],"witnesses":[]},"#,
+        "",
+        "bad-job challenger",
+    ),
+    (r#""draws":[3,4],"#, "", "bad-job challenger"),
+    (r#","witnesses":[]"#, "", "bad-job challenger"),
+    (r#""order":"prefix","#, "", "bad-job order"),
+    (r#""bits":0,"#, "", "bad-job bits"),
+    (r#""table":[1,2,3,4],"#, "", "bad-job table"),
+    (r#""variables":2,"#, "", "bad-job variables"),
     (
         r#""groups":[{"kind":"eq","claims":[{"point":[0,1],"value":2}]}],"#,
         "",
+        "bad-job groups",
     ),
-    (r#""kind":"eq","#, ""),
-    (r#","claims":[{"point":[0,1],"value":2}]"#, ""),
-    (r#""point":[0,1],"#, ""),
-    (r#","value":2"#, ""),
-    (r#""batching":1,"#, ""),
-    (r#","mode":{"build":"plain"}"#, ""),
-    (r#""build":"plain""#, ""),
+    (r#""kind":"eq","#, "", "bad-job groups"),
+    (
+        r#","claims":[{"point":[0,1],"value":2}]"#,
+        "",
+        "bad-job groups",
+    ),
+    (r#""point":[0,1],"#, "", "bad-job groups"),
+    (r#","value":2"#, "", "bad-job groups"),
+    (r#""batching":1,"#, "", "bad-job batching"),
+    (r#","mode":{"build":"plain"}"#, "", "bad-job mode"),
+    (r#""build":"plain""#, "", "bad-job mode"),
     // a member of another form
-    (r#""65537""#, r#""16""#),
-    (r#""65537""#, "65537"),
-    (r#"{"draws":[3,4],"witnesses":[]}"#, r#""hash""#),
-    (r#""prefix""#, r#""suffix""#),
-    (r#""bits":0"#, r#""bits":1"#),
-    (r#""eq""#, r#""next""#),
-    (r#"{"build":"plain"}"#, r#"{"check":null}"#),
-    (r#"{"build":"plain"}"#, r#"{"build":"plain","check":null}"#),
-    (r#"{"build":"plain"}"#, r#"{"check":{},"build":"plain"}"#),
-    (r#""plain""#, r#""masked""#),
+    (r#""65537""#, r#""16""#, "unbuilt field"),
+    (r#""65537""#, r#""257x2""#, "unbuilt field"),
+    (r#""65537""#, "65537", "bad-job field"),
+    (r#""65537""#, r#""257""#, "bad-job field"),
+    (
+        r#"{"draws":[3,4],"witnesses":[]}"#,
+        r#""hash""#,
+        "unbuilt challenger",
+    ),
+    (
+        r#"{"draws":[3,4],"witnesses":[]}"#,
+        r#""script""#,
+        "bad-job challenger",
+    ),
+    (r#""prefix""#, r#""suffix""#, "unbuilt order"),
+    (r#""prefix""#, r#""infix""#, "bad-job order"),
+    (r#""bits":0"#, r#""bits":1"#, "unbuilt bits"),
+    (r#""bits":0"#, r#""bits":65535"#, "unbuilt bits"),
+    (r#""bits":0"#, r#""bits":65536"#, "bad-job bits"),
+    (r#""bits":0"#, r#""bits":"0""#, "bad-job bits"),
+    (r#""eq""#, r#""next""#, "unbuilt groups"),
+    (r#""eq""#, r#""select""#, "unbuilt groups"),
+    (r#""eq""#, r#""equal""#, "bad-job groups"),
+    (r#"[{"kind":"eq""#, r#"[7,{"kind":"eq""#, "bad-job groups"),
+    (
+        r#"[{"kind":"eq""#,
+        r#"[{"kind":"next"},7,{"kind":"eq""#,
+        "unbuilt groups",
+    ),
+    (
+        r#"[{"kind":"eq""#,
+        r#"[{"kind":"eq","claims":7},{"kind":"next"},{"kind":"eq""#,
+        "bad-job groups",
+    ),
     (
         r#"[{"kind":"eq","claims":[{"point":[0,1],"value":2}]}]"#,
         "{}",
+        "bad-job groups",
     ),
-    // lengths and sizes
-    ("[1,2,3,4]", "[1,2,3]"),
-    ("[1,2,3,4]", "[1,2,3,4,5]"),
-    (r#""variables":2"#, r#""variables":1"#),
-    (r#""variables":2"#, r#""variables":25"#),
-    (r#""variables":2"#, r#""variables":66"#),
-    ("[0,1]", "[1]"),
-    ("[0,1]", "[0,1,0]"),
+    (
+        r#"{"build":"plain"}"#,
+        r#"{"build":"plain","check":null}"#,
+        "bad-job mode",
+    ),
+    (
+        r#"{"build":"plain"}"#,
+        r#"{"check":{},"build":"represented"}"#,
+        "bad-job mode",
+    ),
+    (r#"{"build":"plain"}"#, r#"{"check":{}}"#, "bad-job mode"),
+    (
+        r#"{"build":"plain"}"#,
+        r#"{"check":{"rounds":[[2,65535,0],[0,65535]],"witnesses":[]}}"#,
+        "bad-job mode",
+    ),
+    (
+        r#"{"build":"plain"}"#,
+        r#"{"check":{"rounds":[[2,65535],[0,65537]],"witnesses":[]}}"#,
+        "bad-job mode",
+    ),
+    (r#""plain""#, r#""represented""#, "unbuilt mode"),
+    (r#""plain""#, r#"{"small-value":2}"#, "unbuilt mode"),
+    (r#""plain""#, r#""masked""#, "bad-job mode"),
+    (r#""plain""#, "null", "bad-job mode"),
+    // points of another length
+    ("[0,1]", "[1]", "bad-job groups"),
+    ("[0,1]", "[0,1,0]", "bad-job groups"),
+    (r#""variables":2"#, r#""variables":1"#, "bad-job groups"),
+    (r#""variables":2"#, r#""variables":64"#, "bad-job groups"),
+    (r#""variables":2"#, r#""variables":65"#, "bad-job variables"),
     // numbers that are no elements
-    ("[1,2,3,4]", "[1,2,1.5,4]"),
-    ("[1,2,3,4]", "[1,2,-1,4]"),
-    ("[1,2,3,4]", "[1,2,3,65537]"),
-    (r#""value":2"#, r#""value":65537"#),
-    ("[0,1]", "[65537,1]"),
-    (r#""batching":1"#, r#""batching":65537"#),
-    (r#""draws":[3,4]"#, r#""draws":[3,65537]"#),
-    (r#""witnesses":[]"#, r#""witnesses":[[65537]]"#),
+    ("[1,2,3,4]", "[1,2,1.5,4]", "bad-job table"),
+    ("[1,2,3,4]", "[1,2,-1,4]", "bad-job table"),
+    ("[1,2,3,4]", "[1,2,-0,4]", "bad-job table"),
+    ("[1,2,3,4]", "[1,2,3,65537]", "bad-job table"),
+    ("[1,2,3,4]", "[1,2,3,18446744073709551616]", "bad-job table"),
+    ("[1,2,3,4]", "[1,2,3e0,4]", "bad-job table"),
+    (r#""value":2"#, r#""value":65537"#, "bad-job groups"),
+    ("[0,1]", "[65537,1]", "bad-job groups"),
+    (r#""batching":1"#, r#""batching":65537"#, "bad-job batching"),
+    (
+        r#""draws":[3,4]"#,
+        r#""draws":[3,65537]"#,
+        "bad-job challenger",
+    ),
+    (
+        r#""witnesses":[]"#,
+        r#""witnesses":[[65537]]"#,
+        "bad-job challenger",
+    ),
+    // a table of another length
+    ("[1,2,3,4]", "[1,2,3]", "job-shape table-length 3"),
+    ("[1,2,3,4]", "[1,2,3,4,5]", "job-shape table-length 5"),
+    ("[1,2,3,4]", "[]", "job-shape table-length 0"),
+    ("[1,2,3,4]", "[1,2]", "job-shape variables 2 expected 1"),
+    (
+        "[1,2,3,4]",
+        "[1,2,3,4,5,6,7,8]",
+        "job-shape variables 2 expected 3",
+    ),
+    // two members, of which the first in order is named
+    (
+        r#""order":"prefix","bits":0"#,
+        r#""order":"infix","bits":1"#,
+        "bad-job order",
+    ),
+    (
+        r#""order":"prefix","bits":0"#,
+        r#""bits":65536,"order":"suffix""#,
+        "unbuilt order",
+    ),
+];
+
+// What stands for the build in the first job, with the status and the text.
+const CHECKS: [(&str, u8, &str); 7] = [
+    (
+        r#"{"check":{"rounds":[[2,65535],[0,65535]],"witnesses":[]}}"#,
+        0,
+        FIRST_TEXT,
+    ),
+    (
+        r#"{"check":{"rounds":[[2,65535],[0,65535]],"witnesses":[],"more":1}}"#,
+        0,
+        FIRST_TEXT,
+    ),
+    (r#"{"check":null}"#, 4, "proof refused missing 2\n"),
+    (
+        r#"{"check":{"rounds":[],"witnesses":[]}}"#,
+        4,
+        "proof refused rounds expected 2 actual 0\n",
+    ),
+    (
+        r#"{"check":{"rounds":[[2,65535]],"witnesses":[]}}"#,
+        4,
+        "proof refused rounds expected 2 actual 1\n",
+    ),
+    (
+        r#"{"check":{"rounds":[[2,65535]],"witnesses":[9]}}"#,
+        4,
+        "proof refused rounds expected 2 actual 1\n",
+    ),
+    (
+        r#"{"check":{"rounds":[[2,65535],[0,65535]],"witnesses":[9]}}"#,
+        4,
+        "proof refused witnesses expected 0 actual 1\n",
+    ),
 ];
 
 // What stands in the first job, and in its place what is read as the same job.
@@ -195,15 +325,76 @@ fn the_first_job_alone(rt: HostRuntime) -> Result<(), Fail> {
 }
 
 #[test]
-fn a_change_of_the_first_job_that_is_not_built(rt: HostRuntime) -> Result<(), Fail> {
+fn a_change_of_the_first_job_that_is_refused(rt: HostRuntime) -> Result<(), Fail> {
     let alloc = rt.alloc();
-    for (old, new) in CHANGES.iter() {
+    for (old, new, why) in CHANGES.iter() {
         let input = FIRST.replace(alloc, *old, *new)?;
         assert_ne!(rt; input.as_str(), FIRST, "{old}");
+        let text = format!(in alloc; "refused {why}\n")?;
         let (code, sink) = audit(alloc, input.as_bytes())?;
         assert_eq!(rt; code, 3, "{input}");
-        assert_eq!(rt; sink.bytes(), UNBUILT.as_bytes(), "{input}");
+        assert_eq!(rt; sink.bytes(), text.as_bytes(), "{input}");
     }
+    Ok(())
+}
+
+#[test]
+fn the_first_job_with_a_proof(rt: HostRuntime) -> Result<(), Fail> {
+    let alloc = rt.alloc();
+    for (mode, code, text) in CHECKS.iter() {
+        let input = FIRST.replace(alloc, r#"{"build":"plain"}"#, *mode)?;
+        let (status, sink) = audit(alloc, input.as_bytes())?;
+        assert_eq!(rt; status, *code, "{mode}");
+        assert_eq!(rt; sink.bytes(), text.as_bytes(), "{mode}");
+    }
+    Ok(())
+}
+
+#[test]
+fn a_table_without_variables_needs_no_proof(rt: HostRuntime) -> Result<(), Fail> {
+    let alloc = rt.alloc();
+    let text = "claim 7\nresidual 7\neval 7\nweight 1\nverdict holds\n";
+    for (mode, code, text) in [
+        (r#"{"check":null}"#, 0, text),
+        (r#"{"check":{"rounds":[],"witnesses":[]}}"#, 0, text),
+        (
+            r#"{"check":{"rounds":[[1,2]],"witnesses":[]}}"#,
+            4,
+            "proof refused rounds expected 0 actual 1\n",
+        ),
+    ] {
+        let input = NO_VARIABLE.replace(alloc, r#"{"build":"plain"}"#, mode)?;
+        let (status, sink) = audit(alloc, input.as_bytes())?;
+        assert_eq!(rt; status, code, "{mode}");
+        assert_eq!(rt; sink.bytes(), text.as_bytes(), "{mode}");
+    }
+    Ok(())
+}
+
+#[test]
+fn a_false_claim_is_refuted_unless_the_draw_is_lucky(rt: HostRuntime) -> Result<(), Fail> {
+    let alloc = rt.alloc();
+    for (draw, code, text) in [
+        (
+            "3",
+            1,
+            "claim 5\nround 0: 5 1 challenge 3\nresidual 65533\neval 4\nweight 65535\nverdict refuted\n",
+        ),
+        ("2", 3, "refused unbuilt verdict\n"),
+    ] {
+        let input = LUCKY.replace(alloc, "DRAW", draw)?;
+        let (status, sink) = audit(alloc, input.as_bytes())?;
+        assert_eq!(rt; status, code, "{draw}");
+        assert_eq!(rt; sink.bytes(), text.as_bytes(), "{draw}");
+    }
+    Ok(())
+}
+
+#[test]
+fn a_lucky_batch_waits_for_its_verdict(rt: HostRuntime) -> Result<(), Fail> {
+    let (code, sink) = audit(rt.alloc(), LUCKY_BATCH.as_bytes())?;
+    assert_eq!(rt; code, 3);
+    assert_eq!(rt; sink.bytes(), b"refused unbuilt verdict\n".as_slice());
     Ok(())
 }
 
@@ -226,7 +417,7 @@ fn the_last_of_two_members_counts_where_it_is_refused(rt: HostRuntime) -> Result
     let input = FIRST.replace(alloc, r#""prefix""#, r#""prefix","order":"suffix""#)?;
     let (code, sink) = audit(alloc, input.as_bytes())?;
     assert_eq!(rt; code, 3);
-    assert_eq!(rt; sink.bytes(), UNBUILT.as_bytes());
+    assert_eq!(rt; sink.bytes(), b"refused unbuilt order\n".as_slice());
     Ok(())
 }
 
@@ -484,8 +675,8 @@ fn a_job_has_at_most_4096_statements(rt: HostRuntime) -> Result<(), Fail> {
     for (counts, code, text) in [
         ([4096, 0], 0, text),
         ([4000, 96], 0, text),
-        ([4097, 0], 3, UNBUILT),
-        ([4096, 1], 3, UNBUILT),
+        ([4097, 0], 3, "refused bad-job groups\n"),
+        ([4096, 1], 3, "refused bad-job groups\n"),
     ] {
         let input = job_of_groups(alloc, &counts)?;
         let (status, sink) = audit(alloc, input.as_bytes())?;

@@ -1,6 +1,7 @@
-use Rattle.std.proofs.Common.{◌≡◌, ◌++◌, ◌^◌, map, ◌∙◌, ap, refl, arith}
-use Rattle.std.proofs.lemmas.Result.{IfOk-weaker}
+use Rattle.std.proofs.Common.{◌≡◌, ◌++◌, ◌^◌, map, sym, string_bytes, ◌∙◌, ap, refl, arith}
+use Rattle.sc_table.proofs.EntryLaws.{entry-read}
 use Rattle.sc_definitions.specs.Problem.{weights_of}
+use Rattle.sc_definitions.specs.Statements.{batched_claim, batched_weight}
 use Rattle.sc_definitions.proofs.RingLaws.{size_pos}
 use Rattle.sc_table.specs.declared.poly.Poly.{Poly}
 use Rattle.sc_table.specs.Polys.{variables_of, table_of}
@@ -18,18 +19,33 @@ returns g c =
     let ring = g.met.F.Field.is_field.ring in
     let R = g.C.Challenger.rules c.args.challenger.now in
     let h = g.C.Challenger.history c.args.challenger.now in
-    let n = variables_of c.args.evals in
-    let f = table_of N c.args.evals in
-    let ss = map (shown_of N) c.args.statements.now in
-    let batching = N c.args.batching in
+    let i = c.args.instance in
+    let n = variables_of i.evals in
+    let f = table_of N i.evals in
+    let ss = map (shown_of N) i.statements.items in
+    let batching = N i.batching in
     let end = c.play.new.pair in
     let power : 2 ^ c.num_variables.result ≡ 2 ^ n = ap (λ k. 2 ^ k) c.num_variables.ensures in
-    let claim = claim-batched o ring R h n f ss batching _ c.in_ok-weights.ensures.claim in
+    let claim = claim-batched o ring R h n f ss batching _ (c.in_ok-weights.ensures.claim ∙ ap (λ t. batched_claim o batching 0 (map (shown_of N) t)) c.deref.ensures.value) in
     let played = c.in_ok-rounds.ensures.played f (weights_of o (prefix_problem n f ss batching)) (λ b _. refl)
-    (λ b low. weights-batched o ring R h n f ss batching b _ (c.in_ok-weights.ensures.weights b (omega (arith, low, power)))) in
+    (λ b low. weights-batched o ring R h n f ss batching b _
+    (c.in_ok-weights.ensures.weights b (omega (arith, low, power)) ∙ ap (λ t. batched_weight o batching 0 (map (shown_of N) t) b) c.deref.ensures.value)) in
     let below = λ (t : Poly g.row.F.Denot). entry-below N o.size (size_pos o ring) g.met.F.Field.number_below t.evals.items 0 in
     let lines = report-played o ring R h n f ss batching _ _ _ _ _ _ _ claim (below end.evals) (below end.weights) played in
-    IfOk-weaker c.report_text.result _ _
-    (λ text e. e ∙ ap (λ xs. claim_line (N c.in_ok-weights.claim) ++ round_lines 0 (map (sent_of N) xs) (map (drawn_of N) xs) ++ residual_line (N end.claim)
-    ++ eval_line (table_of N end.evals 0) ++ weight_line (table_of N end.weights 0) ++ holds_line) c.deref.ensures.value ∙ lines)
-    c.report_text.ensures
+    let one : 2 ^ variables_of end.evals ≡ 1 = ap (λ k. 2 ^ k) c.in_ok-rounds.ensures.none_left in
+    let one_too : 2 ^ variables_of end.weights ≡ 1 = ap (λ k. 2 ^ k) (sym end.same ∙ c.in_ok-rounds.ensures.none_left) in
+    let eval : N c.index-as_slice-0.result ≡ table_of N end.evals 0 =
+    sym (entry-read N c.as_slice.result.now 0 c.index-as_slice-0.result (omega (arith, c.as_slice.ensures.size, one)) c.index-as_slice-0.is) ∙ ap (λ t. t 0) c.as_slice.ensures.numbers in
+    let weight : N c.index-as_slice-0-2.result ≡ table_of N end.weights 0 =
+    sym (entry-read N c.as_slice-2.result.now 0 c.index-as_slice-0-2.result (omega (arith, c.as_slice-2.ensures.size, one_too)) c.index-as_slice-0-2.is) ∙ ap (λ t. t 0) c.as_slice-2.ensures.numbers in
+    let first = claim_line (N c.in_ok-weights.claim) in
+    let text : string_bytes c.in_ok-text.text ≡ first ++ round_lines 0 (map (sent_of N) c.in_ok-rounds.rounds.items) (map (drawn_of N) c.in_ok-rounds.rounds.items)
+    ++ residual_line (N end.claim) ++ eval_line (table_of N end.evals 0) ++ weight_line (table_of N end.weights 0) =
+    c.in_ok-text.ensures
+    ∙ ap (λ xs. first ++ round_lines 0 (map (sent_of N) xs) (map (drawn_of N) xs) ++ residual_line (N end.claim) ++ eval_line (N c.index-as_slice-0.result)
+    ++ weight_line (N c.index-as_slice-0-2.result)) c.deref-2.ensures.value
+    ∙ ap (λ x. first ++ round_lines 0 (map (sent_of N) c.in_ok-rounds.rounds.items) (map (drawn_of N) c.in_ok-rounds.rounds.items) ++ residual_line (N end.claim) ++ eval_line x
+    ++ weight_line (N c.index-as_slice-0-2.result)) eval
+    ∙ ap (λ x. first ++ round_lines 0 (map (sent_of N) c.in_ok-rounds.rounds.items) (map (drawn_of N) c.in_ok-rounds.rounds.items) ++ residual_line (N end.claim)
+    ++ eval_line (table_of N end.evals 0) ++ weight_line x) weight in
+    c.in_ok-push_holds.ensures ∙ ap (λ t. t ++ holds_line) text ∙ lines

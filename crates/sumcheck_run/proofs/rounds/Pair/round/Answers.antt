@@ -1,11 +1,9 @@
-use Rattle.std.proofs.Common.{◌≡◌, ℕ, ◌^◌, ◌<◌, sym, ◌∙◌, ap, subst, refl, arith}
+use Rattle.std.proofs.Common.{◌≡◌, ℕ, ◌^◌, ◌<◌, subst, refl, arith}
 use Rattle.sc_definitions.specs.Tables.{bound}
-use Rattle.sc_definitions.specs.Rounds.{extrapolated}
 use Rattle.sc_definitions.specs.Transcript.{HasFirstWitness}
-use Rattle.sc_definitions.proofs.MessageLaws.{next_claim-extrapolated}
 use Rattle.sc_table.specs.Polys.{variables_of, table_of}
 use Rattle.sumcheck_run.proofs.Lengths.{even_power}
-use Rattle.sumcheck_run.proofs.RoundSteps.{message-halves, challenge-drawn, history-grown}
+use Rattle.sumcheck_run.proofs.RoundSteps.{message-halves}
 use Rattle.sumcheck_run.proofs.rounds.Pair.round.Goals as goal
 
 pub sumcheck_coefficients_prefix-message-requires-clause-even : goal.sumcheck_coefficients_prefix-message-requires-clause-even
@@ -29,14 +27,10 @@ returns-clause-round g c =
           c.as_slice.ensures.numbers c.as_slice-2.ensures.numbers
           c.sumcheck_coefficients_prefix-message.ensures.first c.sumcheck_coefficients_prefix-message.ensures.leading;
       witness = refl;
-      drawn = c.in_ok-challenge.ensures.drawn
-          ∙ ap (λ q. q.draw (h c.observe-2.new.self)) (c.observe-2.ensures.rules ∙ c.observe.ensures.rules)
-          ∙ challenge-drawn (R before) (h before) _ _ a b c.in_ok-observe.ensures.ok c.in_ok-observe-2.ensures.ok;
-      history = history-grown (h before) _ _ _ a b c.in_ok-observe.ensures.ok c.in_ok-observe-2.ensures.ok c.in_ok-challenge.ensures.ok;
+      drawn = c.in_ok-challenge.ensures.drawn;
+      history = c.in_ok-challenge.ensures.history;
       evals = λ k low. c.fix_prefix_var_mut.ensures.bound k low;
       weights = λ k low. (let P : ℕ → Type 0 = λ n. k < 2 ^ n → table_of f.number c.fix_prefix_var_mut-2.new.self k ≡ bound f.ops (2 ^ n) r (table_of f.number c.args.self.now.weights) k in
           subst P same (c.fix_prefix_var_mut-2.ensures.bound k)) low;
-      next = c.extrapolate_01inf-self.ensures.value
-          ∙ ap (λ d. extrapolated f.ops a d b r) c.sub-at_one.ensures
-          ∙ sym (next_claim-extrapolated f.ops ring (f.number c.args.self.now.claim) a b r);
+      next = c.in_ok-challenge.ensures.next;
     }

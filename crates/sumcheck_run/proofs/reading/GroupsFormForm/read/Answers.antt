@@ -2,7 +2,7 @@ use Rattle.std.proofs.Common.{All, sym, subst}
 use Rattle.sumcheck_run.specs.Job.{field_size}
 use Rattle.sumcheck_run.specs.Statements.{EqualityFits}
 use Rattle.sumcheck_run.proofs.Joined.{All-joined}
-use Rattle.sumcheck_run.proofs.job.GroupsFormForm.read.Goals as goal
+use Rattle.sumcheck_run.proofs.reading.GroupsFormForm.read.Goals as goal
 
 pub returns-clause-fits : goal.returns-clause-fits
 returns-clause-fits c =

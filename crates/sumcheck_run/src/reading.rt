@@ -1,0 +1,326 @@
+//! The job that a JSON value describes, or the first member that is not of its built form.
+ghost use Rattle.std.specs.Prelude.{◌≡◌, ◌<◌, ◌≤◌, All, Option, Some, None, Ok, Err, IfOk, IsErrOf, length, flat_map};
+ghost use Rattle.serde_json.specs.View.{view};
+ghost use Rattle.sc_forms.specs.Forms.{either_form, literal_form};
+ghost use Rattle.sumcheck_run.specs.Job.{JobFits, ProofFits, ModeFits, ScriptFits, check_form, claim_form, field_size, group_form, groups_form, job_of, later_build_form, later_group_form, mode_form, most_statements, needed_groups, proof_form, script_form};
+ghost use Rattle.sumcheck_run.specs.Statements.{EqualityFits};
+
+use crate::job::{EqualityClaim, Job, Mode, Proof, Script};
+use crate::member::{Member, Misfit, Unread, need};
+use sc_forms::{
+    AtMost, Below, Either, FirstOther, Form, ListOf, ListOfLength, Literal, Misread, NoForm,
+    PairOf, is_object, member,
+};
+use sc_table::Row;
+use serde_json::Value;
+use std::alloc::Global;
+
+// The size of the jobs' field.
+const FIELD_SIZE: u64 = 65537;
+
+// The greatest number of statements in a job.
+const MOST_STATEMENTS: usize = 4096;
+
+// The greatest number of a point's coordinates.
+const MOST_VARIABLES: u64 = 64;
+
+// The greatest difficulty that a job can name.
+const MOST_BITS: u64 = 65535;
+
+// An element of the jobs' field, by its number.
+const ELEMENT: Below = Below { bound: FIELD_SIZE };
+
+#[derive(Clone, Copy)]
+struct ScriptForm;
+
+impl Form for ScriptForm {
+    type Out = Script;
+
+    ghost reads = { λ _. script_form };
+
+    ghost fits = { λ _ script. ScriptFits script };
+
+    fn read(&self, alloc: Global, value: &Value) -> Result<Script, Misread> {
+        let list = ListOf { item: ELEMENT };
+        let draws = member(alloc, &list, value, "draws")?;
+        let witnesses = member(alloc, &ListOf { item: list }, value, "witnesses")?;
+        Ok(Script { draws, witnesses })
+    }
+}
+
+#[derive(Clone, Copy)]
+struct ClaimForm {
+    variables: usize,
+}
+
+impl Form for ClaimForm {
+    type Out = EqualityClaim;
+
+    ghost reads = { λ form. claim_form form.variables };
+
+    ghost fits = { λ form claim. EqualityFits field_size form.variables claim };
+
+    fn read(&self, alloc: Global, value: &Value) -> Result<EqualityClaim, Misread> {
+        let coordinates = ListOfLength {
+            item: ELEMENT,
+            length: self.variables,
+        };
+        let point = member(alloc, &coordinates, value, "point")?;
+        let claimed = member(alloc, &ELEMENT, value, "value")?;
+        Ok(EqualityClaim {
+            point,
+            value: claimed,
+        })
+    }
+}
+
+#[derive(Clone, Copy)]
+struct GroupForm {
+    variables: usize,
+}
+
+impl Form for GroupForm {
+    type Out = Row<EqualityClaim>;
+
+    ghost reads = { λ form. group_form form.variables };
+
+    ghost fits = { λ form claims. All (EqualityFits field_size form.variables) claims };
+
+    fn read(&self, alloc: Global, value: &Value) -> Result<Row<EqualityClaim>, Misread> {
+        member(alloc, &Literal { text: "eq" }, value, "kind")?;
+        let claims = ListOf {
+            item: ClaimForm {
+                variables: self.variables,
+            },
+        };
+        member(alloc, &claims, value, "claims")
+    }
+}
+
+#[derive(Clone, Copy)]
+struct GroupsForm {
+    variables: usize,
+}
+
+impl Form for GroupsForm {
+    type Out = Row<EqualityClaim>;
+
+    ghost reads = { λ form. groups_form form.variables };
+
+    ghost fits = { λ form claims. All (EqualityFits field_size form.variables) claims };
+
+    fn read(&self, alloc: Global, value: &Value) -> Result<Row<EqualityClaim>, Misread> {
+        let groups = ListOf {
+            item: GroupForm {
+                variables: self.variables,
+            },
+        };
+        let claims = joined(alloc, groups.read(alloc, value)?)?;
+        if claims.len() > MOST_STATEMENTS {
+            return Err(Misread::NotOfForm);
+        }
+        Ok(claims)
+    }
+}
+
+// The claims of all groups in one list.
+fn joined(alloc: Global, groups: Row<Row<EqualityClaim>>) -> Result<Row<EqualityClaim>, Misread>
+    ensures joined { IfOk result (λ claims. claims ≡ flat_map (λ group. group) groups) }
+    ensures memory { ¬ IsErrOf result Misread.NotOfForm }
+{
+    let mut claims = Vec::new(alloc);
+    for group in groups.into_vec() {
+        claims.append(&mut group.into_vec())?;
+    }
+    Ok(Row::new(claims))
+}
+
+#[derive(Clone, Copy)]
+struct ProofForm;
+
+impl Form for ProofForm {
+    type Out = Proof;
+
+    ghost reads = { λ _. proof_form };
+
+    ghost fits = { λ _ proof. ProofFits proof };
+
+    fn read(&self, alloc: Global, value: &Value) -> Result<Proof, Misread> {
+        let pairs = ListOf {
+            item: PairOf { item: ELEMENT },
+        };
+        let rounds = member(alloc, &pairs, value, "rounds")?;
+        let witnesses = member(alloc, &ListOf { item: ELEMENT }, value, "witnesses")?;
+        Ok(Proof { rounds, witnesses })
+    }
+}
+
+// No proof, or one.
+#[derive(Clone, Copy)]
+struct CheckForm;
+
+impl Form for CheckForm {
+    ghost use Rattle.sumcheck_run.specs.declared.job.Mode.TheVariants.{Check};
+
+    type Out = Option<Proof>;
+
+    ghost reads = { λ _. check_form };
+
+    ghost fits = { λ _ proof. ModeFits (Check proof) };
+
+    fn read(&self, alloc: Global, value: &Value) -> Result<Option<Proof>, Misread> {
+        if value.is_null() {
+            return Ok(None);
+        }
+        Ok(Some(ProofForm.read(alloc, value)?))
+    }
+}
+
+#[derive(Clone, Copy)]
+struct ModeForm;
+
+impl Form for ModeForm {
+    type Out = Mode;
+
+    ghost reads = { λ _. mode_form };
+
+    ghost fits = { λ _ mode. ModeFits mode };
+
+    fn read(&self, alloc: Global, value: &Value) -> Result<Mode, Misread> {
+        match (value.get("build"), value.get("check")) {
+            (Some(build), None) => {
+                Literal { text: "plain" }.read(alloc, build)?;
+                Ok(Mode::Build)
+            }
+            (None, Some(check)) => Ok(Mode::Check(CheckForm.read(alloc, check)?)),
+            _ => Err(Misread::NotOfForm),
+        }
+    }
+}
+
+// A build by a strategy that is not built yet: represented, or one with members of its own.
+#[derive(Clone, Copy)]
+struct LaterBuildForm;
+
+impl Form for LaterBuildForm {
+    type Out = ();
+
+    ghost reads = { λ _. later_build_form };
+
+    fn read(&self, alloc: Global, value: &Value) -> Result<(), Misread> {
+        let (Some(build), None) = (value.get("build"), value.get("check")) else {
+            return Err(Misread::NotOfForm);
+        };
+        if is_object(build) {
+            return Ok(());
+        }
+        Literal {
+            text: "represented",
+        }
+        .read(alloc, build)
+    }
+}
+
+// The kind of a group that is not built yet.
+#[derive(Clone, Copy)]
+struct LaterGroupForm;
+
+impl Form for LaterGroupForm {
+    type Out = ();
+
+    ghost reads = { λ _. later_group_form };
+
+    fn read(&self, alloc: Global, value: &Value) -> Result<(), Misread> {
+        let kinds = Either {
+            left: Literal { text: "next" },
+            right: Literal { text: "select" },
+        };
+        member(alloc, &kinds, value, "kind")
+    }
+}
+
+/// The job that a value describes, or its first member that is not of its built form.
+pub fn read_job(alloc: Global, value: &Value) -> Result<Job, Unread>
+    ensures job { IfOk result (λ job. job_of (view value.now) ≡ Ok job) }
+    ensures misfit { (fault : Misfit) → result ≡ Err (Unread.Misfit fault)
+        → job_of (view value.now) ≡ Err fault }
+    ensures fits { IfOk result (λ job. JobFits job) }
+{
+    if !is_object(value) {
+        return Err(Unread::Misfit(Misfit::Bad(Member::Whole)));
+    }
+    let later_fields = Either {
+        left: Literal { text: "257x2" },
+        right: Literal { text: "16" },
+    };
+    need(
+        alloc,
+        &Literal { text: "65537" },
+        &later_fields,
+        value,
+        Member::Field,
+    )?;
+    let script = need(
+        alloc,
+        &ScriptForm,
+        &Literal { text: "hash" },
+        value,
+        Member::Challenger,
+    )?;
+    need(
+        alloc,
+        &Literal { text: "prefix" },
+        &Literal { text: "suffix" },
+        value,
+        Member::Order,
+    )?;
+    need(
+        alloc,
+        &AtMost { most: 0 },
+        &AtMost { most: MOST_BITS },
+        value,
+        Member::Bits,
+    )?;
+    let table = need(
+        alloc,
+        &ListOf { item: ELEMENT },
+        &NoForm,
+        value,
+        Member::Table,
+    )?;
+    let most = AtMost {
+        most: MOST_VARIABLES,
+    };
+    let variables = need(alloc, &most, &NoForm, value, Member::Variables)?;
+    let claims = read_groups(alloc, value, variables as usize)?;
+    let batching = need(alloc, &ELEMENT, &NoForm, value, Member::Batching)?;
+    let mode = need(alloc, &ModeForm, &LaterBuildForm, value, Member::Mode)?;
+    Ok(Job {
+        script,
+        table,
+        variables,
+        claims,
+        batching,
+        mode,
+    })
+}
+
+// The claims of all groups of a job.
+fn read_groups(alloc: Global, value: &Value, variables: usize) -> Result<Row<EqualityClaim>, Unread>
+    ensures ok { IfOk result (λ claims. needed_groups variables (view value.now) ≡ Ok claims) }
+    ensures misfit { (fault : Misfit) → result ≡ Err (Unread.Misfit fault)
+        → needed_groups variables (view value.now) ≡ Err fault }
+    ensures fits { IfOk result (λ claims. All (EqualityFits field_size variables) claims) }
+{
+    let later = FirstOther {
+        item: GroupForm { variables },
+        other: LaterGroupForm,
+    };
+    need(
+        alloc,
+        &GroupsForm { variables },
+        &later,
+        value,
+        Member::Groups,
+    )
+}
