@@ -3,6 +3,7 @@ ghost use Rattle.std.specs.Prelude.{◌≡◌, ℕ, ◌+◌, ◌≤◌, List, []
 ghost use Rattle.sc_definitions.specs.Events.{Rules};
 
 use sc_field::{Field, NoMemory};
+use std::alloc::Global;
 
 /// The party that a transcript is played with. It has a history, the list of what was observed and
 /// drawn, and each answer follows from the history alone, by rules that belong to the challenger.
@@ -48,4 +49,9 @@ pub trait Challenger<F: Field>: Drop {
         ensures ok { OnOk result (events ≤ spare self.new) }
         ensures never_lowers { spare self.old ≤ spare self.new }
         ensures has_room { events ≤ spare self.old → IsOk result };
+
+    /// An equal challenger: one of the same rules, with a history of its own that begins as this one stands.
+    fn copy(&self, alloc: Global) -> Result<Self, NoMemory>
+        ensures rules { IfOk result (λ c. rules c ≡ rules self.now) }
+        ensures history { IfOk result (λ c. history c ≡ history self.now) };
 }

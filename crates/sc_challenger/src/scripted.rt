@@ -68,4 +68,19 @@ impl<F: Field> Challenger<F> for ScriptedChallenger<F> {
         self.events.reserve(events)?;
         Ok(())
     }
+
+    fn copy(&self, alloc: Global) -> Result<Self, NoMemory> {
+        let events = Vec::from_slice(alloc, &self.events)?;
+        let draws = Vec::from_slice(alloc, &self.draws)?;
+        let mut good = Vec::with_capacity(alloc, self.good.len())?;
+        for list in &self.good {
+            good.push(Vec::from_slice(alloc, list)?)?;
+        }
+        Ok(ScriptedChallenger {
+            events,
+            drawn: self.drawn,
+            draws,
+            good,
+        })
+    }
 }
