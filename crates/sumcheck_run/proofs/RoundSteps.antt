@@ -9,7 +9,7 @@ use Rattle.sumcheck_run.specs.Played.{IsReplayed}
 use Rattle.sc_definitions.specs.declared.events.Event.{Event}
 use Rattle.sc_definitions.specs.declared.events.Event.TheVariants.{Word, Draw}
 use Rattle.sc_definitions.specs.Ring.{Ops, IsRing}
-use Rattle.sc_definitions.specs.Tables.{evaluation, prefix}
+use Rattle.sc_definitions.specs.Tables.{evaluation, prefix, bound_by}
 use Rattle.sc_definitions.specs.Messages.{message_first, message_leading, message_of}
 use Rattle.sc_definitions.specs.Events.{Rules, own_extension, draws, extension_draw}
 use Rattle.sc_definitions.specs.Played.{IsRound, IsPlayed}
@@ -100,6 +100,30 @@ replayed-more o R R₁ claim h rounds rounds' rs rs' c₁ h₁ q r c₂ h₂ sam
     let A : List Round → Type 0 = λ t. IsReplayed o R claim h t (rs ++ r ∷ []) c₂ h₂ in
     let B : List ℕ → Type 0 = λ t. IsReplayed o R claim h rounds' t c₂ h₂ in
     subst B (sym longer) (subst A (sym more) whole)
+
+-- rounds that were played on a copy, and replayed
+pub played-replayed : (o : Ops) (R R₁ : Rules) (n : ℕ) (f w : ℕ → ℕ) (claim : ℕ) (h h₀ : List Event) (rounds rounds' : List Round) (rs rs' : List ℕ)
+    (f₁ w₁ : ℕ → ℕ) (claim₁ claim₂ : ℕ) (h₁ h₂ : List Event) → R₁ ≡ R → h₀ ≡ h → rounds' ≡ rounds →
+    IsPlayed evaluation prefix o R₁ own_extension 0 n f w claim h₀ rounds rs 0 f₁ w₁ claim₁ h₁ → IsReplayed o R claim h rounds' rs' claim₂ h₂ →
+    IsPlayed evaluation prefix o R own_extension 0 n f w claim h rounds rs' 0 f₁ w₁ claim₂ h₂
+played-replayed o R R₁ n f w claim h h₀ rounds rounds' rs rs' f₁ w₁ claim₁ claim₂ h₁ h₂ same_rules same_history same p q =
+    let A : Rules → Type 0 = λ S. IsPlayed evaluation prefix o S own_extension 0 n f w claim h₀ rounds rs 0 f₁ w₁ claim₁ h₁ in
+    let B : List Event → Type 0 = λ t. IsPlayed evaluation prefix o R own_extension 0 n f w claim t rounds rs 0 f₁ w₁ claim₁ h₁ in
+    let C : List Round → Type 0 = λ t. IsReplayed o R claim h t rs' claim₂ h₂ in
+    let played = subst B same_history (subst A same_rules p) in
+    let again = subst C same q in
+    let D : List ℕ → Type 0 = λ t. (b : ℕ) → b < 2 ^ 0 → f₁ b ≡ bound_by evaluation prefix o t 0 f b in
+    let E : List ℕ → Type 0 = λ t. (b : ℕ) → b < 2 ^ 0 → w₁ b ≡ bound_by evaluation prefix o t 0 w b in
+    let drawn : rs ≡ rs' = played.drawn ∙ sym again.drawn in
+    record {
+      built = played.built;
+      count = played.count;
+      drawn = again.drawn;
+      history = again.history;
+      evals = subst D drawn played.evals;
+      weights = subst E drawn played.weights;
+      along = again.along;
+    }
 
 -- the first k + 1 of some items
 pub mapped-more : {X Y : Type 0} (f : X → Y) (xs : List X) (k : ℕ) (x : X) → k < length xs → x ≡ get_or xs k x →

@@ -15,7 +15,7 @@ ghost use Rattle.sc_definitions.specs.Tables.{rows_of};
 use crate::instance::Instance;
 use crate::job::{EqualityClaim, Job, Mode, Proof, Script};
 use crate::reply::{Answer, Outcome};
-use crate::rounds::{Pair, PlayedRound, challenges_of, play, replay};
+use crate::rounds::{Pair, PlayedRound, challenges_of, messages_of, play, replay};
 use crate::shape::{ProofFault, ShapeFault, proof_fault, shape_fault};
 use crate::statements::{batch, first_false, statements_of};
 use crate::{elements, lines};
@@ -109,7 +109,7 @@ fn judge_build<F: Field, C: Challenger<F>>(
     }
 }
 
-// Builds the rounds of a problem, and reports on them.
+// Builds the rounds of a problem on a copy of the challenger, replays them on the challenger itself, and reports on them.
 fn build<F: Field, C: Challenger<F>>(
     alloc: Global,
     challenger: &mut C,
@@ -129,10 +129,13 @@ fn build<F: Field, C: Challenger<F>>(
         weights,
         claim,
     };
-    let rounds = play(alloc, challenger, &mut pair)?;
+    let mut copied = challenger.copy(alloc)?;
+    let played = play(alloc, &mut copied, &mut pair)?;
+    let messages = messages_of(alloc, &played)?;
+    let (rounds, residual) = replay(alloc, challenger, claim, &messages)?;
     let eval = pair.evals.as_slice()[0];
     let weight = pair.weights.as_slice()[0];
-    let mut text = report_text(alloc, claim, &rounds, pair.claim, eval, weight)?;
+    let mut text = report_text(alloc, claim, &rounds, residual, eval, weight)?;
     lines::push_holds(&mut text)?;
     Ok(text)
 }

@@ -90,6 +90,20 @@ pub(crate) fn challenges_of<F: Field>(
     Ok(found)
 }
 
+/// What rounds sent.
+pub(crate) fn messages_of<F: Field>(
+    alloc: Global,
+    rounds: &[PlayedRound<F>],
+) -> Result<Vec<RoundMessage<F>>, NoMemory>
+    ensures { IfOk result (λ v. map (round_sent F.number) v.items ≡ map (sent_of F.number) rounds.now) }
+{
+    let mut found = Vec::with_capacity(alloc, rounds.len())?;
+    for round in rounds {
+        found.push(round.message)?;
+    }
+    Ok(found)
+}
+
 impl<F: Field> Pair<F> {
     /// Plays one round: the message's two values are observed, a challenge is drawn, both tables are bound at it, and
     /// the claim becomes the value of the sent polynomial there.
