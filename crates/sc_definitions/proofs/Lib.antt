@@ -15,3 +15,4 @@ pub mod PlayedLaws
 pub mod BuildLaws
 pub mod WorkedTables
 pub mod WorkedRounds
+pub mod WorkedSeeds

@@ -10,3 +10,4 @@ pub mod Scripted
 pub mod Transcript
 pub mod Played
 pub mod Problem
+pub mod Seeds

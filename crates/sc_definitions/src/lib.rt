@@ -5,6 +5,8 @@
 
 mod events;
 mod false_claim;
+mod interactions;
 
 pub use events::Event;
 pub use false_claim::FalseClaim;
+pub use interactions::{Interaction, Kind, Label, Length, Protocol};
