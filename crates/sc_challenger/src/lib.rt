@@ -1,11 +1,17 @@
-//! Challengers: what a prover and a verifier observe and draw from.
+//! Challengers: what a prover and a verifier observe and draw from, and the seeds that transcripts begin with.
 #![tactic(auto)]
 
 mod challenger;
+mod extension;
+mod interaction;
 mod scripted;
+mod separator;
 #[cfg(test)]
 mod tests;
 
 pub use challenger::Challenger;
-pub use sc_definitions::Event;
+pub use extension::{observe_ext, sample_ext};
+pub use interaction::InteractionPattern;
+pub use sc_definitions::{Event, Interaction, Kind, Label, Length, Protocol};
 pub use scripted::ScriptedChallenger;
+pub use separator::DomainSeparator;

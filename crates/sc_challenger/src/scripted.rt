@@ -1,24 +1,31 @@
 //! A challenger whose answers are handed in.
 ghost use Rattle.std.specs.Prelude.{◌≡◌, ◌-◌, [], map, vec_len, vec_capacity};
-ghost use Rattle.sc_definitions.specs.Scripted.{scripted_rules, draws_in};
+ghost use Rattle.sc_definitions.specs.Scripted.{scripted_rules, draws_in, tests_in};
 
 use crate::challenger::Challenger;
 use sc_definitions::Event;
 use sc_field::{Field, NoMemory};
 use std::alloc::Global;
 
+// The greatest difficulty.
+const MAX_BITS: usize = 16;
+
 /// A challenger whose draws are handed in: draw number d, counted from 0, is entry number d of the list,
 /// and zero past the list's end.
 ///
-/// The elements that pass test number t stand in list number t of `good`.
+/// The elements that pass test number t, counted from 0, stand in list number t of `good`; past the end of the
+/// lists nothing passes. The difficulty does not matter, but for its bound, which is 16 bits.
 #[derive(Drop)]
 pub struct ScriptedChallenger<F: Field> {
     events: Vec<Event>,
     // how many of the events are draws
     drawn: usize,
+    // how many of them are tests
+    tested: usize,
     draws: Vec<F>,
     good: Vec<Vec<F>>,
     ghost drawn_is: { drawn ≡ draws_in events.items },
+    ghost tested_is: { tested ≡ tests_in events.items },
 }
 
 impl<F: Field> ScriptedChallenger<F> {
@@ -31,6 +38,7 @@ impl<F: Field> ScriptedChallenger<F> {
         ScriptedChallenger {
             events: Vec::new(alloc),
             drawn: 0,
+            tested: 0,
             draws,
             good,
         }
@@ -64,6 +72,27 @@ impl<F: Field> Challenger<F> for ScriptedChallenger<F> {
         Ok(x)
     }
 
+    #[tactic(auto, using(crate::proofs::ListReads::reads))]
+    fn would_pass(&self, _bits: usize, witness: F) -> bool {
+        match self.good.get(self.tested) {
+            Some(list) => list.contains(&witness),
+            None => false,
+        }
+    }
+
+    fn check_witness(&mut self, bits: usize, witness: F) -> Result<bool, NoMemory> {
+        let passes = self.would_pass(bits, witness);
+        self.events.reserve(2)?;
+        self.events.push_reserved(Event::Word(witness.index()));
+        self.events.push_reserved(Event::Test(bits));
+        self.tested += 1;
+        Ok(passes)
+    }
+
+    fn max_bits(&self) -> usize {
+        MAX_BITS
+    }
+
     fn reserve(&mut self, events: usize) -> Result<(), NoMemory> {
         self.events.reserve(events)?;
         Ok(())
@@ -79,6 +108,7 @@ impl<F: Field> Challenger<F> for ScriptedChallenger<F> {
         Ok(ScriptedChallenger {
             events,
             drawn: self.drawn,
+            tested: self.tested,
             draws,
             good,
         })
