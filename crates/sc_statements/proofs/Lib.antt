@@ -1,0 +1,5 @@
+pub mod WeightSteps
+pub mod WeightValues
+pub mod Evaluations
+pub mod BatchSteps
+pub mod FalseSteps

@@ -1,0 +1,3 @@
+pub mod EqStatements
+pub mod EqIterators
+pub mod Batches

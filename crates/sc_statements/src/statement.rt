@@ -1,0 +1,5 @@
+//! The kinds of statements.
+
+mod eq;
+
+pub use eq::{EqIter, EqStatement, EqWeights};
