@@ -3,7 +3,7 @@ use Rattle.std.proofs.Common.{◌≡◌, ℕ, zero, suc, ◌+◌, ◌^◌, ◌<�
 use Rattle.std.proofs.lemmas.List.{length-append}
 use Rattle.sc_definitions.specs.Ring.{Ops, IsRing, plus, times, power}
 use Rattle.sc_definitions.specs.Tables.{entries, weight}
-use Rattle.sc_definitions.specs.Statements.{equality, Statement, claims, weight_of, weights_at, batched_weight, batched_claim}
+use Rattle.sc_definitions.specs.Statements.{equality, Statement, claims, weight_of, weights_at, claimed_values, batched_weight, batched_claim}
 use Rattle.sc_statements.specs.Batches.{AddsBatch, WritesBatch}
 use Rattle.sc_definitions.proofs.RingLaws.{element-small, plus-zero, plus_assoc, plus_comm, times_comm}
 use Rattle.sc_definitions.proofs.StatementLaws.{element-powers_sum, batched-none, batched_weight-append, batched_claim-append}
@@ -111,3 +111,10 @@ WritesBatch-cleared o ring n c p ss zeros new old_sum new_sum cleared added = re
       ∙ plus_comm o ring 0 (batched_weight o c p ss b) ∙ plus-zero o ring (batched_weight o c p ss b) ∙ element-powers_sum o ring c p (weights_at o ss b);
   sum = added.sum;
 }
+
+-- a claim that is added to zero is there alone
+pub claim-alone : (o : Ops) → IsRing o → (c p : ℕ) (ss : List Statement) (zero_sum new_sum : ℕ) → zero_sum ≡ 0 → new_sum ≡ plus o zero_sum (batched_claim o c p ss) → new_sum ≡ batched_claim o c p ss
+unfolding batched_claim
+claim-alone o ring c p ss zero_sum new_sum none is =
+    let claim = batched_claim o c p ss in
+    is ∙ ap (λ z. plus o z claim) none ∙ plus_comm o ring 0 claim ∙ plus-zero o ring claim ∙ element-powers_sum o ring c p (claimed_values ss)

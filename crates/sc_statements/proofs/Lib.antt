@@ -3,3 +3,4 @@ pub mod WeightValues
 pub mod Evaluations
 pub mod BatchSteps
 pub mod FalseSteps
+pub mod GroupSteps

@@ -1,5 +1,6 @@
 -- Tables of weights, and sums, that take in a batch of statements.
-use Rattle.std.specs.Prelude.{◌≡◌, ℕ, ◌^◌, ◌<◌, List}
+use Rattle.std.specs.Prelude.{◌≡◌, ℕ, ◌^◌, ◌<◌, List, length, take}
+use Rattle.std.specs.List.{flat_map}
 use Rattle.sc_definitions.specs.Ring.{Ops, plus}
 use Rattle.sc_definitions.specs.Statements.{Statement, batched_weight, batched_claim}
 
@@ -17,3 +18,9 @@ pub record WritesBatch (o : Ops) (n challenge first : ℕ) (ss : List Statement)
 pub record IsUnchanged (n : ℕ) (old new : ℕ → ℕ) (old_sum new_sum : ℕ) : Type 0 where
   pub weights : (b : ℕ) → b < 2 ^ n → new b ≡ old b
   pub sum : new_sum ≡ old_sum
+
+-- The rows and the sum gain the batch of the first groups alone, and not of all of them.
+pub record AddsPrefix {G : Type 0} (statements_of : G → List Statement) (o : Ops) (n challenge first : ℕ) (groups : List G) (old new : ℕ → ℕ) (old_sum new_sum : ℕ) : Type 0 where
+  pub count : ℕ
+  pub proper : count < length groups
+  pub added : AddsBatch o n challenge first (flat_map statements_of (take count groups)) old new old_sum new_sum

@@ -4,7 +4,9 @@
 //! definitions, its elements by their numbers, and a group of statements as the list of them.
 #![tactic(auto)]
 
+mod constraint;
 mod statement;
 mod weights;
 
-pub use statement::{EqIter, EqStatement, EqWeights};
+pub use constraint::Constraint;
+pub use statement::{EqIter, EqStatement, EqWeights, Statements};

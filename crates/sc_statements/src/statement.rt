@@ -1,5 +1,103 @@
-//! The kinds of statements.
+//! The kinds of statements, and groups of one kind.
+
+ghost use Rattle.std.specs.Prelude.{◌≡◌, ℕ, ◌+◌, ◌↔◌, [], length, IsTrue, IfOk, OnErr};
+ghost use Rattle.sc_definitions.specs.Ring.{plus, power};
+ghost use Rattle.sc_definitions.specs.Statements.{first_false_claim, batched_claim};
+ghost use Rattle.sc_table.specs.Polys.{variables_of, table_of};
+ghost use Rattle.sc_statements.specs.Batches.{AddsBatch, IsUnchanged};
 
 mod eq;
 
+use sc_definitions::FalseClaim;
+use sc_field::{Algebra, Field, NoMemory};
+use sc_table::Poly;
+use std::alloc::Global;
+
 pub use eq::{EqIter, EqStatement, EqWeights};
+
+/// A group of statements of one kind, in order.
+#[derive(Drop)]
+pub enum Statements<EF> {
+    /// Values of the table at points.
+    Eq(EqStatement<EF>),
+}
+
+impl<EF: Field> Statements<EF> {
+    ghost use Rattle.sc_statements.specs.Groups.{group_arity, group_statements};
+
+    /// How many variables the tables have that it speaks of.
+    pub fn num_variables(&self) -> usize
+        ensures { result ≡ group_arity self.now }
+    {
+        match self {
+            Statements::Eq(statement) => statement.num_variables(),
+        }
+    }
+
+    /// How many statements there are.
+    pub fn len(&self) -> usize
+        ensures { result ≡ length (group_statements EF.number self.now) }
+    {
+        match self {
+            Statements::Eq(statement) => statement.len(),
+        }
+    }
+
+    /// That there is no statement.
+    pub fn is_empty(&self) -> bool
+        ensures { IsTrue result ↔ (group_statements EF.number self.now ≡ []) }
+    {
+        match self {
+            Statements::Eq(statement) => statement.is_empty(),
+        }
+    }
+
+    // The first statement that is false of the table, numbered from 0 on. It takes no memory.
+    pub(crate) fn first_false<F: Field>(&self, table: &Poly<F>) -> Option<FalseClaim>
+    where
+        EF: Algebra<F>,
+        requires { variables_of table.now ≡ group_arity self.now }
+        ensures { result ≡ first_false_claim EF.ops (group_arity self.now) (λ b. EF.embedding (table_of F.number table.now b)) 0 (group_statements EF.number self.now) }
+    {
+        match self {
+            Statements::Eq(statement) => statement.first_false(table),
+        }
+    }
+
+    // Adds the claimed values to the sum, the first times `first`, and each next one times the challenge
+    // once more; the answer is the factor of a statement behind the last.
+    pub(crate) fn add_values(&self, sum: &mut EF, challenge: EF, first: EF) -> EF
+        ensures added { (p : ℕ) → EF.number first ≡ power EF.ops (EF.number challenge) p →
+            EF.number sum.new ≡ plus EF.ops (EF.number sum.old) (batched_claim EF.ops (EF.number challenge) p (group_statements EF.number self.now)) }
+        ensures next { (p : ℕ) → EF.number first ≡ power EF.ops (EF.number challenge) p →
+            EF.number result ≡ power EF.ops (EF.number challenge) (p + length (group_statements EF.number self.now)) }
+    {
+        match self {
+            Statements::Eq(statement) => statement.add_values(sum, challenge, first),
+        }
+    }
+
+    // The same, with the weights added to the rows of a table; `NoMemory` leaves both as they were.
+    pub(crate) fn add_batch(
+        &self,
+        _alloc: Global,
+        weights: &mut Poly<EF>,
+        sum: &mut EF,
+        challenge: EF,
+        first: EF,
+    ) -> Result<EF, NoMemory>
+        requires { variables_of weights.old ≡ group_arity self.now }
+        ensures variables { variables_of weights.new ≡ variables_of weights.old }
+        ensures added { IfOk result (λ _. (p : ℕ) → EF.number first ≡ power EF.ops (EF.number challenge) p →
+            AddsBatch EF.ops (group_arity self.now) (EF.number challenge) p (group_statements EF.number self.now)
+            (table_of EF.number weights.old) (table_of EF.number weights.new) (EF.number sum.old) (EF.number sum.new)) }
+        ensures next { IfOk result (λ next. (p : ℕ) → EF.number first ≡ power EF.ops (EF.number challenge) p →
+            EF.number next ≡ power EF.ops (EF.number challenge) (p + length (group_statements EF.number self.now))) }
+        ensures refused { OnErr result (IsUnchanged (group_arity self.now)
+            (table_of EF.number weights.old) (table_of EF.number weights.new) (EF.number sum.old) (EF.number sum.new)) }
+    {
+        match self {
+            Statements::Eq(statement) => Ok(statement.add_batch(weights, sum, challenge, first)),
+        }
+    }
+}

@@ -1,0 +1,108 @@
+-- Batches, and the first false statement, over several groups of statements.
+use Rattle.std.proofs.Common.{◌≡◌, ℕ, zero, suc, ◌+◌, ◌^◌, ◌<◌, ◌≤◌, All, List, [], ◌∷◌, ◌++◌, length, get_or, take, drop, map, sym, ◌∙◌, ap, refl, subst, arith, add-one}
+use Rattle.std.specs.List.{flat_map}
+use Rattle.std.proofs.lemmas.List.{append-nil, length-append, length-map, map-append, take_more}
+use Rattle.std.proofs.lemmas.List.Concat.{flat_map-append}
+use Rattle.std.proofs.Math.Seq.{drop-cons}
+use Rattle.sc_definitions.specs.Ring.{Ops, IsRing, plus, times, power}
+use Rattle.sc_definitions.specs.Statements.{Statement, powers_sum, weight_of, weights_at, claimed_values, batched_weight, batched_claim}
+use Rattle.sc_definitions.proofs.RingLaws.{plus-zero, plus_assoc, plus_comm}
+use Rattle.sc_definitions.proofs.StatementLaws.{element-powers_sum}
+use Rattle.sc_statements.specs.Batches.{AddsBatch, IsUnchanged}
+use Rattle.sc_statements.proofs.BatchSteps.{IsSummed}
+
+module _ (o : Ops) (ring : IsRing o) where
+  -- the powers go on behind the first list
+  pub powers_sum-concat : (c p : ℕ) (xs ys : List ℕ) → powers_sum o c p (xs ++ ys) ≡ plus o (powers_sum o c p xs) (powers_sum o c (p + length xs) ys)
+  unfolding powers_sum
+  powers_sum-concat c p [] ys =
+      let same : p ≡ p + 0 = omega arith in
+      sym (element-powers_sum o ring c p ys) ∙ sym (plus-zero o ring (powers_sum o c p ys)) ∙ plus_comm o ring (powers_sum o c p ys) 0
+      ∙ ap (λ k. plus o 0 (powers_sum o c k ys)) same
+  powers_sum-concat c p (x ∷ xs) ys =
+      let more : suc p + length xs ≡ p + suc (length xs) = omega arith in
+      let first = times o (power o c p) x in
+      ap (plus o first) (powers_sum-concat c (suc p) xs ys)
+      ∙ sym (plus_assoc o ring first (powers_sum o c (suc p) xs) (powers_sum o c (suc p + length xs) ys))
+      ∙ ap (λ k. plus o (plus o first (powers_sum o c (suc p) xs)) (powers_sum o c k ys)) more
+
+  pub batched_weight-concat : (c p : ℕ) (ss ts : List Statement) (b : ℕ) → batched_weight o c p (ss ++ ts) b ≡ plus o (batched_weight o c p ss b) (batched_weight o c (p + length ss) ts b)
+  unfolding batched_weight
+  batched_weight-concat c p ss ts b =
+      let one : Statement → ℕ = λ s. weight_of o s.kind b in
+      ap (powers_sum o c p) (map-append one ss ts) ∙ powers_sum-concat c p (map one ss) (map one ts)
+      ∙ ap (λ k. plus o (powers_sum o c p (map one ss)) (powers_sum o c (p + k) (map one ts))) (length-map ss one)
+
+  pub batched_claim-concat : (c p : ℕ) (ss ts : List Statement) → batched_claim o c p (ss ++ ts) ≡ plus o (batched_claim o c p ss) (batched_claim o c (p + length ss) ts)
+  unfolding batched_claim
+  batched_claim-concat c p ss ts =
+      let one : Statement → ℕ = λ s. s.claimed in
+      ap (powers_sum o c p) (map-append one ss ts) ∙ powers_sum-concat c p (map one ss) (map one ts)
+      ∙ ap (λ k. plus o (powers_sum o c p (map one ss)) (powers_sum o c (p + k) (map one ts))) (length-map ss one)
+
+  -- one group more
+  pub IsSummed-group : (c p : ℕ) (ss ts longer : List Statement) (old total total' factor factor' : ℕ) → longer ≡ ss ++ ts → IsSummed o c p ss old total factor →
+      total' ≡ plus o total (batched_claim o c (p + length ss) ts) → factor' ≡ power o c (p + length ss + length ts) → IsSummed o c p longer old total' factor'
+  IsSummed-group c p ss ts longer old total total' factor factor' split so_far total_is factor_is =
+      let P : List Statement → Type 0 = λ t. IsSummed o c p t old total' factor' in
+      let more : p + length ss + length ts ≡ p + length (ss ++ ts) = omega (arith, length-append ss ts) in
+      subst P (sym split) (record {
+        summed = total_is ∙ ap (λ t. plus o t (batched_claim o c (p + length ss) ts)) so_far.summed
+            ∙ plus_assoc o ring old (batched_claim o c p ss) (batched_claim o c (p + length ss) ts)
+            ∙ ap (plus o old) (sym (batched_claim-concat c p ss ts));
+        next = factor_is ∙ ap (power o c) more;
+      })
+
+  pub AddsBatch-group : (n m c p : ℕ) (ss ts longer : List Statement) (old table new : ℕ → ℕ) (old_sum total new_sum : ℕ) → longer ≡ ss ++ ts → m ≡ n →
+      AddsBatch o n c p ss old table old_sum total → AddsBatch o m c (p + length ss) ts table new total new_sum → AddsBatch o n c p longer old new old_sum new_sum
+  AddsBatch-group n m c p ss ts longer old table new old_sum total new_sum split arity so_far added =
+      let P : List Statement → Type 0 = λ t. AddsBatch o n c p t old new old_sum new_sum in
+      subst P (sym split) (record {
+        weights = λ b low. added.weights b (omega (arith, low, ap (λ k. 2 ^ k) arity)) ∙ ap (λ t. plus o t (batched_weight o c (p + length ss) ts b)) (so_far.weights b low)
+            ∙ plus_assoc o ring (old b) (batched_weight o c p ss b) (batched_weight o c (p + length ss) ts b)
+            ∙ ap (plus o (old b)) (sym (batched_weight-concat c p ss ts b));
+        sum = added.sum ∙ ap (λ t. plus o t (batched_claim o c (p + length ss) ts)) so_far.sum
+            ∙ plus_assoc o ring old_sum (batched_claim o c p ss) (batched_claim o c (p + length ss) ts)
+            ∙ ap (plus o old_sum) (sym (batched_claim-concat c p ss ts));
+      })
+
+-- what is added stays where nothing changes
+pub AddsBatch-kept : (o : Ops) (n c p : ℕ) (ss : List Statement) (old table new : ℕ → ℕ) (old_sum total new_sum : ℕ) → AddsBatch o n c p ss old table old_sum total →
+    IsUnchanged n table new total new_sum → AddsBatch o n c p ss old new old_sum new_sum
+AddsBatch-kept o n c p ss old table new old_sum total new_sum so_far kept = record {
+  weights = λ b low. kept.weights b low ∙ so_far.weights b low;
+  sum = kept.sum ∙ so_far.sum;
+}
+
+-- the power behind one group more
+pub power-group : (o : Ops) (c p : ℕ) (ss ts longer : List Statement) (factor : ℕ) → longer ≡ ss ++ ts → factor ≡ power o c (p + length ss + length ts) → factor ≡ power o c (p + length longer)
+power-group o c p ss ts longer factor split is =
+    let more : p + length ss + length ts ≡ p + length longer = omega (arith, length-append ss ts, ap length split) in
+    is ∙ ap (power o c) more
+
+-- ---- the groups of a loop
+
+pub groups-more : {G : Type 0} (statements_of : G → List Statement) (groups : List G) (i : ℕ) (x : G) → i < length groups → x ≡ get_or groups i x →
+    flat_map statements_of (take (i + 1) groups) ≡ flat_map statements_of (take i groups) ++ statements_of x
+groups-more statements_of groups i x low is =
+    ap (flat_map statements_of) (take_more groups i x low ∙ ap (λ y. take i groups ++ y ∷ []) (sym is))
+    ∙ flat_map-append statements_of (take i groups) (x ∷ [])
+    ∙ ap (λ t. flat_map statements_of (take i groups) ++ t) (append-nil (statements_of x))
+
+pub groups-split : {G : Type 0} (statements_of : G → List Statement) (groups : List G) (i : ℕ) (x : G) → i < length groups → x ≡ get_or groups i x →
+    flat_map statements_of (drop i groups) ≡ statements_of x ++ flat_map statements_of (drop (i + 1) groups)
+groups-split statements_of groups i x low is =
+    ap (flat_map statements_of) (drop-cons groups i x low)
+    ∙ ap (λ y. statements_of y ++ flat_map statements_of (drop (suc i) groups)) (sym is)
+    ∙ ap (λ k. statements_of x ++ flat_map statements_of (drop k groups)) (sym (add-one i))
+
+pub groups-end : {G : Type 0} (statements_of : G → List Statement) (groups : List G) (i : ℕ) → length groups ≤ i → flat_map statements_of (drop i groups) ≡ []
+groups-end statements_of [] zero past = refl
+groups-end statements_of [] (suc i) past = refl
+groups-end statements_of (x ∷ groups) zero past = absurd (omega (arith, past))
+groups-end statements_of (x ∷ groups) (suc i) past = groups-end statements_of groups i (omega (arith, past))
+
+-- the arity of the group at a place
+pub arity-of : {G : Type 0} (arity : G → ℕ) (n : ℕ) (groups all : List G) (i : ℕ) (x : G) → All (λ y. arity y ≡ n) all → groups ≡ all → i < length groups → x ≡ get_or groups i x → arity x ≡ n
+arity-of arity n groups all i x fits same low is =
+    ap arity is ∙ subst (λ l. i < length l → arity (get_or l i x) ≡ n) (sym same) (fits i x) low

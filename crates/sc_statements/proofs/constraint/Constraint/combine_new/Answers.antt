@@ -1,0 +1,14 @@
+use Rattle.std.proofs.Common.{◌∙◌, ap}
+use Rattle.sc_table.specs.Polys.{table_of}
+use Rattle.sc_statements.proofs.BatchSteps.{WritesBatch-cleared, claim-alone}
+use Rattle.sc_statements.proofs.constraint.Constraint.combine_new.Goals as goal
+
+pub returns-clause-weights : goal.returns-clause-weights
+returns-clause-weights g c =
+    let f = g.EF.Field in
+    (WritesBatch-cleared f.ops g.met.EF.Field.is_field.ring _ _ _ _ (table_of f.number c.in_ok-combined.combined) _ _ _ (λ b _. c.in_ok-combined.ensures.table b) c.in_ok-combine.ensures.ok).weights
+
+pub returns-clause-claim : goal.returns-clause-claim
+returns-clause-claim g c =
+    let f = g.EF.Field in
+    claim-alone f.ops g.met.EF.Field.is_field.ring _ _ _ _ _ (ap f.number c.ZERO-eval.ensures ∙ g.met.EF.Field.zero_is) c.in_ok-combine.ensures.ok.sum

@@ -1,0 +1,178 @@
+//! Groups of statements, batched under the powers of one challenge.
+
+ghost use Rattle.std.specs.Prelude.{◌≡◌, ℕ, ◌+◌, ◌^◌, ◌<◌, ◌≤◌, All, length, IfOk, OnOk, OnErr};
+ghost use Rattle.sc_definitions.specs.Ring.{plus, power};
+ghost use Rattle.sc_definitions.specs.Statements.{first_false_claim, batched_weight, batched_claim};
+ghost use Rattle.sc_field.specs.Powers.{base_of, start_of};
+ghost use Rattle.sc_table.specs.Polys.{variables_of, table_of};
+ghost use Rattle.sc_statements.specs.Groups.{group_arity, group_statements};
+ghost use Rattle.sc_statements.specs.Batches.{AddsBatch, AddsPrefix};
+ghost use Rattle.sc_statements.specs.FalseClaims.{told};
+
+use crate::statement::Statements;
+use sc_definitions::FalseClaim;
+use sc_field::{ExtensionField, Field, NoMemory, Powers};
+use sc_table::Poly;
+use std::alloc::Global;
+use std::marker::PhantomData;
+
+/// Groups of statements on one table, in order, and the challenge whose powers batch them.
+///
+/// Statement number i, counted from 0 over all groups, has the coefficient challenge^(p + i), where p is
+/// the initial power: the powers do not start anew at a group. The batch is the sum of the weight tables
+/// times their coefficients, with the sum of the claimed values times theirs.
+///
+/// The caller owns the binding of the challenge: nothing here observes the statements.
+#[derive(Drop)]
+pub struct Constraint<F, EF> {
+    num_variables: usize,
+    statements: Vec<Statements<EF>>,
+    challenge: EF,
+    initial_power: usize,
+    base: PhantomData<F>,
+    ghost fits: { All (λ s. group_arity s ≡ num_variables) statements.items },
+}
+
+impl<F: Field, EF: ExtensionField<F>> Constraint<F, EF> {
+    ghost use Rattle.sc_statements.specs.Constraints.{constraint_arity, constraint_groups, constraint_statements, constraint_challenge, constraint_power};
+
+    /// The groups in this order, each on tables of `num_variables` variables, with the initial power 0.
+    pub fn new(challenge: EF, num_variables: usize, statements: Vec<Statements<EF>>) -> Self
+        requires { All (λ s. group_arity s ≡ num_variables) statements.items }
+        ensures arity { constraint_arity result ≡ num_variables }
+        ensures groups { constraint_groups result ≡ statements.items }
+        ensures challenge { constraint_challenge EF.number result ≡ EF.number challenge }
+        ensures power { constraint_power result ≡ 0 }
+    {
+        Constraint {
+            num_variables,
+            statements,
+            challenge,
+            initial_power: 0,
+            base: PhantomData,
+        }
+    }
+
+    /// How many variables the tables have that it speaks of.
+    pub fn num_variables(&self) -> usize
+        ensures { result ≡ constraint_arity self.now }
+    {
+        self.num_variables
+    }
+
+    /// The groups, in order.
+    pub fn statements(&self) -> &[Statements<EF>]
+        ensures groups { result.now ≡ constraint_groups self.now }
+
+        // Each speaks of tables of as many variables as the whole.
+        ensures arity { All (λ s. group_arity s ≡ constraint_arity self.now) (constraint_groups self.now) }
+    {
+        self.statements.as_slice()
+    }
+
+    /// The power of the first statement.
+    pub fn initial_power(&self) -> usize
+        ensures { result ≡ constraint_power self.now }
+    {
+        self.initial_power
+    }
+
+    /// The challenge whose powers batch the statements.
+    pub fn challenge(&self) -> EF
+        ensures { EF.number result ≡ constraint_challenge EF.number self.now }
+    {
+        self.challenge
+    }
+
+    /// The powers of the challenge, from the power `initial_power + shift` on.
+    pub fn challenge_powers(&self, shift: usize) -> Powers<EF>
+        ensures base { EF.number (base_of result) ≡ constraint_challenge EF.number self.now }
+        ensures start { EF.number (start_of result) ≡ power EF.ops (constraint_challenge EF.number self.now) (constraint_power self.now + shift) }
+    {
+        let skipped = self.challenge.exp_u64(shift as u64);
+        self.challenge.shifted_powers(self.first_coefficient().mul(skipped))
+    }
+
+    // The coefficient of the first statement.
+    fn first_coefficient(&self) -> EF
+        ensures { EF.number result ≡ power EF.ops (constraint_challenge EF.number self.now) (constraint_power self.now) }
+    {
+        self.challenge.exp_u64(self.initial_power as u64)
+    }
+
+    /// Adds the batched claim to the sum.
+    pub fn combine_evals(&self, eval: &mut EF)
+        ensures { EF.number eval.new ≡ plus EF.ops (EF.number eval.old)
+            (batched_claim EF.ops (constraint_challenge EF.number self.now) (constraint_power self.now) (constraint_statements EF.number self.now)) }
+    {
+        let mut coefficient = self.first_coefficient();
+        for group in &self.statements {
+            coefficient = group.add_values(eval, self.challenge, coefficient);
+        }
+    }
+
+    /// Adds the batched weights to the rows of a table, which has as many variables as the statements
+    /// say, and the batched claim to the sum. After `NoMemory` both have those of the first groups.
+    pub fn combine(
+        &self,
+        alloc: Global,
+        combined: &mut Poly<EF>,
+        eval: &mut EF,
+    ) -> Result<(), NoMemory>
+        requires { variables_of combined.old ≡ constraint_arity self.now }
+        ensures variables { variables_of combined.new ≡ variables_of combined.old }
+        ensures ok { OnOk result (AddsBatch EF.ops (constraint_arity self.now) (constraint_challenge EF.number self.now) (constraint_power self.now)
+            (constraint_statements EF.number self.now)
+            (table_of EF.number combined.old) (table_of EF.number combined.new) (EF.number eval.old) (EF.number eval.new)) }
+        ensures refused { OnErr result (AddsPrefix (group_statements EF.number) EF.ops (constraint_arity self.now)
+            (constraint_challenge EF.number self.now) (constraint_power self.now) (constraint_groups self.now)
+            (table_of EF.number combined.old) (table_of EF.number combined.new) (EF.number eval.old) (EF.number eval.new)) }
+    {
+        let mut coefficient = self.first_coefficient();
+        for group in &self.statements {
+            coefficient = group.add_batch(alloc, combined, eval, self.challenge, coefficient)?;
+        }
+        Ok(())
+    }
+
+    /// The batched weights, in a table of at most 40 variables, and the batched claim.
+    pub fn combine_new(&self, alloc: Global) -> Result<(Poly<EF>, EF), NoMemory>
+        requires { constraint_arity self.now ≤ 40 }
+        ensures variables { IfOk result (λ p. variables_of p.0 ≡ constraint_arity self.now) }
+        ensures weights { IfOk result (λ p. (b : ℕ) → b < 2 ^ constraint_arity self.now → table_of EF.number p.0 b
+            ≡ batched_weight EF.ops (constraint_challenge EF.number self.now) (constraint_power self.now) (constraint_statements EF.number self.now) b) }
+        ensures claim { IfOk result (λ p. EF.number p.1
+            ≡ batched_claim EF.ops (constraint_challenge EF.number self.now) (constraint_power self.now) (constraint_statements EF.number self.now)) }
+    {
+        let mut combined = Poly::zero(alloc, self.num_variables)?;
+        let mut eval = EF::ZERO;
+        self.combine(alloc, &mut combined, &mut eval)?;
+        Ok((combined, eval))
+    }
+
+    /// The first statement that is false of the table, numbered from 0 over all groups, if one is. The
+    /// table has as many variables as the statements say. It takes no memory.
+    pub fn first_false(&self, table: &Poly<F>) -> Option<FalseClaim>
+        requires { variables_of table.now ≡ constraint_arity self.now }
+        ensures found { result ≡ told (first_false_claim EF.ops (constraint_arity self.now) (λ b. EF.embedding (table_of F.number table.now b)) 0
+            (constraint_statements EF.number self.now)) }
+
+        // Where the statements are fewer than 2^64, the number is exact.
+        ensures exact { length (constraint_statements EF.number self.now) < 2 ^ 64 →
+            result ≡ first_false_claim EF.ops (constraint_arity self.now) (λ b. EF.embedding (table_of F.number table.now b)) 0
+            (constraint_statements EF.number self.now) }
+    {
+        let mut passed: usize = 0;
+        for group in &self.statements {
+            if let Some(claim) = group.first_false(table) {
+                return Some(FalseClaim {
+                    statement: passed.saturating_add(claim.statement),
+                    claimed: claim.claimed,
+                    actual: claim.actual,
+                });
+            }
+            passed = passed.saturating_add(group.len());
+        }
+        None
+    }
+}
