@@ -90,7 +90,8 @@ impl<F: Field, EF: ExtensionField<F>> Constraint<F, EF> {
         ensures start { EF.number (start_of result) ≡ power EF.ops (constraint_challenge EF.number self.now) (constraint_power self.now + shift) }
     {
         let skipped = self.challenge.exp_u64(shift as u64);
-        self.challenge.shifted_powers(self.first_coefficient().mul(skipped))
+        self.challenge
+            .shifted_powers(self.first_coefficient().mul(skipped))
     }
 
     // The coefficient of the first statement.

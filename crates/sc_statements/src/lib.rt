@@ -6,6 +6,8 @@
 
 mod constraint;
 mod statement;
+#[cfg(test)]
+mod tests;
 mod weights;
 
 pub use constraint::Constraint;

@@ -8,12 +8,11 @@ ghost use Rattle.sc_statements.specs.Batches.{AddsBatch, IsUnchanged};
 
 mod eq;
 
+pub use eq::{EqIter, EqStatement, EqWeights};
 use sc_definitions::FalseClaim;
 use sc_field::{Algebra, Field, NoMemory};
 use sc_table::Poly;
 use std::alloc::Global;
-
-pub use eq::{EqIter, EqStatement, EqWeights};
 
 /// A group of statements of one kind, in order.
 #[derive(Drop)]

@@ -1,0 +1,277 @@
+//! Figures by hand over the integers modulo 65537.
+
+ghost use Rattle.std.specs.Prelude.{◌≡◌, ◌^◌, ◌↔◌, ◌∷◌, [], length, map, IsTrue, IfOk};
+ghost use Rattle.sc_definitions.specs.Statements.{AllTrueOf, powers_sum};
+ghost use Rattle.sc_table.specs.Polys.{variables_of, table_of};
+ghost use Rattle.sc_statements.specs.EqStatements.{eq_arity, eq_statements};
+ghost use Rattle.sc_statements.specs.EqIterators.{weight_values};
+ghost use Rattle.sc_statements.specs.Groups.{group_arity};
+ghost use Rattle.sc_statements.specs.Constraints.{constraint_arity};
+
+use crate::{Constraint, EqStatement, Statements};
+use sc_definitions::FalseClaim;
+use sc_field::{F65537, Field, NoMemory};
+use sc_table::{Point, Poly};
+use std::alloc::Global;
+use std::test::Fail;
+
+// The element of this number.
+fn of(number: u64) -> F65537 {
+    F65537::element(number % 65537)
+}
+
+// The elements of these numbers.
+fn elements(alloc: Global, numbers: &[u64]) -> Result<Vec<F65537>, NoMemory>
+    ensures { IfOk result (λ v. length v.items ≡ length numbers.now) }
+{
+    let elements = numbers.iter().map(|number| of(*number)).collect(alloc)?;
+    Ok(elements)
+}
+
+fn have_numbers(elements: &[F65537], numbers: &[u64]) -> bool {
+    elements.len() == numbers.len()
+        && elements
+            .iter()
+            .zip(numbers)
+            .all(|(element, number)| element.index() == *number)
+}
+
+// The point of these numbers.
+fn point(alloc: Global, numbers: &[u64]) -> Result<Point<F65537>, NoMemory>
+    ensures { IfOk result (λ p. length p ≡ length numbers.now) }
+{
+    Ok(Point::new(elements(alloc, numbers)?))
+}
+
+// The table of these values, as many as 2^n.
+fn table(alloc: Global, n: usize, values: &[u64]) -> Result<Poly<F65537>, NoMemory>
+    requires { length values.now ≡ 2 ^ n }
+    ensures { IfOk result (λ p. variables_of p ≡ n) }
+{
+    Ok(Poly::new(elements(alloc, values)?))
+}
+
+// The statement of one value at a point.
+fn claim(alloc: Global, coords: &[u64], value: u64) -> Result<EqStatement<F65537>, NoMemory>
+    ensures { IfOk result (λ s. eq_arity s ≡ length coords.now) }
+{
+    let mut statement = EqStatement::initialize(alloc, coords.len());
+    statement.add_evaluated_constraint(point(alloc, coords)?, of(value))?;
+    Ok(statement)
+}
+
+// The statement of two values at points of two coordinates.
+fn claims(
+    alloc: Global,
+    first: &[u64; 2],
+    value: u64,
+    second: &[u64; 2],
+    next: u64,
+) -> Result<EqStatement<F65537>, NoMemory>
+    ensures { IfOk result (λ s. eq_arity s ≡ 2) }
+{
+    let mut statement = claim(alloc, first, value)?;
+    statement.add_evaluated_constraint(point(alloc, second)?, of(next))?;
+    Ok(statement)
+}
+
+// That each statement is true, by the points and values that the iterator gives.
+fn all_true<EF: Field>(statement: &EqStatement<EF>, table: &Poly<EF>) -> bool
+    requires { variables_of table.now ≡ eq_arity statement.now }
+    ensures { IsTrue result ↔ AllTrueOf EF.ops (eq_arity statement.now) (table_of EF.number table.now) (eq_statements EF.number statement.now) }
+{
+    for (point, eval) in statement.iter() {
+        let actual: EF = table.eval(point);
+        if actual != *eval {
+            return false;
+        }
+    }
+    true
+}
+
+// The weights at a point, batched by the powers of a challenge.
+fn batched_at<EF: Field>(statement: &EqStatement<EF>, row: &Point<EF>, challenge: EF) -> EF
+    requires { length row.now ≡ eq_arity statement.now }
+    ensures { EF.number result
+        ≡ powers_sum EF.ops (EF.number challenge) 0 (weight_values EF.ops (map EF.number row.now) (eq_statements EF.number statement.now)) }
+{
+    let mut sum = EF::ZERO;
+    let mut coefficient = EF::ONE;
+    for weight in statement.weights_at(row) {
+        sum = sum.add(coefficient.mul(weight));
+        coefficient = coefficient.mul(challenge);
+    }
+    sum
+}
+
+#[test]
+fn statements_are_true_or_false(rt: HostRuntime) -> Result<(), Fail> {
+    let table = table(rt.alloc(), 2, &[1, 2, 3, 4])?;
+    let right = claims(rt.alloc(), &[0, 1], 2, &[2, 3], 8)?;
+    assert_eq!(rt; right.num_variables(), 2);
+    assert!(rt; !right.is_empty());
+    assert!(rt; right.verify(&table));
+    assert!(rt; all_true(&right, &table));
+    let wrong = claims(rt.alloc(), &[0, 1], 2, &[2, 3], 9)?;
+    assert_eq!(rt; wrong.num_variables(), 2);
+    assert!(rt; !wrong.verify(&table));
+    assert!(rt; !all_true(&wrong, &table));
+    assert_eq!(rt; wrong.len(), 2);
+    assert_eq!(rt; wrong.claimed_value(0).index(), 2);
+    assert_eq!(rt; wrong.claimed_value(1).index(), 9);
+    let first: F65537 = wrong.true_value(0, &table);
+    let second: F65537 = wrong.true_value(1, &table);
+    assert_eq!(rt; (first.index(), second.index()), (2, 8));
+    Ok(())
+}
+
+#[test]
+fn weights_at_a_row_are_the_entries(rt: HostRuntime) -> Result<(), Fail> {
+    let statement = claims(rt.alloc(), &[0, 1], 2, &[2, 3], 8)?;
+    assert_eq!(rt; statement.num_variables(), 2);
+    let row = point(rt.alloc(), &[0, 1])?;
+    let weights: Vec<F65537> = statement.weights_at(&row).collect(rt.alloc())?;
+    assert!(rt; have_numbers(&weights, &[1, 65534]));
+    let elsewhere = point(rt.alloc(), &[3, 4])?;
+    let weights: Vec<F65537> = statement.weights_at(&elsewhere).collect(rt.alloc())?;
+    assert!(rt; have_numbers(&weights, &[65529, 144]));
+    assert_eq!(rt; batched_at(&statement, &elsewhere, of(2)).index(), 280);
+    Ok(())
+}
+
+#[test]
+fn statements_are_put_behind_others(rt: HostRuntime) -> Result<(), Fail> {
+    let mut statement = claim(rt.alloc(), &[0, 1], 2)?;
+    let more = claims(rt.alloc(), &[2, 3], 8, &[1, 1], 4)?;
+    assert_eq!(rt; statement.num_variables(), 2);
+    statement.concatenate(&more)?;
+    assert_eq!(rt; statement.len(), 3);
+    assert_eq!(rt; statement.claimed_value(0).index(), 2);
+    assert_eq!(rt; statement.claimed_value(1).index(), 8);
+    assert_eq!(rt; statement.claimed_value(2).index(), 4);
+    let row = point(rt.alloc(), &[0, 1])?;
+    let weights: Vec<F65537> = statement.weights_at(&row).collect(rt.alloc())?;
+    assert!(rt; have_numbers(&weights, &[1, 65534, 0]));
+    let table = table(rt.alloc(), 2, &[1, 2, 3, 4])?;
+    assert!(rt; statement.verify(&table));
+    Ok(())
+}
+
+#[test]
+fn claims_are_summed_from_the_shift_on(rt: HostRuntime) -> Result<(), Fail> {
+    let statement = claims(rt.alloc(), &[0, 1], 3, &[2, 3], 5)?;
+    let mut sum = F65537::ZERO;
+    statement.combine_evals(&mut sum, of(2), 1);
+    assert_eq!(rt; sum.index(), 26);
+    Ok(())
+}
+
+#[test]
+fn weights_are_written_or_added(rt: HostRuntime) -> Result<(), Fail> {
+    let statement = claims(rt.alloc(), &[2, 3], 8, &[0, 1], 2)?;
+    let mut weights = table(rt.alloc(), 2, &[9, 8, 7, 6])?;
+    let mut sum = of(100);
+    let challenge = of(2);
+    assert_eq!(rt; statement.num_variables(), 2);
+    statement.combine_hypercube::<F65537, false>(rt.alloc(), &mut weights, &mut sum, challenge, 1)?;
+    assert!(rt; have_numbers(weights.as_slice(), &[4, 65535, 65529, 12]));
+    assert_eq!(rt; sum.index(), 124);
+    statement.combine_hypercube::<F65537, true>(rt.alloc(), &mut weights, &mut sum, challenge, 0)?;
+    assert!(rt; have_numbers(weights.as_slice(), &[6, 65534, 65525, 18]));
+    assert_eq!(rt; sum.index(), 136);
+    Ok(())
+}
+
+#[test]
+fn no_statement_changes_nothing(rt: HostRuntime) -> Result<(), Fail> {
+    let statement = EqStatement::initialize(rt.alloc(), 1);
+    let mut weights = table(rt.alloc(), 1, &[3, 4])?;
+    let mut sum = of(5);
+    let challenge = of(9);
+    assert!(rt; statement.is_empty());
+    assert!(rt; statement.verify(&weights));
+    statement.combine_hypercube::<F65537, true>(rt.alloc(), &mut weights, &mut sum, challenge, 0)?;
+    statement.combine_hypercube::<F65537, false>(rt.alloc(), &mut weights, &mut sum, challenge, 0)?;
+    statement.combine_evals(&mut sum, challenge, 0);
+    assert!(rt; have_numbers(weights.as_slice(), &[3, 4]));
+    assert_eq!(rt; sum.index(), 5);
+    Ok(())
+}
+
+#[test]
+fn no_variable_is_one_row(rt: HostRuntime) -> Result<(), Fail> {
+    let statement = claim(rt.alloc(), &[], 7)?;
+    let mut weights = table(rt.alloc(), 0, &[7])?;
+    assert!(rt; statement.verify(&weights));
+    let mut sum = of(1);
+    statement.combine_hypercube::<F65537, false>(rt.alloc(), &mut weights, &mut sum, of(5), 1)?;
+    assert!(rt; have_numbers(weights.as_slice(), &[5]));
+    assert_eq!(rt; sum.index(), 36);
+    Ok(())
+}
+
+// The values 4 at (0), 1 at (1) and 2 at (5), in a group of one and a group of two, under the challenge 3.
+fn three_claims(alloc: Global) -> Result<Constraint<F65537, F65537>, NoMemory>
+    ensures { IfOk result (λ c. constraint_arity c ≡ 1) }
+{
+    let first = claim(alloc, &[0], 4)?;
+    let mut second = claim(alloc, &[1], 1)?;
+    second.add_evaluated_constraint(point(alloc, &[5])?, of(2))?;
+    let groups = vec![in alloc; Statements::Eq(first), Statements::Eq(second)]?;
+    Ok(Constraint::new(of(3), 1, groups))
+}
+
+#[test]
+fn powers_go_on_over_groups(rt: HostRuntime) -> Result<(), Fail> {
+    let constraint = three_claims(rt.alloc())?;
+    let mut weights = table(rt.alloc(), 1, &[10, 20])?;
+    let mut sum = of(100);
+    constraint.combine(rt.alloc(), &mut weights, &mut sum)?;
+    assert!(rt; have_numbers(weights.as_slice(), &[65512, 68]));
+    assert_eq!(rt; sum.index(), 125);
+    constraint.combine_evals(&mut sum);
+    assert_eq!(rt; sum.index(), 150);
+    let (weights, claim) = constraint.combine_new(rt.alloc())?;
+    assert!(rt; have_numbers(weights.as_slice(), &[65502, 48]));
+    assert_eq!(rt; claim.index(), 25);
+    let powers: Vec<F65537> = constraint.challenge_powers(1).take(3).collect(rt.alloc())?;
+    assert!(rt; have_numbers(&powers, &[3, 9, 27]));
+    Ok(())
+}
+
+#[test]
+fn groups_are_kept_in_order(rt: HostRuntime) -> Result<(), Fail> {
+    let constraint = three_claims(rt.alloc())?;
+    assert_eq!(rt; constraint.num_variables(), 1);
+    assert_eq!(rt; constraint.initial_power(), 0);
+    assert_eq!(rt; constraint.challenge().index(), 3);
+    let groups = constraint.statements();
+    assert_eq!(rt; groups.len(), 2);
+    assert_eq!(rt; (groups[0].len(), groups[1].len()), (1, 2));
+    assert_eq!(rt; groups[1].num_variables(), 1);
+    assert!(rt; !groups[1].is_empty());
+    Ok(())
+}
+
+#[test]
+fn false_statements_are_numbered_over_groups(rt: HostRuntime) -> Result<(), Fail> {
+    let constraint = three_claims(rt.alloc())?;
+    let last = constraint.first_false(&table(rt.alloc(), 1, &[4, 1])?);
+    let third = FalseClaim {
+        statement: 2,
+        claimed: 2,
+        actual: 65526,
+    };
+    assert_eq!(rt; last, Some(third));
+    let middle = constraint.first_false(&table(rt.alloc(), 1, &[4, 2])?);
+    let second = FalseClaim {
+        statement: 1,
+        claimed: 1,
+        actual: 2,
+    };
+    assert_eq!(rt; middle, Some(second));
+    let groups = vec![in rt.alloc(); Statements::Eq(claim(rt.alloc(), &[1], 2)?)]?;
+    let right = Constraint::<F65537, F65537>::new(of(3), 1, groups);
+    assert_eq!(rt; right.first_false(&table(rt.alloc(), 1, &[1, 2])?), None);
+    Ok(())
+}
