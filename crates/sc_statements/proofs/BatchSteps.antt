@@ -1,10 +1,13 @@
 -- Statements that are taken into a sum and a table, one after the other.
-use Rattle.std.proofs.Common.{◌≡◌, ℕ, zero, suc, ◌+◌, ◌^◌, ◌<◌, List, [], ◌∷◌, ◌++◌, length, sym, ◌∙◌, ap, refl, subst, arith}
+use Rattle.std.proofs.Common.{◌≡◌, ℕ, zero, suc, ◌+◌, ◌^◌, ◌<◌, List, [], ◌∷◌, ◌++◌, length, All, get_or, map, take, sym, ◌∙◌, ap, refl, subst, arith}
 use Rattle.std.proofs.lemmas.List.{length-append}
 use Rattle.sc_definitions.specs.Ring.{Ops, IsRing, plus, times, power}
 use Rattle.sc_definitions.specs.Tables.{entries, weight}
 use Rattle.sc_definitions.specs.Statements.{equality, Statement, claims, weight_of, weights_at, claimed_values, batched_weight, batched_claim}
+use Rattle.sc_statements.specs.declared.statement.eq.EvaluatedConstraint.{EvaluatedConstraint}
+use Rattle.sc_statements.specs.EqStatements.{evaluation}
 use Rattle.sc_statements.specs.Batches.{AddsBatch, WritesBatch}
+use Rattle.sc_statements.proofs.Evaluations.{arity-at, evaluations-more}
 use Rattle.sc_definitions.proofs.RingLaws.{element-small, plus-zero, plus_assoc, plus_comm, times_comm}
 use Rattle.sc_definitions.proofs.StatementLaws.{element-powers_sum, batched-none, batched_weight-append, batched_claim-append}
 
@@ -82,6 +85,25 @@ IsWeighted-more o ring n c p ss longer zs v old table table' factor factor' spli
           ∙ ap (plus o (old b)) (sym (batched_weight-append o ring c p ss s b));
       next = next-power o ring c p ss s factor factor' so_far.next factor_is;
     })
+
+-- ---- the loops over the statements of one group
+
+module _ {EF : Type 0} (number : EF → ℕ) (o : Ops) (ring : IsRing o) (c p : ℕ) (cs : List (EvaluatedConstraint EF)) (i : ℕ) (one : EvaluatedConstraint EF) where
+  pub sum-more : (old total total' term factor factor' : ℕ) → IsSummed o c p (map (evaluation number) (take i cs)) old total factor → i < length cs → one ≡ get_or cs i one →
+      term ≡ times o factor (number one.eval) → total' ≡ plus o total term → factor' ≡ times o factor c → IsSummed o c p (map (evaluation number) (take (i + 1) cs)) old total' factor'
+  sum-more old total total' term factor factor' so_far low at term_is total_is factor_is =
+      IsSummed-more o ring c p _ _ (evaluation number one) old total total' factor factor' (evaluations-more number cs i one low at) so_far (total_is ∙ ap (plus o total) term_is) factor_is
+
+  pub weights-more : (n : ℕ) (all : List (EvaluatedConstraint EF)) (coords : List EF) (old table table' : ℕ → ℕ) (factor factor' : ℕ) →
+      IsWeighted o n c p (map (evaluation number) (take i cs)) old table factor → All (λ d. length d.point ≡ n) all → cs ≡ all → i < length cs → one ≡ get_or cs i one → coords ≡ one.point →
+      ((b : ℕ) → b < 2 ^ length coords → table' b ≡ plus o (table b) (times o factor (weight o (map number coords) b))) → factor' ≡ times o factor c →
+      IsWeighted o n c p (map (evaluation number) (take (i + 1) cs)) old table' factor'
+  weights-more n all coords old table table' factor factor' so_far fits same low at coords_is added factor_is =
+      let P : List EF → Type 0 = λ l. (b : ℕ) → b < 2 ^ length l → table' b ≡ plus o (table b) (times o factor (weight o (map number l) b)) in
+      let added_at : (b : ℕ) → b < 2 ^ length one.point → table' b ≡ plus o (table b) (times o factor (weight o (map number one.point) b)) = subst P coords_is added in
+      let size : 2 ^ length one.point ≡ 2 ^ n = ap (λ k. 2 ^ k) (arity-at number n cs all i one fits same low at) in
+      IsWeighted-more o ring n c p _ _ (map number one.point) (number one.eval) old table table' factor factor' (evaluations-more number cs i one low at) so_far
+      (λ b below. added_at b (omega (arith, below, size))) factor_is
 
 -- ---- whole batches
 

@@ -1,15 +1,15 @@
--- Batches, and the first false statement, over several groups of statements.
-use Rattle.std.proofs.Common.{◌≡◌, ℕ, zero, suc, ◌+◌, ◌^◌, ◌<◌, ◌≤◌, All, List, [], ◌∷◌, ◌++◌, length, get_or, take, drop, map, sym, ◌∙◌, ap, refl, subst, arith, add-one}
+-- Batches over several groups of statements, and the groups of a loop.
+use Rattle.std.proofs.Common.{◌≡◌, ℕ, suc, ◌+◌, ◌^◌, ◌<◌, All, List, [], ◌∷◌, ◌++◌, length, get_or, take, drop, map, sym, ◌∙◌, ap, refl, subst, arith, add-one}
 use Rattle.std.specs.List.{flat_map}
 use Rattle.std.proofs.lemmas.List.{append-nil, length-append, length-map, map-append, take_more}
 use Rattle.std.proofs.lemmas.List.Concat.{flat_map-append}
 use Rattle.std.proofs.Math.Seq.{drop-cons}
 use Rattle.sc_definitions.specs.Ring.{Ops, IsRing, plus, times, power}
-use Rattle.sc_definitions.specs.Statements.{Statement, powers_sum, weight_of, weights_at, claimed_values, batched_weight, batched_claim}
+use Rattle.sc_definitions.specs.Statements.{Statement, powers_sum, weight_of, batched_weight, batched_claim}
 use Rattle.sc_definitions.proofs.RingLaws.{plus-zero, plus_assoc, plus_comm}
 use Rattle.sc_definitions.proofs.StatementLaws.{element-powers_sum}
-use Rattle.sc_statements.specs.Batches.{AddsBatch, IsUnchanged}
-use Rattle.sc_statements.proofs.BatchSteps.{IsSummed}
+use Rattle.sc_statements.specs.Batches.{AddsBatch}
+use Rattle.sc_statements.proofs.BatchSteps.{IsSummed, AddsBatch-none}
 
 module _ (o : Ops) (ring : IsRing o) where
   -- the powers go on behind the first list
@@ -66,20 +66,6 @@ module _ (o : Ops) (ring : IsRing o) where
             ∙ ap (plus o old_sum) (sym (batched_claim-concat c p ss ts));
       })
 
--- what is added stays where nothing changes
-pub AddsBatch-kept : (o : Ops) (n c p : ℕ) (ss : List Statement) (old table new : ℕ → ℕ) (old_sum total new_sum : ℕ) → AddsBatch o n c p ss old table old_sum total →
-    IsUnchanged n table new total new_sum → AddsBatch o n c p ss old new old_sum new_sum
-AddsBatch-kept o n c p ss old table new old_sum total new_sum so_far kept = record {
-  weights = λ b low. kept.weights b low ∙ so_far.weights b low;
-  sum = kept.sum ∙ so_far.sum;
-}
-
--- the power behind one group more
-pub power-group : (o : Ops) (c p : ℕ) (ss ts longer : List Statement) (factor : ℕ) → longer ≡ ss ++ ts → factor ≡ power o c (p + length ss + length ts) → factor ≡ power o c (p + length longer)
-power-group o c p ss ts longer factor split is =
-    let more : p + length ss + length ts ≡ p + length longer = omega (arith, length-append ss ts, ap length split) in
-    is ∙ ap (power o c) more
-
 -- ---- the groups of a loop
 
 pub groups-more : {G : Type 0} (statements_of : G → List Statement) (groups : List G) (i : ℕ) (x : G) → i < length groups → x ≡ get_or groups i x →
@@ -96,13 +82,44 @@ groups-split statements_of groups i x low is =
     ∙ ap (λ y. statements_of y ++ flat_map statements_of (drop (suc i) groups)) (sym is)
     ∙ ap (λ k. statements_of x ++ flat_map statements_of (drop k groups)) (sym (add-one i))
 
-pub groups-end : {G : Type 0} (statements_of : G → List Statement) (groups : List G) (i : ℕ) → length groups ≤ i → flat_map statements_of (drop i groups) ≡ []
-groups-end statements_of [] zero past = refl
-groups-end statements_of [] (suc i) past = refl
-groups-end statements_of (x ∷ groups) zero past = absurd (omega (arith, past))
-groups-end statements_of (x ∷ groups) (suc i) past = groups-end statements_of groups i (omega (arith, past))
-
 -- the arity of the group at a place
 pub arity-of : {G : Type 0} (arity : G → ℕ) (n : ℕ) (groups all : List G) (i : ℕ) (x : G) → All (λ y. arity y ≡ n) all → groups ≡ all → i < length groups → x ≡ get_or groups i x → arity x ≡ n
 arity-of arity n groups all i x fits same low is =
     ap arity is ∙ subst (λ l. i < length l → arity (get_or l i x) ≡ n) (sym same) (fits i x) low
+
+-- ---- the loops over the groups
+
+module _ {G : Type 0} (statements_of : G → List Statement) (o : Ops) (ring : IsRing o) (c p : ℕ) (groups : List G) (i : ℕ) (x : G) where
+  -- the sum of one group more
+  pub sum-group : (old total total' factor factor' : ℕ) → IsSummed o c p (flat_map statements_of (take i groups)) old total factor → i < length groups → x ≡ get_or groups i x →
+      ((q : ℕ) → factor ≡ power o c q → total' ≡ plus o total (batched_claim o c q (statements_of x))) → ((q : ℕ) → factor ≡ power o c q → factor' ≡ power o c (q + length (statements_of x))) →
+      IsSummed o c p (flat_map statements_of (take (i + 1) groups)) old total' factor'
+  sum-group old total total' factor factor' so_far low at added next =
+      let q = p + length (flat_map statements_of (take i groups)) in
+      IsSummed-group o ring c p _ (statements_of x) _ old total total' factor factor' (groups-more statements_of groups i x low at) so_far (added q so_far.next) (next q so_far.next)
+
+-- the table and the sum have the batch of the first i groups, and the factor is that of the statement behind them
+pub record IsCombined {G : Type 0} (statements_of : G → List Statement) (o : Ops) (n c p : ℕ) (groups : List G) (i : ℕ) (old table : ℕ → ℕ) (old_sum total factor : ℕ) : Type 0 where
+  pub added : AddsBatch o n c p (flat_map statements_of (take i groups)) old table old_sum total
+  pub next : factor ≡ power o c (p + length (flat_map statements_of (take i groups)))
+
+module _ {G : Type 0} (statements_of : G → List Statement) (o : Ops) (ring : IsRing o) (n c p : ℕ) (groups : List G) where
+  pub IsCombined-none : (table : ℕ → ℕ) (total factor : ℕ) → ((b : ℕ) → table b < o.size) → total < o.size → factor ≡ power o c p →
+      IsCombined statements_of o n c p groups 0 table table total total factor
+  IsCombined-none table total factor low below is =
+      let none : p ≡ p + 0 = omega arith in
+      record { added = AddsBatch-none o ring n c p [] table total refl low below; next = is ∙ ap (power o c) none }
+
+  pub IsCombined-more : (arity : G → ℕ) (all : List G) (i : ℕ) (x : G) (old table table' : ℕ → ℕ) (old_sum total total' factor factor' : ℕ) →
+      IsCombined statements_of o n c p groups i old table old_sum total factor → All (λ y. arity y ≡ n) all → groups ≡ all → i < length groups → x ≡ get_or groups i x →
+      ((q : ℕ) → factor ≡ power o c q → AddsBatch o (arity x) c q (statements_of x) table table' total total') → ((q : ℕ) → factor ≡ power o c q → factor' ≡ power o c (q + length (statements_of x))) →
+      IsCombined statements_of o n c p groups (i + 1) old table' old_sum total' factor'
+  IsCombined-more arity all i x old table table' old_sum total total' factor factor' so_far fits same low at added next =
+      let done = flat_map statements_of (take i groups) in
+      let q = p + length done in
+      let longer = groups-more statements_of groups i x low at in
+      let count : q + length (statements_of x) ≡ p + length (flat_map statements_of (take (i + 1) groups)) = omega (arith, length-append done (statements_of x), ap length longer) in
+      record {
+        added = AddsBatch-group o ring n (arity x) c p _ (statements_of x) _ old table table' old_sum total total' longer (arity-of arity n groups all i x fits same low at) so_far.added (added q so_far.next);
+        next = next q so_far.next ∙ ap (power o c) count;
+      }

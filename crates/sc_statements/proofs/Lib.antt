@@ -1,6 +1,8 @@
 pub mod WeightSteps
 pub mod WeightValues
 pub mod Evaluations
-pub mod BatchSteps
 pub mod FalseSteps
+pub mod EvaluationReads
+pub mod BatchSteps
 pub mod GroupSteps
+pub mod FalseGroups

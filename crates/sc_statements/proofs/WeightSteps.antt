@@ -1,12 +1,12 @@
 -- Equality weights that are added to rows, by halves.
-use Rattle.std.proofs.Common.{◌≡◌, ◌≢◌, ℕ, zero, suc, ◌+◌, ◌-◌, ◌*◌, ◌/◌, ◌^◌, ◌<◌, ◌≤◌, List, [], ◌∷◌, ◌++◌, length, get_or, set, take, drop, map, sym, ◌∙◌, ap, refl, subst, arith, ⊎_elim}
+use Rattle.std.proofs.Common.{◌≡◌, ℕ, suc, ◌+◌, ◌-◌, ◌*◌, ◌/◌, ◌^◌, ◌<◌, ◌≤◌, List, [], ◌∷◌, ◌++◌, length, get_or, set, take, drop, map, sym, ◌∙◌, ap, refl, subst, arith, ⊎_elim}
 use Rattle.std.proofs.lemmas.Bool.{cases_lt}
 use Rattle.std.proofs.lemmas.List.{take_all, take_at, drop_at, length-map, length-append, length-take-le, length-drop, length-set}
 use Rattle.std.proofs.Math.Nat.{pow-suc}
 use Rattle.sc_definitions.specs.Ring.{Ops, IsRing, element, plus, times, minus}
 use Rattle.sc_definitions.specs.Tables.{entries, weight}
 use Rattle.sc_definitions.proofs.RingLaws.{times-one, times_assoc, plus-element_right}
-use Rattle.sc_definitions.proofs.Identity.{atom, unit, ◌⊕◌, ◌⊗◌, ◌⊖◌, Agree, identity}
+use Rattle.sc_definitions.proofs.Identity.{atom, unit, ◌⊗◌, ◌⊖◌, Agree, identity}
 use Rattle.sc_definitions.proofs.TableLaws.{weight-low, weight-high, two_halves}
 use Rattle.sc_table.proofs.EntryLaws.{entry-set_same, entry-set_other, entry-take, entry-drop, entry-append_left, entry-read}
 

@@ -42,7 +42,7 @@ impl<EF: Field> Statements<EF> {
         }
     }
 
-    /// That there is no statement.
+    /// Whether there is no statement.
     pub fn is_empty(&self) -> bool
         ensures { IsTrue result ↔ (group_statements EF.number self.now ≡ []) }
     {
@@ -64,7 +64,7 @@ impl<EF: Field> Statements<EF> {
     }
 
     // Adds the claimed values to the sum, the first times `first`, and each next one times the challenge
-    // once more; the answer is the factor of a statement behind the last.
+    // once more. The answer is the factor of a statement behind the last.
     pub(crate) fn add_values(&self, sum: &mut EF, challenge: EF, first: EF) -> EF
         ensures added { (p : ℕ) → EF.number first ≡ power EF.ops (EF.number challenge) p →
             EF.number sum.new ≡ plus EF.ops (EF.number sum.old) (batched_claim EF.ops (EF.number challenge) p (group_statements EF.number self.now)) }
@@ -76,7 +76,7 @@ impl<EF: Field> Statements<EF> {
         }
     }
 
-    // The same, with the weights added to the rows of a table; `NoMemory` leaves both as they were.
+    // The same, and the weights are added to the rows of a table. `NoMemory` leaves both as they were.
     pub(crate) fn add_batch(
         &self,
         _alloc: Global,

@@ -51,7 +51,7 @@ impl<EF: Field> EqStatement<EF> {
         self.num_variables
     }
 
-    /// That there is no statement.
+    /// Whether there is no statement.
     pub fn is_empty(&self) -> bool
         ensures { IsTrue result ↔ (eq_statements EF.number self.now ≡ []) }
     {
@@ -111,13 +111,13 @@ impl<EF: Field> EqStatement<EF> {
             ≡ eq_statements EF.number self.old ++ eq_statements EF.number other.now) }
         ensures refused { OnErr result (eq_statements EF.number self.new ≡ eq_statements EF.number self.old) }
     {
-        let mut copies = other.copies(*self.constraints.allocator())?;
+        let mut copies = other.copied_constraints(*self.constraints.allocator())?;
         self.constraints.append(&mut copies)?;
         Ok(())
     }
 
     // The points and the values, in memory of their own.
-    fn copies(&self, alloc: Global) -> Result<Vec<EvaluatedConstraint<EF>>, NoMemory>
+    fn copied_constraints(&self, alloc: Global) -> Result<Vec<EvaluatedConstraint<EF>>, NoMemory>
         ensures { IfOk result (λ v. v.items ≡ self.now.constraints.items) }
     {
         let mut copies = Vec::with_capacity(alloc, self.constraints.len())?;
@@ -131,7 +131,7 @@ impl<EF: Field> EqStatement<EF> {
         Ok(copies)
     }
 
-    /// That every statement is true of the table, which has as many variables as the statements say.
+    /// Whether every statement is true of the table, which has as many variables as the statements say.
     /// It takes no memory.
     pub fn verify(&self, poly: &Poly<EF>) -> bool
         requires { variables_of poly.now ≡ eq_arity self.now }
@@ -140,8 +140,8 @@ impl<EF: Field> EqStatement<EF> {
         self.first_false(poly).is_none()
     }
 
-    /// What the value of statement number `index` is in truth: the table's value at its point. The table
-    /// has as many variables as the statements say.
+    /// The true value of statement number `index`, which is below [`EqStatement::len`]: the table's value
+    /// at the statement's point. The table has as many variables as the statements say.
     pub fn true_value<F: Field>(&self, index: usize, table: &Poly<F>) -> EF
     where
         EF: Algebra<F>,
@@ -153,7 +153,7 @@ impl<EF: Field> EqStatement<EF> {
         table.eval(&self.constraints[index].point)
     }
 
-    /// The value that statement number `index` claims.
+    /// The value that statement number `index`, which is below [`EqStatement::len`], claims.
     pub fn claimed_value(&self, index: usize) -> EF
         requires { index < length (eq_statements EF.number self.now) }
         ensures { EF.number result ≡ slice_index (claimed_values (eq_statements EF.number self.now)) index }
@@ -181,8 +181,8 @@ impl<EF: Field> EqStatement<EF> {
         None
     }
 
-    /// Adds to the sum the claimed values times the powers of `gamma`: statement number i has the power
-    /// `shift + i`.
+    /// Adds to the sum the claimed values times the powers of `gamma`: that of statement number i times
+    /// the power `shift + i`.
     pub fn combine_evals(&self, claimed_eval: &mut EF, gamma: EF, shift: usize)
         ensures { EF.number claimed_eval.new
             ≡ plus EF.ops (EF.number claimed_eval.old) (batched_claim EF.ops (EF.number gamma) shift (eq_statements EF.number self.now)) }
@@ -190,12 +190,15 @@ impl<EF: Field> EqStatement<EF> {
         let _next = self.add_values(claimed_eval, gamma, gamma.exp_u64(shift as u64));
     }
 
-    /// Takes the statements, times the powers of `challenge`, into a table of weights and a sum:
-    /// statement number i has the power `shift + i`.
+    /// Takes the statements into a table of weights and a sum, statement number i times the power
+    /// `shift + i` of the challenge.
     ///
-    /// The sum gains the claimed values. The table, which has as many variables as the statements say,
-    /// gains the statements' equality weights where `INITIALIZED`, and becomes them where not. No
-    /// statement changes nothing. It takes no memory today; `NoMemory` would leave both as they were.
+    /// With `INITIALIZED` the table, which has as many variables as the statements say, gains their
+    /// equality weights; without it the table becomes them, whatever it held. The sum gains the claimed
+    /// values either way. Where there is no statement, both stay under either flag.
+    ///
+    /// The weights are made where they are added, in time linear in the table's length for each
+    /// statement, so no memory is taken; `NoMemory` would leave both as they were.
     pub fn combine_hypercube<Base: Field, const INITIALIZED: bool>(
         &self,
         _alloc: Global,
@@ -229,8 +232,9 @@ impl<EF: Field> EqStatement<EF> {
         Ok(())
     }
 
-    // Adds the weights and the values, the first statement's times `first`, and each next one's times
-    // the challenge once more; the answer is the factor of a statement behind the last.
+    // Adds the weights to the table and the values to the sum, those of the first statement times `first`,
+    // and those of each next one times the challenge once more. The answer is the factor of a statement
+    // behind the last: a factor and no number of its power, since powers over groups may pass any type.
     pub(crate) fn add_batch(
         &self,
         weights: &mut Poly<EF>,
@@ -254,7 +258,7 @@ impl<EF: Field> EqStatement<EF> {
         self.add_values(sum, challenge, first)
     }
 
-    // The same, of the values alone.
+    // The same with the values alone.
     pub(crate) fn add_values(&self, sum: &mut EF, challenge: EF, first: EF) -> EF
         ensures added { (p : ℕ) → EF.number first ≡ power EF.ops (EF.number challenge) p →
             EF.number sum.new ≡ plus EF.ops (EF.number sum.old) (batched_claim EF.ops (EF.number challenge) p (eq_statements EF.number self.now)) }

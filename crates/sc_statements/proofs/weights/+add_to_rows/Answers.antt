@@ -1,7 +1,5 @@
-use Rattle.std.proofs.Common.{◌≡◌, ℕ, ◌^◌, ◌<◌, ◌≤◌, length, sym, ◌∙◌, ap, arith}
+use Rattle.std.proofs.Common.{◌≡◌, ◌^◌, ◌<◌, ◌≤◌, length, ◌∙◌, ap, arith}
 use Rattle.std.proofs.lemmas.Nat.{pow_pos}
-use Rattle.sc_definitions.specs.Ring.{plus, times, minus}
-use Rattle.sc_definitions.specs.Tables.{entries}
 use Rattle.sc_definitions.proofs.LoopLaws.{entry-read}
 use Rattle.sc_statements.proofs.WeightSteps.{added-none, added-one, added-more, entry-set_next}
 use Rattle.sc_statements.proofs.weights.+add_to_rows.Goals as goal

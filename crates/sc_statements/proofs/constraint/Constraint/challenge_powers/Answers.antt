@@ -1,5 +1,4 @@
-use Rattle.std.proofs.Common.{◌≡◌, sym, ◌∙◌, ap}
-use Rattle.sc_definitions.specs.Ring.{times}
+use Rattle.std.proofs.Common.{sym, ◌∙◌}
 use Rattle.sc_field.proofs.PowersLaws.{power-plus}
 use Rattle.sc_statements.proofs.constraint.Constraint.challenge_powers.Goals as goal
 

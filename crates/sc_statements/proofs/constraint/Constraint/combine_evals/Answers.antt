@@ -1,7 +1,7 @@
-use Rattle.std.proofs.Common.{◌≡◌, refl}
+use Rattle.std.proofs.Common.{refl}
 use Rattle.sc_statements.specs.Groups.{group_statements}
 use Rattle.sc_statements.proofs.BatchSteps.{IsSummed-none}
-use Rattle.sc_statements.proofs.GroupSteps.{IsSummed-group, groups-more}
+use Rattle.sc_statements.proofs.GroupSteps.{sum-group}
 use Rattle.sc_statements.proofs.constraint.Constraint.combine_evals.Goals as goal
 
 pub loop-group-init : goal.loop-group-init
@@ -11,6 +11,5 @@ loop-group-init g c =
 pub loop-group-preserved : goal.loop-group-preserved
 loop-group-preserved g c =
     let f = g.EF.Field in
-    IsSummed-group f.ops g.met.EF.Field.is_field.ring _ _ _ (group_statements f.number c.group-item.result) _ _ _ _ _ _
-    (groups-more (group_statements f.number) c.deref-group-items.result.now c.loop-group.group-index c.group-item.result c.loop-group-test.true c.group-item.is)
-    c.loop-group.invariant (c.add_values-coefficient.ensures.added _ c.loop-group.invariant.next) (c.add_values-coefficient.ensures.next _ c.loop-group.invariant.next)
+    sum-group (group_statements f.number) f.ops g.met.EF.Field.is_field.ring _ _ c.deref-group-items.result.now c.loop-group.group-index c.group-item.result _ _ _ _ _
+    c.loop-group.invariant c.loop-group-test.true c.group-item.is c.add_values-coefficient.ensures.added c.add_values-coefficient.ensures.next

@@ -1,4 +1,4 @@
-use Rattle.sc_statements.proofs.Evaluations.{claimed-at}
+use Rattle.sc_statements.proofs.EvaluationReads.{claimed-at}
 use Rattle.sc_statements.proofs.statement.eq.EqStatement.claimed_value.Goals as goal
 
 pub returns : goal.returns

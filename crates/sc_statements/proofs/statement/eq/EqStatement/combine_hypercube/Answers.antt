@@ -18,10 +18,9 @@ returns-then-is_empty-clause-added g c = λ _.
 pub returns-clause-overwritten : goal.returns-clause-overwritten
 returns-clause-overwritten g c = λ off _.
     let f = g.EF.Field in
+    let cleared : (b : ℕ) → b < 2 ^ c.args.self.now.num_variables → table_of f.number c.if-not-this.acc_weights b ≡ 0 = λ b low.
     elim c.if-not-this.branch [
-      | then-not-this w ↦
-          WritesBatch-cleared f.ops g.met.EF.Field.is_field.ring _ _ _ _ (table_of f.number c.if-not-this.acc_weights) _ _ _
-          (λ b low. ap (λ t. table_of f.number t b) w.acc_weights-is ∙ w.clear.ensures.table b (omega (arith, low, ap (λ k. 2 ^ k) c.requires)))
-          (c.add_batch-next.ensures.added c.args.shift c.exp_u64-first.ensures)
+      | then-not-this w ↦ ap (λ t. table_of f.number t b) w.acc_weights-is ∙ w.clear.ensures.table b (omega (arith, low, ap (λ k. 2 ^ k) c.requires))
       | else-not-this w ↦ absurd (w.if-not-this.false (eqb-true _ _ (true_from_not _ off)))
-    ]
+    ] in
+    WritesBatch-cleared f.ops g.met.EF.Field.is_field.ring _ _ _ _ (table_of f.number c.if-not-this.acc_weights) _ _ _ cleared (c.add_batch-next.ensures.added c.args.shift c.exp_u64-first.ensures)

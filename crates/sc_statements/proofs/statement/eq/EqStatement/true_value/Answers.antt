@@ -1,4 +1,4 @@
-use Rattle.sc_statements.proofs.Evaluations.{truth-at}
+use Rattle.sc_statements.proofs.EvaluationReads.{truth-at}
 use Rattle.sc_statements.proofs.statement.eq.EqStatement.true_value.Goals as goal
 
 pub returns : goal.returns

@@ -1,6 +1,6 @@
-use Rattle.std.proofs.Common.{length, map, sym, ◌∙◌, ap}
-use Rattle.sc_definitions.specs.Tables.{eq_product}
-use Rattle.sc_statements.proofs.Evaluations.{arity-first, arity-rest, weight_values-first}
+use Rattle.std.proofs.Common.{length, sym, ◌∙◌, ap}
+use Rattle.sc_statements.proofs.Evaluations.{arity-first, arity-rest}
+use Rattle.sc_statements.proofs.EvaluationReads.{weight_values-first}
 use Rattle.sc_statements.proofs.statement.eq.EqWeightsIterator.next.Goals as goal
 
 pub eval_eq-weight-requires : goal.eval_eq-weight-requires
@@ -16,8 +16,5 @@ pub returns-clause-steps : goal.returns-clause-steps
 returns-clause-steps g c =
     let f = g.EF.Field in
     let self = c.args.self.now in
-    let weight = c.eval_eq-weight.ensures
-    ∙ ap (λ l. eq_product f.ops (map f.number l) (map f.number c.as_slice-2.result.now)) c.as_slice.ensures
-    ∙ ap (λ l. eq_product f.ops (map f.number c.in_ok-first.first.now.point) (map f.number l)) c.as_slice-2.ensures in
-    weight_values-first f.number f.ops g.met.EF.Field.is_field.ring self.row.now self.rest.now _ _ _ c.in_ok-first.ensures.cases.0
-    (arity-first f.number _ _ _ _ self.fits c.in_ok-first.ensures.cases.0) weight
+    weight_values-first f.number f.ops g.met.EF.Field.is_field.ring self.row.now _ _ self.rest.now _ _ _ c.in_ok-first.ensures.cases.0
+    (arity-first f.number _ _ _ _ self.fits c.in_ok-first.ensures.cases.0) c.eval_eq-weight.ensures c.as_slice.ensures c.as_slice-2.ensures
