@@ -1,6 +1,5 @@
 pub mod Lengths
 pub mod RoundSteps
-pub mod BatchSteps
 pub mod LineLaws
 pub mod Joined
 pub mod ReportLaws

@@ -2,6 +2,7 @@
 ghost use Rattle.std.specs.Prelude.{◌≡◌, ◌<◌, ◌≤◌, ◌^◌, ◌++◌, All, IfOk, OnOk, [], length, map, string_bytes};
 ghost use Rattle.sc_definitions.specs.Scripted.{scripted_rules};
 ghost use Rattle.sc_table.specs.Polys.{variables_of};
+ghost use Rattle.sc_statements.specs.Constraints.{constraint_statements};
 ghost use Rattle.sumcheck_run.specs.Instance.{problem_shown};
 ghost use Rattle.sumcheck_run.specs.Job.{JobFits, ScriptFits};
 ghost use Rattle.sumcheck_run.specs.Lines.{claim_line, eval_line, false_claim_text, holds_line, proof_fault_text, residual_line, round_lines, shape_fault_text, weight_line};
@@ -17,7 +18,7 @@ use crate::job::{EqualityClaim, Job, Mode, Proof, Script};
 use crate::reply::{Answer, Outcome};
 use crate::rounds::{Pair, PlayedRound, challenges_of, messages_of, play, replay};
 use crate::shape::{ProofFault, ShapeFault, proof_fault, shape_fault};
-use crate::statements::{batch, first_false, statements_of};
+use crate::statements::constraint_of;
 use crate::{elements, lines};
 use sc_challenger::{Challenger, ScriptedChallenger};
 use sc_definitions::FalseClaim;
@@ -67,16 +68,13 @@ fn instance_of<F: Field>(
     requires fits { All (λ n. n < F.ops.size) table.now }
     requires rows { length table.now ≡ 2 ^ variables }
     requires claims { All (EqualityFits F.ops.size variables) claims.now }
-    ensures { IfOk result (λ i. problem_shown F.number i
+    ensures shown { IfOk result (λ i. problem_shown F.number i
         ≡ prefix_problem variables (rows_of table.now) (map statement_of claims.now) (F.number batching)) }
+    ensures count { IfOk result (λ i. length (constraint_statements F.number i.constraint) < 2 ^ 64) }
 {
-    let statements = statements_of(alloc, claims.as_slice(), variables)?;
+    let constraint = constraint_of(alloc, claims.as_slice(), variables, batching)?;
     let evals = elements::table(alloc, table.as_slice(), variables)?;
-    Ok(Instance {
-        evals,
-        statements,
-        batching,
-    })
+    Ok(Instance { evals, constraint })
 }
 
 // The challenger with an empty history that a script describes.
@@ -97,10 +95,11 @@ fn judge_build<F: Field, C: Challenger<F>>(
     challenger: &mut C,
     instance: Instance<F>,
 ) -> Result<Answer, NoMemory>
+    requires { length (constraint_statements F.number instance.constraint) < 2 ^ 64 }
     ensures { IfOk result (λ a. a
         ≡ build_reply F.ops (C.rules challenger.old) (C.history challenger.old) (problem_shown F.number instance)) }
 {
-    match first_false(&instance.evals, &instance.statements) {
+    match instance.constraint.first_false(&instance.evals) {
         Some(fault) => refuse_claim(alloc, fault),
         None => {
             let text = build(alloc, challenger, instance)?;
@@ -118,12 +117,8 @@ fn build<F: Field, C: Challenger<F>>(
     ensures { IfOk result (λ text. string_bytes text
         ≡ build_report F.ops (C.rules challenger.old) (C.history challenger.old) (problem_shown F.number instance)) }
 {
-    let Instance {
-        evals,
-        statements,
-        batching,
-    } = instance;
-    let (weights, claim) = batch(alloc, evals.num_variables(), &statements, batching)?;
+    let Instance { evals, constraint } = instance;
+    let (weights, claim) = constraint.combine_new(alloc)?;
     let mut pair = Pair {
         evals,
         weights,
@@ -147,7 +142,8 @@ fn judge_check<F: Field, C: Challenger<F>>(
     instance: &Instance<F>,
     proof: Option<Proof>,
 ) -> Result<Answer, NoMemory>
-    requires { All (λ pair. (pair.0 < F.ops.size) × (pair.1 < F.ops.size)) (pairs_in proof) }
+    requires count { length (constraint_statements F.number instance.now.constraint) < 2 ^ 64 }
+    requires pairs { All (λ pair. (pair.0 < F.ops.size) × (pair.1 < F.ops.size)) (pairs_in proof) }
     ensures { IfOk result (λ a. a ≡ proved (proof_fault (variables_of instance.now.evals) proof)
         (check_reply F.ops (C.rules challenger.old) (C.history challenger.old) (problem_shown F.number instance.now) (rounds_in proof))) }
 {
@@ -167,19 +163,19 @@ fn judge_rounds<F: Field, C: Challenger<F>>(
     instance: &Instance<F>,
     messages: &[RoundMessage<F>],
 ) -> Result<Answer, NoMemory>
-    requires { length messages.now ≡ variables_of instance.now.evals }
+    requires count { length (constraint_statements F.number instance.now.constraint) < 2 ^ 64 }
+    requires rounds { length messages.now ≡ variables_of instance.now.evals }
     ensures { IfOk result (λ a. a ≡ check_reply F.ops (C.rules challenger.old) (C.history challenger.old)
         (problem_shown F.number instance.now) (map (round_sent F.number) messages.now)) }
 {
-    let variables = instance.evals.num_variables();
-    let (weights, claim) = batch(alloc, variables, &instance.statements, instance.batching)?;
+    let (weights, claim) = instance.constraint.combine_new(alloc)?;
     let (rounds, residual) = replay(alloc, challenger, claim, messages)?;
     let point = Point::new(challenges_of(alloc, &rounds)?);
     let eval: F = instance.evals.eval(&point);
     let weight: F = weights.eval(&point);
     let text = report_text(alloc, claim, &rounds, residual, eval, weight)?;
     let matched = residual.index() == eval.mul(weight).index();
-    let fault = first_false(&instance.evals, &instance.statements);
+    let fault = instance.constraint.first_false(&instance.evals);
     say_verdict(alloc, text, matched, fault)
 }
 

@@ -8,7 +8,7 @@ use Rattle.sc_table.specs.Polys.{variables_of, table_of}
 use Rattle.sumcheck_run.specs.Lines.{claim_line, round_lines, residual_line, eval_line, weight_line, holds_line}
 use Rattle.sumcheck_run.specs.Played.{drawn_of, round_sent, sent_of}
 use Rattle.sumcheck_run.specs.Report.{prefix_problem}
-use Rattle.sumcheck_run.specs.Statements.{shown_of}
+use Rattle.sc_statements.specs.Constraints.{constraint_arity, constraint_challenge, constraint_statements}
 use Rattle.sumcheck_run.proofs.ReportLaws.{entry-below, weights-batched, claim-batched, report-played}
 use Rattle.sumcheck_run.proofs.RoundSteps.{played-replayed}
 use Rattle.sumcheck_run.proofs.report.build.Goals as goal
@@ -23,19 +23,19 @@ returns g c =
     let i = c.args.instance in
     let n = variables_of i.evals in
     let f = table_of N i.evals in
-    let ss = map (shown_of N) i.statements.items in
-    let batching = N i.batching in
+    let ss = constraint_statements N i.constraint in
+    let batching = constraint_challenge N i.constraint in
     let end = c.play.new.pair in
     let played_rounds = c.in_ok-played.played.items in
     let replayed = c.in_ok-rounds.rounds.items in
     let residual = N c.in_ok-rounds.residual in
-    let power : 2 ^ c.num_variables.result ≡ 2 ^ n = ap (λ k. 2 ^ k) c.num_variables.ensures in
-    let claim = claim-batched o ring R h n f ss batching _ (c.in_ok-weights.ensures.claim ∙ ap (λ t. batched_claim o batching 0 (map (shown_of N) t)) c.deref.ensures.value) in
+    let power : 2 ^ constraint_arity i.constraint ≡ 2 ^ n = ap (λ k. 2 ^ k) i.arity in
+    let claim = claim-batched o ring R h n f ss batching _ (c.in_ok-weights.ensures.claim ∙ ap (λ p. batched_claim o batching p ss) i.power) in
     let built = c.in_ok-played.ensures.played f (weights_of o (prefix_problem n f ss batching)) (λ b _. refl)
     (λ b low. weights-batched o ring R h n f ss batching b _
-    (c.in_ok-weights.ensures.weights b (omega (arith, low, power)) ∙ ap (λ t. batched_weight o batching 0 (map (shown_of N) t) b) c.deref.ensures.value)) in
-    let messages : map (round_sent N) c.deref-3.result.now ≡ map (sent_of N) played_rounds =
-    ap (map (round_sent N)) c.deref-3.ensures.value ∙ c.in_ok-messages.ensures ∙ ap (map (sent_of N)) c.deref-2.ensures.value in
+    (c.in_ok-weights.ensures.weights b (omega (arith, low, power)) ∙ ap (λ p. batched_weight o batching p ss b) i.power)) in
+    let messages : map (round_sent N) c.deref-2.result.now ≡ map (sent_of N) played_rounds =
+    ap (map (round_sent N)) c.deref-2.ensures.value ∙ c.in_ok-messages.ensures ∙ ap (map (sent_of N)) c.deref.ensures.value in
     let played = played-replayed o R _ n f (weights_of o (prefix_problem n f ss batching)) _ h _ (map (sent_of N) played_rounds) _ _ (map (drawn_of N) replayed)
     (table_of N end.evals) (table_of N end.weights) _ residual _ _ c.in_ok-copied.ensures.rules c.in_ok-copied.ensures.history messages built c.in_ok-rounds.ensures.replayed in
     let below = λ (t : Poly g.row.F.Denot). entry-below N o.size (size_pos o ring) g.met.F.Field.number_below t.evals.items 0 in
@@ -51,7 +51,7 @@ returns g c =
     ++ residual_line residual ++ eval_line (table_of N end.evals 0) ++ weight_line (table_of N end.weights 0) =
     c.in_ok-text.ensures
     ∙ ap (λ xs. first ++ round_lines 0 (map (sent_of N) xs) (map (drawn_of N) xs) ++ residual_line residual ++ eval_line (N c.index-as_slice-0.result)
-    ++ weight_line (N c.index-as_slice-0-2.result)) c.deref-4.ensures.value
+    ++ weight_line (N c.index-as_slice-0-2.result)) c.deref-3.ensures.value
     ∙ ap (λ t. first ++ round_lines 0 t (map (drawn_of N) replayed) ++ residual_line residual ++ eval_line (N c.index-as_slice-0.result)
     ++ weight_line (N c.index-as_slice-0-2.result)) (c.in_ok-rounds.ensures.sent ∙ messages)
     ∙ ap (λ x. first ++ round_lines 0 (map (sent_of N) played_rounds) (map (drawn_of N) replayed) ++ residual_line residual ++ eval_line x
