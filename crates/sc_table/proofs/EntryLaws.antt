@@ -1,5 +1,5 @@
 -- What is read from a list is its table's entry, after each change of the list.
-use Rattle.std.proofs.Common.{◌≡◌, ◌≢◌, ℕ, zero, suc, ◌+◌, ◌<◌, ◌≤◌, replicate, List, [], ◌∷◌, ◌++◌, length, set, take, drop, sym, ◌∙◌, ap, refl, arith}
+use Rattle.std.proofs.Common.{◌≡◌, ◌≢◌, ℕ, zero, suc, ◌+◌, ◌<◌, replicate, List, [], ◌∷◌, ◌++◌, length, set, take, drop, sym, ◌∙◌, ap, refl, arith}
 use Rattle.sc_definitions.specs.Tables.{entries}
 pub use Rattle.sc_definitions.proofs.LoopLaws.{entry-read}
 
@@ -46,17 +46,6 @@ pub entry-append_last : {X : Type 0} (number : X → ℕ) (xs : List X) (y : X) 
 unfolding entries
 entry-append_last number [] y = refl
 entry-append_last number (x ∷ xs) y = entry-append_last number xs y
-
--- what a shortened vector's entries are
-pub entry-kept : {X : Type 0} (number : X → ℕ) (items new rest : List X) (half len i : ℕ) → items ≡ take half (take len (new ++ rest)) →
-    i < half → half ≤ len → half ≤ length new → entries number items i ≡ entries number new i
-entry-kept number items new rest half len i is low p q =
-    let in_new : i < length new = omega arith in
-    let in_len : i < len = omega arith in
-    ap (λ xs. entries number xs i) is
-    ∙ entry-take number (take len (new ++ rest)) half i low
-    ∙ entry-take number (new ++ rest) len i in_len
-    ∙ entry-append_left number new rest i in_new
 
 -- ---- other numbers, and equal values
 

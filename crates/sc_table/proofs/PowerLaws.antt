@@ -1,17 +1,16 @@
 -- Lengths that are powers of two.
-use Rattle.std.proofs.Common.{◌≡◌, ℕ, zero, suc, ◌-◌, ◌*◌, ◌/◌, ◌%◌, ◌^◌, ◌<◌, ◌≤◌, sym, ◌∙◌, ap, refl, arith, ⊎_elim}
+use Rattle.std.proofs.Common.{◌≡◌, ℕ, zero, suc, ◌+◌, ◌*◌, ◌/◌, ◌%◌, ◌^◌, ◌<◌, ◌≤◌, sym, ◌∙◌, ap, refl, arith, ⊎_elim}
 use Rattle.std.proofs.lemmas.Bool.{cases_lt}
 use Rattle.std.proofs.Math.Nat.{pow-suc}
 use Rattle.std.proofs.Math.Pow.{pow_mono}
 use lib.Count.{count_trailing_zeros, under}
 
 -- half of one is that of one variable less
-pub half_of_power : (n v : ℕ) → 0 < v → n ≡ 2 ^ v → 2 ^ (v - 1) ≡ n / 2
-half_of_power n zero pos is = absurd (omega arith)
-half_of_power n (suc v) pos is =
-    let low : suc v - 1 ≡ v = omega arith in
-    let twice : n ≡ 2 ^ v * 2 = is ∙ pow-suc 2 v in
-    ap (λ k. 2 ^ k) low ∙ omega arith
+pub power-half : (n v w : ℕ) → n ≡ 2 ^ v → v ≡ w + 1 → n / 2 ≡ 2 ^ w
+power-half n v w is more =
+    let next : v ≡ suc w = omega arith in
+    let twice : n ≡ 2 ^ w * 2 = is ∙ ap (λ k. 2 ^ k) next ∙ pow-suc 2 w in
+    omega arith
 
 -- the zeros at the end of a power's digits are as many as its exponent says
 pub zeros-power : (k n : ℕ) → n < k → count_trailing_zeros k (2 ^ n) ≡ n

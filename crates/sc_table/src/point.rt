@@ -1,9 +1,10 @@
 //! Points, and the equality weight of two points.
 
-ghost use Rattle.std.specs.Prelude.{◌≡◌, List, length, map};
+ghost use Rattle.std.specs.Prelude.{◌≡◌, ◌≤◌, ◌++◌, List, length, map, reverse, IfOk};
 ghost use Rattle.sc_definitions.specs.Tables.{eq_product};
 
-use sc_field::Field;
+use sc_field::{Field, NoMemory};
+use std::alloc::Global;
 use std::marker::Model;
 
 /// A point: one coordinate for each variable. A contract sees the list of coordinates.
@@ -38,6 +39,38 @@ impl<EF> Point<EF> {
         ensures { result.now ≡ self.now }
     {
         &self.coords
+    }
+}
+
+impl<EF: Copy> Point<EF> {
+    /// The same point, in memory of its own; `NoMemory` where there is none.
+    pub fn copy(&self, alloc: Global) -> Result<Self, NoMemory>
+        ensures { IfOk result (λ p. p ≡ self.now) }
+    {
+        let coords = Vec::from_slice(alloc, &self.coords)?;
+        Ok(Point { coords })
+    }
+
+    /// The point with the last coordinate first, in memory of its own; `NoMemory` where there is none.
+    pub fn reversed(&self, alloc: Global) -> Result<Self, NoMemory>
+        ensures { IfOk result (λ p. p ≡ reverse self.now) }
+    {
+        let mut coords = Vec::from_slice(alloc, &self.coords)?;
+        coords.reverse();
+        Ok(Point { coords })
+    }
+
+    /// The points of the first `k` coordinates and of the others, in memory of their own; `NoMemory`
+    /// where there is none. `k` is at most as many as the point has.
+    pub fn split_at(&self, alloc: Global, k: usize) -> Result<(Self, Self), NoMemory>
+        requires { k ≤ length self.now }
+        ensures front { IfOk result (λ parts. length parts.0 ≡ k) }
+        ensures joined { IfOk result (λ parts. parts.0 ++ parts.1 ≡ self.now) }
+    {
+        let (front, back) = self.coords.split_at(k);
+        let front = Vec::from_slice(alloc, front)?;
+        let back = Vec::from_slice(alloc, back)?;
+        Ok((Point { coords: front }, Point { coords: back }))
     }
 }
 

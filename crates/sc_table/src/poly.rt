@@ -1,9 +1,9 @@
 //! Tables of values.
 
-ghost use Rattle.std.specs.Prelude.{◌≡◌, ℕ, suc, ◌+◌, ◌-◌, ◌*◌, ◌/◌, ◌^◌, ◌<◌, ◌≤◌, [], ◌∷◌, List, length, map, IfOk, vec_len, vec_capacity};
+ghost use Rattle.std.specs.Prelude.{◌≡◌, ℕ, suc, ◌+◌, ◌-◌, ◌*◌, ◌/◌, ◌^◌, ◌<◌, ◌≤◌, [], ◌∷◌, ◌++◌, List, length, map, IfOk, vec_len, vec_capacity};
 ghost use Rattle.std.specs.Borrow.{sem};
 ghost use Rattle.sc_definitions.specs.Ring.{times, minus};
-ghost use Rattle.sc_definitions.specs.Tables.{entries, weight, value, bound};
+ghost use Rattle.sc_definitions.specs.Tables.{entries, weight, value, bound, bound_low};
 
 use crate::Point;
 use sc_field::{Algebra, Field, NoMemory};
@@ -136,9 +136,37 @@ impl<A: Field> Poly<A> {
         ensures value { (zs : List ℕ) → length zs ≡ variables_of self.new →
             value A.ops (table_of A.number self.new) zs ≡ value A.ops (table_of A.number self.old) (A.embedding (Ch.number r) ∷ zs) }
     {
-        let half = self.evals.len() / 2;
-        bind_halves(self.evals.as_mut_slice(), half, r);
-        self.evals.truncate(half);
+        let half = self.num_evals() / 2;
+        bind_halves(self.as_mut_slice(), half, r);
+        self.keep_first_half();
+    }
+
+    /// The last variable is bound at `r`, and the table is halved, in its place: two neighbours, rows
+    /// 2b and 2b + 1, become lo + (hi - lo) r in row b.
+    pub fn fix_suffix_var_mut<Ch: Field>(&mut self, r: Ch)
+    where
+        A: Algebra<Ch>,
+        requires { 0 < variables_of self.old }
+        ensures fewer { variables_of self.old ≡ variables_of self.new + 1 }
+        ensures bound { (b : ℕ) → b < 2 ^ variables_of self.new →
+            table_of A.number self.new b ≡ bound_low A.ops (A.embedding (Ch.number r)) (table_of A.number self.old) b }
+
+        // The value at the other coordinates is the old value with `r` placed last.
+        ensures value { (zs : List ℕ) → length zs ≡ variables_of self.new →
+            value A.ops (table_of A.number self.new) zs ≡ value A.ops (table_of A.number self.old) (zs ++ A.embedding (Ch.number r) ∷ []) }
+    {
+        let half = self.num_evals() / 2;
+        bind_pairs(self.as_mut_slice(), half, r);
+        self.keep_first_half();
+    }
+
+    // The first half of the values alone, as a table of one variable less.
+    fn keep_first_half(&mut self)
+        requires { 0 < variables_of self.old }
+        ensures fewer { variables_of self.old ≡ variables_of self.new + 1 }
+        ensures kept { (b : ℕ) → b < 2 ^ variables_of self.new → table_of A.number self.new b ≡ table_of A.number self.old b }
+    {
+        self.evals.truncate(self.evals.len() / 2);
         self.variables -= 1;
     }
 }
@@ -171,6 +199,19 @@ fn bind_halves<A: Algebra<Ch>, Ch: Field>(evals: &mut [A], half: usize, r: Ch)
     for b in 0..half {
         let lo = evals[b];
         let hi = evals[half + b];
+        evals[b] = lo.add(hi.sub(lo).mul_base(r));
+    }
+}
+
+// Entry b becomes lo + (hi - lo) r over entries 2b and 2b + 1, which no write before it has reached.
+fn bind_pairs<A: Algebra<Ch>, Ch: Field>(evals: &mut [A], half: usize, r: Ch)
+    requires { half + half ≤ length evals.old }
+    ensures { (b : ℕ) → b < half →
+        entries A.number evals.new b ≡ bound_low A.ops (A.embedding (Ch.number r)) (entries A.number evals.old) b }
+{
+    for b in 0..half {
+        let lo = evals[2 * b];
+        let hi = evals[2 * b + 1];
         evals[b] = lo.add(hi.sub(lo).mul_base(r));
     }
 }

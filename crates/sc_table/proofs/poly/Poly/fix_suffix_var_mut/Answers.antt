@@ -1,0 +1,27 @@
+use Rattle.std.proofs.Common.{◌≡◌, length, ◌/◌, ◌^◌, ◌<◌, sym, ◌∙◌, ap, subst}
+use Rattle.sc_definitions.specs.Tables.{bound_low}
+use Rattle.sc_definitions.proofs.TableLaws.{value-same}
+use Rattle.sc_definitions.proofs.SuffixLaws.{value-bound_low}
+use Rattle.sc_table.specs.Polys.{variables_of, table_of}
+use Rattle.sc_table.proofs.PowerLaws.{power-half}
+use Rattle.sc_table.proofs.poly.Poly.fix_suffix_var_mut.Goals as goal
+
+pub returns-clause-bound : goal.returns-clause-bound
+returns-clause-bound g c = λ b low.
+    let a = g.A.Field in
+    let r = g.A.Algebra.embedding (g.Ch.Field.number c.args.r) in
+    let m = variables_of c.keep_first_half.new.self in
+    let half_is : c.num_evals-half.result / 2 ≡ 2 ^ m = power-half _ _ m c.num_evals-half.ensures c.keep_first_half.ensures.fewer in
+    let size : length c.bind_pairs.new.evals ≡ 2 ^ variables_of c.args.self.now = c.bind_pairs.auto.evals ∙ c.as_mut_slice.ensures.size in
+    c.keep_first_half.ensures.kept b low
+    ∙ ap (λ t. t b) (c.as_mut_slice.ensures.written c.bind_pairs.new.evals size)
+    ∙ c.bind_pairs.ensures b (subst (λ n. b < n) (sym half_is) low)
+    ∙ ap (λ t. bound_low a.ops r t b) c.as_mut_slice.ensures.numbers
+
+pub returns-clause-value : goal.returns-clause-value
+returns-clause-value g c = λ zs size.
+    let a = g.A.Field in
+    let r = g.A.Algebra.embedding (g.Ch.Field.number c.args.r) in
+    let same : 2 ^ variables_of c.keep_first_half.new.self ≡ 2 ^ length zs = ap (λ k. 2 ^ k) (sym size) in
+    value-same a.ops _ _ zs (λ b low. returns-clause-bound g c b (subst (λ k. b < k) (sym same) low))
+    ∙ sym (value-bound_low a.ops g.met.A.Field.is_field.ring (table_of a.number c.args.self.now) zs r)
