@@ -1,2 +1,3 @@
 pub mod Polys
 pub mod PolyLoans
+pub mod Strategy

@@ -1,10 +1,12 @@
-//! Tables of a field's elements, their values at points, and what a round of the sumcheck protocol sends.
+//! Tables of a field's elements, their values at points, and what a round of the sumcheck protocol sends
+//! and how it binds them.
 //!
 //! A table of n variables has 2^n entries. Coordinate 1 of a point belongs to the highest bit of a row,
 //! and coordinate n to the lowest. Contracts speak of elements by their numbers, as `sc_field` gives them.
 #![tactic(auto)]
 
 mod lagrange;
+mod laws;
 mod point;
 mod poly;
 mod row;
@@ -12,8 +14,12 @@ mod strategy;
 #[cfg(test)]
 mod tests;
 
-pub use lagrange::extrapolate_01inf;
+pub use lagrange::{extrapolate_01inf, lagrange_weights_01inf};
+pub use laws::strategy_laws;
 pub use point::Point;
 pub use poly::Poly;
 pub use row::Row;
-pub use strategy::{RoundMessage, sumcheck_coefficients_prefix};
+pub use strategy::{
+    Basis, RoundMessage, VariableOrder, sumcheck_coefficients_prefix,
+    sumcheck_coefficients_prefix_projective, sumcheck_coefficients_suffix,
+};

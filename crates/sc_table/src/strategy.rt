@@ -1,19 +1,72 @@
-//! What a round sends, from the two tables as they stand.
+//! What a round sends, from the two tables as they stand, and how it binds them: by basis and by order.
 
-ghost use Rattle.std.specs.Prelude.{◌≡◌, ℕ, suc, ◌+◌, ◌/◌, ◌%◌, ◌^◌, [], ◌∷◌, length};
-ghost use Rattle.sc_definitions.specs.Tables.{evaluation, prefix, entries};
+ghost use Rattle.std.specs.Prelude.{◌≡◌, ℕ, suc, ◌+◌, ◌/◌, ◌%◌, ◌^◌, ◌<◌, [], ◌∷◌, List, length};
+ghost use Rattle.sc_definitions.specs.Ring.{plus, times, minus};
+ghost use Rattle.sc_definitions.specs.Tables.{evaluation, projective, prefix, suffix, IsOffered, entries, value, placed, bound_in};
 ghost use Rattle.sc_definitions.specs.Messages.{message_first, message_leading};
-ghost use Rattle.sc_definitions.specs.Rounds.{honest_pair};
+ghost use Rattle.sc_definitions.specs.Rounds.{honest_pair, next_claim};
+ghost use Rattle.sc_table.specs.Strategy.{basis_of, order_of};
+ghost use Rattle.sc_table.specs.Polys.{variables_of, table_of};
 
+use crate::{Poly, extrapolate_01inf};
 use sc_field::{Algebra, Field};
 
-/// The two values that a round sends: its polynomial at 0, and its leading coefficient.
+/// The two values that a round sends: its polynomial at 0, or in the projective basis at 1, and its
+/// leading coefficient.
+///
+/// A message does not say of which basis it is: `Basis::sumcheck_coefficients` makes it, and
+/// `Basis::reduce_claim` of the same basis takes it.
 #[derive(Debug, Clone, Copy, PartialEq, Eq)]
 pub struct RoundMessage<A> {
-    /// The value at 0.
+    /// The value at 0, or in the projective basis at 1.
     pub c_a: A,
     /// The leading coefficient, of the square of the variable.
     pub c_inf: A,
+}
+
+impl<A: Field> RoundMessage<A> {
+    // The message of no rows.
+    fn zero() -> Self
+        ensures first { A.number result.c_a ≡ 0 }
+        ensures leading { A.number result.c_inf ≡ 0 }
+    {
+        RoundMessage {
+            c_a: A::ZERO,
+            c_inf: A::ZERO,
+        }
+    }
+
+    // The message with the share of one place more, at which the two tables have the values e0 and w0
+    // where the round's variable is 0, and e1 and w1 where it is 1.
+    fn with_values<B: Field>(self, e0: B, e1: B, w0: A, w1: A) -> Self
+    where
+        A: Algebra<B>,
+        ensures first { A.number result.c_a
+            ≡ plus A.ops (A.number self.c_a) (times A.ops (A.embedding (B.number e0)) (A.number w0)) }
+        ensures leading { A.number result.c_inf
+            ≡ plus A.ops (A.number self.c_inf) (times A.ops (minus A.ops (A.embedding (B.number e1)) (A.embedding (B.number e0))) (minus A.ops (A.number w1) (A.number w0))) }
+    {
+        RoundMessage {
+            c_a: self.c_a.add(w0.mul_base(e0)),
+            c_inf: self.c_inf.add(w1.sub(w0).mul_base(e1.sub(e0))),
+        }
+    }
+
+    // The message with the share of one place more, at which the two tables have the coefficients e0
+    // and w0 without the round's variable, and e1 and w1 with it.
+    fn with_coefficients<B: Field>(self, e0: B, e1: B, w0: A, w1: A) -> Self
+    where
+        A: Algebra<B>,
+        ensures first { A.number result.c_a
+            ≡ plus A.ops (A.number self.c_a) (times A.ops (plus A.ops (A.embedding (B.number e0)) (A.embedding (B.number e1))) (plus A.ops (A.number w0) (A.number w1))) }
+        ensures leading { A.number result.c_inf
+            ≡ plus A.ops (A.number self.c_inf) (times A.ops (A.embedding (B.number e1)) (A.number w1)) }
+    {
+        RoundMessage {
+            c_a: self.c_a.add(w0.add(w1).mul_base(e0.add(e1))),
+            c_inf: self.c_inf.add(w1.mul_base(e1)),
+        }
+    }
 }
 
 /// The message of a round that binds the first variable, of two tables of values of one even length.
@@ -38,15 +91,193 @@ pub fn sumcheck_coefficients_prefix<B: Field, A: Algebra<B>>(
         ≡ honest_pair evaluation prefix A.ops (entries (λ x. A.embedding (B.number x)) evals.now) (entries A.number weights.now) [] m }
 {
     let half = evals.len() / 2;
-    let mut c_a = A::ZERO;
-    let mut c_inf = A::ZERO;
+    let mut message = RoundMessage::zero();
     for i in 0..half {
-        let e0 = evals[i];
-        let e1 = evals[half + i];
-        let w0 = weights[i];
-        let w1 = weights[half + i];
-        c_a = c_a.add(w0.mul_base(e0));
-        c_inf = c_inf.add(w1.sub(w0).mul_base(e1.sub(e0)));
+        message = message.with_values(evals[i], evals[half + i], weights[i], weights[half + i]);
     }
-    RoundMessage { c_a, c_inf }
+    message
+}
+
+/// The message of a round that binds the last variable, of two tables of values of one even length.
+///
+/// The variable is 0 in the even rows of a table and 1 in the odd ones, so that `c_a` is the sum of
+/// eval times weight over the even rows, and `c_inf` the sum of the products of the differences of
+/// neighbours, rows 2b and 2b + 1.
+pub fn sumcheck_coefficients_suffix<B: Field, A: Algebra<B>>(
+    evals: &[B],
+    weights: &[A],
+) -> RoundMessage<A>
+    requires same { length evals.now ≡ length weights.now }
+    requires even { length evals.now % 2 ≡ 0 }
+    ensures first { A.number result.c_a
+        ≡ message_first evaluation suffix A.ops (length evals.now / 2) (entries (λ x. A.embedding (B.number x)) evals.now) (entries A.number weights.now) }
+    ensures leading { A.number result.c_inf
+        ≡ message_leading evaluation suffix A.ops (length evals.now / 2) (entries (λ x. A.embedding (B.number x)) evals.now) (entries A.number weights.now) }
+
+    // Of two tables of so many variables it is what an honest first round sends.
+    ensures honest { (m : ℕ) → length evals.now ≡ 2 ^ suc m →
+        A.number result.c_a ∷ A.number result.c_inf ∷ []
+        ≡ honest_pair evaluation suffix A.ops (entries (λ x. A.embedding (B.number x)) evals.now) (entries A.number weights.now) [] m }
+{
+    let half = evals.len() / 2;
+    let mut message = RoundMessage::zero();
+    for pair in 0..half {
+        message = message.with_values(
+            evals[2 * pair],
+            evals[2 * pair + 1],
+            weights[2 * pair],
+            weights[2 * pair + 1],
+        );
+    }
+    message
+}
+
+/// The message of a round that binds the first variable, of two tables of coefficients of one even
+/// length.
+///
+/// A row's monomial has the variable in the second half of a table and not in the first. So `c_a`,
+/// the value at 1, is the sum of the products of the sums of the halves, and `c_inf` the sum of eval
+/// times weight over the second halves. It takes no difference.
+pub fn sumcheck_coefficients_prefix_projective<B: Field, A: Algebra<B>>(
+    evals: &[B],
+    weights: &[A],
+) -> RoundMessage<A>
+    requires same { length evals.now ≡ length weights.now }
+    requires even { length evals.now % 2 ≡ 0 }
+    ensures first { A.number result.c_a
+        ≡ message_first projective prefix A.ops (length evals.now / 2) (entries (λ x. A.embedding (B.number x)) evals.now) (entries A.number weights.now) }
+    ensures leading { A.number result.c_inf
+        ≡ message_leading projective prefix A.ops (length evals.now / 2) (entries (λ x. A.embedding (B.number x)) evals.now) (entries A.number weights.now) }
+
+    // Of two tables of so many variables it is what an honest first round sends.
+    ensures honest { (m : ℕ) → length evals.now ≡ 2 ^ suc m →
+        A.number result.c_a ∷ A.number result.c_inf ∷ []
+        ≡ honest_pair projective prefix A.ops (entries (λ x. A.embedding (B.number x)) evals.now) (entries A.number weights.now) [] m }
+{
+    let half = evals.len() / 2;
+    let mut message = RoundMessage::zero();
+    for i in 0..half {
+        message = message.with_coefficients(
+            evals[i],
+            evals[half + i],
+            weights[i],
+            weights[half + i],
+        );
+    }
+    message
+}
+
+/// What the entries of the two tables are, and so what a round sends and how its claim moves.
+///
+/// The projective basis (eprint 2026/762) is offered with prefix order alone.
+#[derive(Debug, Clone, Copy, PartialEq, Eq, Default)]
+pub enum Basis {
+    /// Values at the rows. A round sends its polynomial at 0.
+    #[default]
+    Evaluation,
+    /// Coefficients of the monomials that the rows name. A round sends its polynomial at 1.
+    Projective,
+}
+
+impl Basis {
+    /// The message of a round that binds the variable that comes next in this order, of two tables
+    /// in this basis of one even length.
+    pub fn sumcheck_coefficients<B: Field, A: Algebra<B>>(
+        self,
+        order: VariableOrder,
+        evals: &[B],
+        weights: &[A],
+    ) -> RoundMessage<A>
+        requires same { length evals.now ≡ length weights.now }
+        requires even { length evals.now % 2 ≡ 0 }
+
+        // The projective basis only with prefix order.
+        requires offered { IsOffered (basis_of self) (order_of order) }
+        ensures first { A.number result.c_a
+            ≡ message_first (basis_of self) (order_of order) A.ops (length evals.now / 2) (entries (λ x. A.embedding (B.number x)) evals.now) (entries A.number weights.now) }
+        ensures leading { A.number result.c_inf
+            ≡ message_leading (basis_of self) (order_of order) A.ops (length evals.now / 2) (entries (λ x. A.embedding (B.number x)) evals.now) (entries A.number weights.now) }
+
+        // Of two tables of so many variables it is what an honest first round sends.
+        ensures honest { (m : ℕ) → length evals.now ≡ 2 ^ suc m →
+            A.number result.c_a ∷ A.number result.c_inf ∷ []
+            ≡ honest_pair (basis_of self) (order_of order) A.ops (entries (λ x. A.embedding (B.number x)) evals.now) (entries A.number weights.now) [] m }
+    {
+        match self {
+            Basis::Evaluation => order.sumcheck_coefficients(evals, weights),
+            Basis::Projective => sumcheck_coefficients_prefix_projective(evals, weights),
+        }
+    }
+
+    /// The claim after a round that sent `c_a` and `c_inf` under the claim `claimed_sum`: the value
+    /// of the sent quadratic at the challenge `r`.
+    ///
+    /// In the evaluation basis `c_a` is its value at 0, and `claimed_sum` the sum of its values at 0
+    /// and 1. In the projective basis `c_a` is its value at 1, and `claimed_sum` the sum of its
+    /// constant and its leading coefficient.
+    pub fn reduce_claim<EF: Field>(self, c_a: EF, c_inf: EF, r: EF, claimed_sum: EF) -> EF
+        ensures { EF.number result
+            ≡ next_claim (basis_of self) EF.ops (EF.number claimed_sum) (EF.number c_a ∷ EF.number c_inf ∷ []) (EF.number r) }
+    {
+        match self {
+            Basis::Evaluation => extrapolate_01inf(c_a, claimed_sum.sub(c_a), c_inf, r),
+            Basis::Projective => extrapolate_01inf(claimed_sum.sub(c_inf), c_a, c_inf, r),
+        }
+    }
+}
+
+/// Which variable a round binds.
+#[derive(Debug, Clone, Copy, PartialEq, Eq)]
+pub enum VariableOrder {
+    /// The first one that is left, which belongs to the highest bit of a row.
+    Prefix,
+    /// The last one that is left, which belongs to the lowest bit of a row.
+    Suffix,
+}
+
+impl VariableOrder {
+    /// The message of a round that binds the variable that comes next in this order, of two tables
+    /// of values of one even length.
+    pub fn sumcheck_coefficients<B: Field, A: Algebra<B>>(
+        self,
+        evals: &[B],
+        weights: &[A],
+    ) -> RoundMessage<A>
+        requires same { length evals.now ≡ length weights.now }
+        requires even { length evals.now % 2 ≡ 0 }
+        ensures first { A.number result.c_a
+            ≡ message_first evaluation (order_of self) A.ops (length evals.now / 2) (entries (λ x. A.embedding (B.number x)) evals.now) (entries A.number weights.now) }
+        ensures leading { A.number result.c_inf
+            ≡ message_leading evaluation (order_of self) A.ops (length evals.now / 2) (entries (λ x. A.embedding (B.number x)) evals.now) (entries A.number weights.now) }
+
+        // Of two tables of so many variables it is what an honest first round sends.
+        ensures honest { (m : ℕ) → length evals.now ≡ 2 ^ suc m →
+            A.number result.c_a ∷ A.number result.c_inf ∷ []
+            ≡ honest_pair evaluation (order_of self) A.ops (entries (λ x. A.embedding (B.number x)) evals.now) (entries A.number weights.now) [] m }
+    {
+        match self {
+            VariableOrder::Prefix => sumcheck_coefficients_prefix(evals, weights),
+            VariableOrder::Suffix => sumcheck_coefficients_suffix(evals, weights),
+        }
+    }
+
+    /// The variable of a table of values that comes next in this order is bound at `r`, and the
+    /// table is halved, in its place. The table has one variable or more.
+    pub fn fix_var<A: Algebra<Ch>, Ch: Field>(self, poly: &mut Poly<A>, r: Ch)
+        requires { 0 < variables_of poly.old }
+        ensures fewer { variables_of poly.old ≡ variables_of poly.new + 1 }
+        ensures bound { (b : ℕ) → b < 2 ^ variables_of poly.new →
+            table_of A.number poly.new b
+            ≡ bound_in evaluation (order_of self) A.ops (variables_of poly.new) (A.embedding (Ch.number r)) (table_of A.number poly.old) b }
+
+        // The value at the other coordinates is the old value with `r` placed.
+        ensures value { (zs : List ℕ) → length zs ≡ variables_of poly.new →
+            value A.ops (table_of A.number poly.new) zs
+            ≡ value A.ops (table_of A.number poly.old) (placed (order_of self) (A.embedding (Ch.number r) ∷ []) zs) }
+    {
+        match self {
+            VariableOrder::Prefix => poly.fix_prefix_var_mut(r),
+            VariableOrder::Suffix => poly.fix_suffix_var_mut(r),
+        }
+    }
 }

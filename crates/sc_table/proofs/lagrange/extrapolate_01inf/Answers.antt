@@ -1,5 +1,6 @@
 use Rattle.std.proofs.Common.{◌≡◌, ℕ, [], ◌∷◌, sym, ◌∙◌, ap, refl}
 use Rattle.sc_definitions.specs.Ring.{Ops, IsRing, element, plus, times, minus}
+use Rattle.sc_definitions.specs.Polynomials.{poly_at}
 use Rattle.sc_definitions.specs.Rounds.{extrapolated}
 use Rattle.sc_definitions.proofs.RingLaws.{element-small}
 use Rattle.sc_definitions.proofs.Identity.{atom, unit, nought, ◌⊕◌, ◌⊗◌, ◌⊖◌, Agree, identity, same_element}
@@ -28,6 +29,14 @@ module _ (o : Ops) (ring : IsRing o) (e0 e1 q : ℕ) where
       same_element o ring (e0 ∷ e1 ∷ q ∷ [])
       ((A ⊗ (unit ⊖ unit) ⊕ B ⊗ unit) ⊕ Q ⊗ (unit ⊗ (unit ⊖ unit))) B refl
 
+  extrapolated-coefficients : (r : ℕ) → extrapolated o e0 e1 q r ≡ poly_at o (e0 ∷ minus o (minus o e1 e0) q ∷ q ∷ []) r
+  unfolding extrapolated poly_at Agree
+  extrapolated-coefficients r =
+      let A = atom 0 in let B = atom 1 in let Q = atom 2 in let R = atom 3 in
+      identity o ring (e0 ∷ e1 ∷ q ∷ r ∷ [])
+      ((A ⊗ (unit ⊖ R) ⊕ B ⊗ R) ⊕ Q ⊗ (R ⊗ (R ⊖ unit)))
+      (A ⊕ R ⊗ (((B ⊖ A) ⊖ Q) ⊕ R ⊗ (Q ⊕ R ⊗ nought))) tt tt refl
+
 pub returns-clause-value : goal.returns-clause-value
 returns-clause-value g c =
     let f = g.F.Field in
@@ -54,3 +63,9 @@ returns-clause-at_one g c = λ one.
     ∙ ap (element f.ops) (returns-clause-value g c ∙ ap (extrapolated f.ops e0 e1 q) one)
     ∙ extrapolated-one f.ops ring e0 e1 q
     ∙ element-small f.ops ring e1 (g.met.F.Field.number_below c.args.e1)
+
+pub returns-clause-coefficients : goal.returns-clause-coefficients
+returns-clause-coefficients g c =
+    let f = g.F.Field in
+    returns-clause-value g c
+    ∙ extrapolated-coefficients f.ops g.met.F.Field.is_field.ring (f.number c.args.e0) (f.number c.args.e1) (f.number c.args.e_inf) (f.number c.args.r)
