@@ -2,7 +2,11 @@
 
 ghost use Rattle.std.specs.Prelude.{◌≡◌, length, IfOk};
 
-use crate::{Point, Poly, RoundMessage, Row, extrapolate_01inf, sumcheck_coefficients_prefix};
+use crate::{
+    Basis, Point, Poly, RoundMessage, Row, VariableOrder, extrapolate_01inf,
+    lagrange_weights_01inf, strategy_laws, sumcheck_coefficients_prefix,
+    sumcheck_coefficients_prefix_projective, sumcheck_coefficients_suffix,
+};
 use sc_field::{F65537, Field, NoMemory};
 use std::alloc::Global;
 use std::test::Fail;
@@ -26,6 +30,13 @@ fn have_numbers(elements: &[F65537], numbers: &[u64]) -> bool {
             .all(|(element, number)| element.index() == *number)
 }
 
+fn message(c_a: u64, c_inf: u64) -> RoundMessage<F65537> {
+    RoundMessage {
+        c_a: F65537::element(c_a % 65537),
+        c_inf: F65537::element(c_inf % 65537),
+    }
+}
+
 // The table 1, 2, 3, 4.
 fn four(alloc: Global) -> Result<Poly<F65537>, NoMemory> {
     Ok(Poly::new(elements(alloc, &[1, 2, 3, 4])?))
@@ -37,6 +48,30 @@ fn a_row_keeps_its_items(rt: HostRuntime) -> Result<(), Fail> {
     assert_eq!(rt; row.len(), 3);
     assert!(rt; have_numbers(row.as_slice(), &[7, 8, 9]));
     assert!(rt; have_numbers(&row.into_vec(), &[7, 8, 9]));
+    Ok(())
+}
+
+#[test]
+fn a_point_copied_and_reversed(rt: HostRuntime) -> Result<(), Fail> {
+    let z = Point::new(elements(rt.alloc(), &[2, 3])?);
+    assert!(rt; have_numbers(z.copy(rt.alloc())?.as_slice(), &[2, 3]));
+    assert!(rt; have_numbers(z.reversed(rt.alloc())?.as_slice(), &[3, 2]));
+    assert!(rt; have_numbers(z.as_slice(), &[2, 3]));
+    Ok(())
+}
+
+// The point (2, 3) split there.
+fn splits(alloc: Global, k: usize, front: &[u64], back: &[u64]) -> Result<bool, NoMemory> {
+    let z = Point::new(elements(alloc, &[2, 3])?);
+    let parts = z.split_at(alloc, k.min(z.num_variables()))?;
+    Ok(have_numbers(parts.0.as_slice(), front) && have_numbers(parts.1.as_slice(), back))
+}
+
+#[test]
+fn a_point_split(rt: HostRuntime) -> Result<(), Fail> {
+    assert!(rt; splits(rt.alloc(), 0, &[], &[2, 3])?);
+    assert!(rt; splits(rt.alloc(), 1, &[2], &[3])?);
+    assert!(rt; splits(rt.alloc(), 2, &[2, 3], &[])?);
     Ok(())
 }
 
@@ -92,6 +127,36 @@ fn a_bound_table(rt: HostRuntime) -> Result<(), Fail> {
     Ok(())
 }
 
+// 1 + (2 - 1) * 3 and 3 + (4 - 3) * 3, and then 4 + (6 - 4) * 4.
+#[test]
+fn a_table_bound_from_its_last_variable(rt: HostRuntime) -> Result<(), Fail> {
+    let mut table = four(rt.alloc())?;
+    assert!(rt; table.num_variables() == 2);
+    table.fix_suffix_var_mut(F65537::element(3));
+    assert!(rt; have_numbers(table.as_slice(), &[4, 6]));
+    table.fix_suffix_var_mut(F65537::element(4));
+    assert!(rt; have_numbers(table.as_slice(), &[12]));
+    assert_eq!(rt; table.num_variables(), 0);
+    Ok(())
+}
+
+#[test]
+fn a_table_bound_in_each_order(rt: HostRuntime) -> Result<(), Fail> {
+    let mut table = four(rt.alloc())?;
+    assert!(rt; table.num_variables() == 2);
+    VariableOrder::Prefix.fix_var(&mut table, F65537::element(3));
+    assert!(rt; have_numbers(table.as_slice(), &[7, 8]));
+    VariableOrder::Suffix.fix_var(&mut table, F65537::element(4));
+    assert!(rt; have_numbers(table.as_slice(), &[11]));
+    let mut table = four(rt.alloc())?;
+    assert!(rt; table.num_variables() == 2);
+    VariableOrder::Suffix.fix_var(&mut table, F65537::element(3));
+    assert!(rt; have_numbers(table.as_slice(), &[4, 6]));
+    VariableOrder::Prefix.fix_var(&mut table, F65537::element(4));
+    assert!(rt; have_numbers(table.as_slice(), &[12]));
+    Ok(())
+}
+
 #[test]
 fn tables_of_zeros_and_copies(rt: HostRuntime) -> Result<(), Fail> {
     let zeros = Poly::<F65537>::zero(rt.alloc(), 2)?;
@@ -130,14 +195,94 @@ fn a_quadratic_by_its_values(rt: HostRuntime) -> Result<(), Fail> {
 }
 
 #[test]
-fn the_message_of_two_tables(rt: HostRuntime) -> Result<(), Fail> {
+fn weights_of_a_quadratics_values(rt: HostRuntime) -> Result<(), Fail> {
+    let (of_zero, of_one, of_leading) = lagrange_weights_01inf(F65537::element(5));
+    assert!(rt; have_numbers(&[of_zero, of_one, of_leading], &[65533, 5, 20]));
+    let (of_zero, of_one, of_leading) = lagrange_weights_01inf(F65537::element(7));
+    assert!(rt; have_numbers(&[of_zero, of_one, of_leading], &[65531, 7, 42]));
+    Ok(())
+}
+
+#[test]
+fn messages_of_two_tables(rt: HostRuntime) -> Result<(), Fail> {
     let evals = elements(rt.alloc(), &[1, 2, 3, 4])?;
     let weights = elements(rt.alloc(), &[5, 6, 7, 8])?;
-    let message = sumcheck_coefficients_prefix(evals.as_slice(), weights.as_slice());
-    let expected = RoundMessage {
-        c_a: F65537::element(17),
-        c_inf: F65537::element(8),
-    };
-    assert_eq!(rt; message, expected);
+    let (f, w) = (evals.as_slice(), weights.as_slice());
+    let sent = [
+        sumcheck_coefficients_prefix(f, w),
+        sumcheck_coefficients_suffix(f, w),
+        sumcheck_coefficients_prefix_projective(f, w),
+    ];
+    assert!(rt; sent == [message(17, 8), message(26, 2), message(132, 53)]);
+    Ok(())
+}
+
+#[test]
+fn messages_by_basis_and_order(rt: HostRuntime) -> Result<(), Fail> {
+    let evals = elements(rt.alloc(), &[1, 2, 3, 4])?;
+    let weights = elements(rt.alloc(), &[5, 6, 7, 8])?;
+    let (f, w) = (evals.as_slice(), weights.as_slice());
+    let (prefix, suffix) = (VariableOrder::Prefix, VariableOrder::Suffix);
+    let by_order = [
+        prefix.sumcheck_coefficients(f, w),
+        suffix.sumcheck_coefficients(f, w),
+    ];
+    assert!(rt; by_order == [message(17, 8), message(26, 2)]);
+    let by_basis = [
+        Basis::Evaluation.sumcheck_coefficients(prefix, f, w),
+        Basis::Evaluation.sumcheck_coefficients(suffix, f, w),
+        Basis::Projective.sumcheck_coefficients(prefix, f, w),
+    ];
+    assert!(rt; by_basis == [message(17, 8), message(26, 2), message(132, 53)]);
+    Ok(())
+}
+
+// Of one variable both orders send the same: 1 * 3 and (2 - 1)(4 - 3), or 3 * 7 and 2 * 4.
+#[test]
+fn messages_of_small_tables(rt: HostRuntime) -> Result<(), Fail> {
+    let evals = elements(rt.alloc(), &[1, 2])?;
+    let weights = elements(rt.alloc(), &[3, 4])?;
+    let (f, w) = (evals.as_slice(), weights.as_slice());
+    let of_one_variable = [
+        sumcheck_coefficients_prefix(f, w),
+        sumcheck_coefficients_suffix(f, w),
+        sumcheck_coefficients_prefix_projective(f, w),
+    ];
+    assert!(rt; of_one_variable == [message(3, 1), message(3, 1), message(21, 8)]);
+    let empty: [F65537; 0] = [];
+    let of_no_rows = [
+        sumcheck_coefficients_prefix(&empty, &empty),
+        sumcheck_coefficients_suffix(&empty, &empty),
+        sumcheck_coefficients_prefix_projective(&empty, &empty),
+    ];
+    assert!(rt; of_no_rows == [message(0, 0); 3]);
+    Ok(())
+}
+
+// The projective rounds: 2 + 4 X at 3, and then 10 X + 14 X^2 at 4.
+#[test]
+fn claims_after_rounds(rt: HostRuntime) -> Result<(), Fail> {
+    let of = |number: u64| -> F65537 { F65537::element(number % 65537) };
+    let (values, coefficients) = (Basis::Evaluation, Basis::Projective);
+    let claims = [
+        values.reduce_claim(of(5), of(1), of(2), of(5)),
+        values.reduce_claim(of(1), of(2), of(5), of(7)),
+        coefficients.reduce_claim(of(6), of(0), of(3), of(2)),
+        coefficients.reduce_claim(of(24), of(14), of(4), of(14)),
+    ];
+    assert!(rt; have_numbers(&claims, &[65534, 66, 14, 264]));
+    Ok(())
+}
+
+#[test]
+fn bases_orders_and_messages_compared(rt: HostRuntime) -> Result<(), Fail> {
+    strategy_laws::<F65537>();
+    assert!(rt; Basis::default() == Basis::Evaluation);
+    assert!(rt; Basis::Evaluation != Basis::Projective);
+    assert!(rt; VariableOrder::Suffix == VariableOrder::Suffix);
+    assert!(rt; VariableOrder::Prefix != VariableOrder::Suffix);
+    assert!(rt; message(1, 2) == message(1, 2));
+    assert!(rt; message(1, 2) != message(3, 2));
+    assert!(rt; message(1, 2) != message(1, 3));
     Ok(())
 }
