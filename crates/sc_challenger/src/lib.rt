@@ -3,6 +3,7 @@
 
 mod challenger;
 mod extension;
+mod grinding;
 mod interaction;
 mod scripted;
 mod separator;
@@ -11,6 +12,7 @@ mod tests;
 
 pub use challenger::Challenger;
 pub use extension::{observe_ext, sample_ext};
+pub use grinding::{GrindError, grind};
 pub use interaction::InteractionPattern;
 pub use sc_definitions::{Event, Interaction, Kind, Label, Length, Protocol};
 pub use scripted::ScriptedChallenger;

@@ -16,3 +16,4 @@ pub mod BuildLaws
 pub mod WorkedTables
 pub mod WorkedRounds
 pub mod WorkedSeeds
+pub mod ReplayLaws

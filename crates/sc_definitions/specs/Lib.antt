@@ -11,3 +11,4 @@ pub mod Transcript
 pub mod Played
 pub mod Problem
 pub mod Seeds
+pub mod Replays

@@ -1,5 +1,5 @@
 use Rattle.std.proofs.Common.{◌≡◌, ◌++◌, ◌^◌, map, sym, string_bytes, ◌∙◌, ap, refl, arith}
-use Rattle.sc_table.proofs.EntryLaws.{entry-read}
+use Rattle.sc_definitions.proofs.LoopLaws.{entry-read}
 use Rattle.sc_definitions.specs.Problem.{weights_of}
 use Rattle.sc_definitions.specs.Statements.{batched_claim, batched_weight}
 use Rattle.sc_definitions.proofs.RingLaws.{size_pos}

@@ -1,0 +1,128 @@
+-- One more round of a replay, and beginnings of a transcript.
+use Rattle.std.proofs.Common.{◌≡◌, ℕ, zero, suc, ◌+◌, ◌<◌, true, false, List, [], ◌∷◌, ◌++◌, take, length, get_or, refl, ap, sym, ◌∙◌, Some, append_assoc, arith}
+use Rattle.std.specs.List.{slice_get}
+use Rattle.std.proofs.Math.Seq.{take-length}
+use Rattle.std.proofs.lemmas.List.{take_more, append-nil, map-append}
+use Rattle.std.proofs.lemmas.Grind.{flat_map-append}
+use Rattle.sc_definitions.specs.declared.events.Event.{Event}
+use Rattle.sc_definitions.specs.Rounds.{claim_along}
+use Rattle.sc_definitions.specs.Events.{Rules, Extension, words}
+use Rattle.sc_definitions.specs.Transcript.{Round, round_of, messages_of, sent, before_draw, round_events, rounds_events, challenge, challenges}
+use Rattle.sc_definitions.specs.Replays.{round_passes, AllPass, given_rounds, IsBegun, Replays, ReplaysSome, IsInvalidAt}
+use Rattle.sc_definitions.proofs.BuiltLaws.{challenges-append, length-challenges, length-messages, claim_along-append}
+
+pub AllPass-append : (R : Rules) (E : Extension) (bits : ℕ) (h : List Event) (rs : List Round) (r : Round) →
+    AllPass R E bits h rs → round_passes R E bits (h ++ rounds_events E bits rs) r ≡ true → AllPass R E bits h (rs ++ r ∷ [])
+AllPass-append R E bits h [] r a p = (rw append-nil at p, tt)
+AllPass-append R E bits h (q ∷ rs) r a p =
+    (a.0, AllPass-append R E bits (h ++ round_events E bits q) rs r a.1 (rw (append_assoc h (round_events E bits q) (rounds_events E bits rs)) p))
+
+pub rounds_events_take : (E : Extension) (bits : ℕ) (rs : List Round) (i : ℕ) (d : Round) → i < length rs →
+    rounds_events E bits (take (i + 1) rs) ≡ rounds_events E bits (take i rs) ++ round_events E bits (get_or rs i d)
+rounds_events_take E bits rs i d lt = rw (take_more rs i d lt) (flat_map-append (round_events E bits) (take i rs) (get_or rs i d ∷ []) ∙ rw append-nil)
+
+pub challenges_take : (R : Rules) (E : Extension) (bits : ℕ) (h : List Event) (rs : List Round) (i : ℕ) (d : Round) → i < length rs →
+    challenges R E bits h (take (i + 1) rs) ≡ challenges R E bits h (take i rs) ++ challenge R E bits (h ++ rounds_events E bits (take i rs)) (get_or rs i d) ∷ []
+challenges_take R E bits h rs i d lt = rw (take_more rs i d lt) (challenges-append R E bits h (take i rs) (get_or rs i d ∷ []))
+
+pub claim_take : (next : ℕ → List ℕ → ℕ → ℕ) (R : Rules) (E : Extension) (bits : ℕ) (h : List Event) (c : ℕ) (rs : List Round) (i : ℕ) (d : Round) → i < length rs →
+    claim_along next c (messages_of (take (i + 1) rs)) (challenges R E bits h (take (i + 1) rs))
+    ≡ next (claim_along next c (messages_of (take i rs)) (challenges R E bits h (take i rs))) (get_or rs i d).values (challenge R E bits (h ++ rounds_events E bits (take i rs)) (get_or rs i d))
+claim_take next R E bits h c rs i d lt =
+    ap (λ t. claim_along next c (messages_of t) (challenges R E bits h (take (i + 1) rs))) (take_more rs i d lt)
+    ∙ ap (λ t. claim_along next c t (challenges R E bits h (take (i + 1) rs))) (map-append (λ r. r.values) (take i rs) (get_or rs i d ∷ []))
+    ∙ ap (claim_along next c (messages_of (take i rs) ++ (get_or rs i d).values ∷ [])) (challenges_take R E bits h rs i d lt)
+    ∙ claim_along-append next c (messages_of (take i rs)) (challenges R E bits h (take i rs)) (get_or rs i d).values (challenge R E bits (h ++ rounds_events E bits (take i rs)) (get_or rs i d))
+    (length-messages (take i rs) ∙ sym (length-challenges R E bits h (take i rs)))
+
+pub AllPass_take : (R : Rules) (E : Extension) (bits : ℕ) (h : List Event) (rs : List Round) (i : ℕ) (d : Round) → i < length rs →
+    AllPass R E bits h (take i rs) → round_passes R E bits (h ++ rounds_events E bits (take i rs)) (get_or rs i d) ≡ true → AllPass R E bits h (take (i + 1) rs)
+AllPass_take R E bits h rs i d lt a p = rw (take_more rs i d lt) (AllPass-append R E bits h (take i rs) (get_or rs i d) a p)
+
+-- ---- a replay
+
+-- no round yet
+pub Replays-none : (next : ℕ → List ℕ → ℕ → ℕ) (R : Rules) (E : Extension) (bits : ℕ) (h₀ : List Event) (c₀ : ℕ) → Replays next R E bits h₀ c₀ [] h₀ [] c₀
+unfolding claim_along
+Replays-none next R E bits h₀ c₀ = record { history = sym (append-nil h₀); drawn = refl; claim = refl; passes = tt }
+
+-- one round more
+pub Replays-more : (next : ℕ → List ℕ → ℕ → ℕ) (R R₁ : Rules) (E : Extension) (bits bits₁ : ℕ) (h₀ : List Event) (c₀ : ℕ) (rs : List Round) (i : ℕ) (r : Round) (h h₁ : List Event) (out out₁ : List ℕ) (c c₁ x : ℕ) →
+    i < length rs → get_or rs i r ≡ r → R₁ ≡ R → bits₁ ≡ bits → Replays next R E bits h₀ c₀ (take i rs) h out c →
+    h₁ ≡ h ++ round_events E bits₁ r → x ≡ challenge R₁ E bits₁ h r → c₁ ≡ next c r.values x → round_passes R₁ E bits₁ h r ≡ true → out₁ ≡ out ++ x ∷ [] →
+    Replays next R E bits h₀ c₀ (take (i + 1) rs) h₁ out₁ c₁
+Replays-more next R R₁ E bits bits₁ h₀ c₀ rs i r h h₁ out out₁ c c₁ x lt is er eb p eh ex ec pass eo =
+    let hx : x ≡ challenge R E bits (h₀ ++ rounds_events E bits (take i rs)) r = ex ∙ rw (er, eb, p.history) in
+    record {
+      history = eh ∙ rw (eb, p.history) (append_assoc h₀ (rounds_events E bits (take i rs)) (round_events E bits r) ∙ sym (rw (rounds_events_take E bits rs i r lt, is)));
+      drawn = eo ∙ rw (p.drawn, hx) (sym (rw (challenges_take R E bits h₀ rs i r lt, is)));
+      claim = ec ∙ rw (p.claim, hx) (sym (rw (claim_take next R E bits h₀ c₀ rs i r lt, is)));
+      passes = AllPass_take R E bits h₀ rs i r lt p.passes (rw (is, ← p.history, ← er, ← eb) pass);
+    }
+
+-- the same, where the loop began at another name of the same state
+pub Replays-at : (next : ℕ → List ℕ → ℕ → ℕ) (R R' : Rules) (E : Extension) (bits : ℕ) (h₀ h₀' : List Event) (c₀ : ℕ) (rs rs' : List Round) (h h' : List Event) (out : List ℕ) (c : ℕ) →
+    R ≡ R' → h₀ ≡ h₀' → rs ≡ rs' → h' ≡ h → Replays next R E bits h₀ c₀ rs h out c → Replays next R' E bits h₀' c₀ rs' h' out c
+Replays-at next R R' E bits h₀ h₀' c₀ rs rs' h h' out c er eb es e p = rw (← er, ← eb, ← es, e) p
+
+pub take_whole : (rs : List Round) (i : ℕ) → i ≡ length rs → take i rs ≡ rs
+take_whole rs i e = rw e (take-length rs)
+
+pub Invalid-from : (next : ℕ → List ℕ → ℕ → ℕ) (R R₀ R₁ : Rules) (E : Extension) (bits bits₁ : ℕ) (h₀ h₀' : List Event) (c₀ : ℕ) (rs : List Round) (i j : ℕ) (r : Round)
+    (h h₁ h₂ : List Event) (out : List ℕ) (c : ℕ) →
+    R₀ ≡ R → h₀' ≡ h₀ → R₁ ≡ R₀ → bits₁ ≡ bits → j ≡ i → Replays next R₀ E bits h₀' c₀ (take j rs) h out c → slice_get rs j ≡ Some r →
+    round_passes R₁ E bits₁ h r ≡ false → h₁ ≡ h ++ before_draw E bits₁ r → h₂ ≡ h₁ → IsInvalidAt next R E bits h₀ c₀ rs i h₂ c
+Invalid-from next R R₀ R₁ E bits bits₁ h₀ h₀' c₀ rs i j r h h₁ h₂ out c e0 eh e1 eb ej p is f eh1 eh2 = record {
+  out = out;
+  before = h;
+  replays = rw (← e0, ← eh, ← ej) p;
+  round = r;
+  is = rw (← ej) is;
+  fails = rw (← e0, ← e1, ← eb) f;
+  history = eh2 ∙ eh1 ∙ rw eb;
+}
+
+pub ReplaysSome-from : (next : ℕ → List ℕ → ℕ → ℕ) (R R₀ : Rules) (E : Extension) (bits : ℕ) (h₀ h₀' : List Event) (c₀ : ℕ) (rs : List Round) (j : ℕ) (h h₂ : List Event) (out : List ℕ) (c : ℕ) →
+    R₀ ≡ R → h₀' ≡ h₀ → Replays next R₀ E bits h₀' c₀ (take j rs) h out c → h₂ ≡ h → ReplaysSome next R E bits h₀ c₀ rs h₂ c
+ReplaysSome-from next R R₀ E bits h₀ h₀' c₀ rs j h h₂ out c e0 eh p e2 = record { count = j; out = out; replays = rw (← e0, ← eh, e2) p }
+
+-- ---- rounds that are handed in
+
+pub length-given_rounds : (ms : List (List ℕ)) (ws : List ℕ) → length (given_rounds ms ws) ≡ length ms
+length-given_rounds [] ws = refl
+length-given_rounds (m ∷ ms) [] = ap suc (length-given_rounds ms [])
+length-given_rounds (m ∷ ms) (w ∷ ws) = ap suc (length-given_rounds ms ws)
+
+pub get_or-given_rounds : (ms : List (List ℕ)) (ws : List ℕ) (i : ℕ) (m : List ℕ) (d : Round) → i < length ms → m ≡ get_or ms i m →
+    get_or (given_rounds ms ws) i d ≡ round_of m (get_or ws i 0)
+get_or-given_rounds [] ws i m d lt e = absurd (omega arith)
+get_or-given_rounds (q ∷ ms) [] zero m d lt e = ap (λ x. round_of x 0) (sym e)
+get_or-given_rounds (q ∷ ms) (w ∷ ws) zero m d lt e = ap (λ x. round_of x w) (sym e)
+get_or-given_rounds (q ∷ ms) [] (suc i) m d lt e = get_or-given_rounds ms [] i m d (omega arith) e
+get_or-given_rounds (q ∷ ms) (w ∷ ws) (suc i) m d lt e = get_or-given_rounds ms ws i m d (omega arith) e
+
+pub messages-given_rounds : (ms : List (List ℕ)) (ws : List ℕ) → messages_of (given_rounds ms ws) ≡ ms
+messages-given_rounds [] ws = refl
+messages-given_rounds (m ∷ ms) [] = ap (λ t. m ∷ t) (messages-given_rounds ms [])
+messages-given_rounds (m ∷ ms) (w ∷ ws) = ap (λ t. m ∷ t) (messages-given_rounds ms ws)
+
+-- ---- beginnings of a transcript
+
+pub begun_none : (h events h' : List Event) → h' ≡ h → IsBegun h events h'
+begun_none h events h' e = record { part = []; rest = events; grown = e ∙ sym (append-nil h); split = refl }
+
+pub begun_whole : (h events h' : List Event) → h' ≡ h ++ events → IsBegun h events h'
+begun_whole h events h' e = record { part = events; rest = []; grown = e; split = append-nil events }
+
+pub begun_through : (h a b tail h₁ h' events : List Event) → h₁ ≡ h ++ a → IsBegun h₁ b h' → events ≡ a ++ (b ++ tail) → IsBegun h events h'
+begun_through h a b tail h₁ h' events e p s = record {
+  part = a ++ p.part;
+  rest = p.rest ++ tail;
+  grown = p.grown ∙ ap (λ t. t ++ p.part) e ∙ append_assoc h a p.part;
+  split = append_assoc a p.part (p.rest ++ tail) ∙ ap (λ t. a ++ t) (sym (append_assoc p.part p.rest tail) ∙ ap (λ t. t ++ tail) p.split) ∙ sym s;
+}
+
+-- ---- a pair's words
+pub sent-pair : (E : Extension) (c q : ℕ) → sent E (c ∷ q ∷ []) ≡ words (E.parts c) ++ words (E.parts q)
+unfolding sent
+sent-pair E c q = ap (λ t. words (E.parts c ++ t)) (append-nil (E.parts q)) ∙ map-append _ (E.parts c) (E.parts q)

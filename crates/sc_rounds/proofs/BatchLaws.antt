@@ -1,0 +1,75 @@
+-- A batch of rounds, one round after the other.
+use Rattle.std.proofs.Common.{◌≡◌, ℕ, zero, suc, ◌+◌, ◌^◌, ◌<◌, List, [], ◌∷◌, ◌++◌, map, refl, ap, sym, ◌∙◌, subst, arith, append_assoc}
+use Rattle.std.proofs.lemmas.List.{append-nil, map-append}
+use Rattle.sc_definitions.specs.declared.events.Event.{Event}
+use Rattle.sc_definitions.specs.Ring.{Ops, IsRing}
+use Rattle.sc_definitions.specs.Tables.{evaluation, Order}
+use Rattle.sc_definitions.specs.Messages.{message_of}
+use Rattle.sc_definitions.specs.Events.{Rules, Extension}
+use Rattle.sc_definitions.specs.Transcript.{Round, round_of, messages_of}
+use Rattle.sc_definitions.specs.Played.{IsRound, IsPlayed}
+use Rattle.sc_definitions.proofs.BuiltLaws.{messages-append}
+use Rattle.sc_definitions.proofs.PlayedLaws.{IsPlayed-none, IsPlayed-more}
+use Rattle.sc_rounds.specs.Data.{witnesses_of}
+use Rattle.sc_rounds.specs.Products.{PlaysRound, EndsRound}
+use Rattle.sc_rounds.specs.Batches.{PlaysBatch}
+
+witnesses-append : (bits : ℕ) (rounds : List Round) (q : Round) → witnesses_of bits (rounds ++ q ∷ []) ≡ witnesses_of bits rounds ++ witnesses_of bits (q ∷ [])
+witnesses-append zero rounds q = refl
+witnesses-append (suc bits) rounds q = map-append (λ r. r.witness) rounds (q ∷ [])
+
+-- no round yet
+pub batch_none : (order : Order) (o : Ops) (R : Rules) (E : Extension) (bits n : ℕ) (f w f' w' : ℕ → ℕ) (claim : ℕ) (h : List Event) (rs : List ℕ) (ms : List (List ℕ)) (ws : List ℕ) →
+    rs ≡ [] → ((b : ℕ) → b < 2 ^ n → f' b ≡ f b) → ((b : ℕ) → b < 2 ^ n → w' b ≡ w b) →
+    PlaysBatch order o R E bits n f w claim h rs n f' w' claim h ms ws ms ws
+batch_none order o R E bits n f w f' w' claim h rs ms ws none p q =
+    let P : List ℕ → Type 0 = λ t. IsPlayed evaluation order o R E bits n f w claim h [] t n f' w' claim h in
+    record {
+      rounds = [];
+      played = subst P (sym none) (IsPlayed-none evaluation order o R E bits n f w f' w' claim h p q);
+      appended = sym (append-nil ms);
+      found = found bits;
+    }
+  where
+    found : (b : ℕ) → ws ≡ ws ++ witnesses_of b []
+    found zero = sym (append-nil ws)
+    found (suc b) = sym (append-nil ws)
+
+-- one round more
+pub batch_more : (o : Ops) → IsRing o → (order order₁ : Order) (R R₁ : Rules) (E : Extension) (bits bits₁ n : ℕ) (f w : ℕ → ℕ) (claim : ℕ) (h : List Event)
+    (rs rs' : List ℕ) (v m : ℕ) (f₁ w₁ : ℕ → ℕ) (claim₁ : ℕ) (h₁ : List Event) (r : ℕ) (f₂ w₂ : ℕ → ℕ) (claim₂ : ℕ) (h₂ : List Event)
+    (ms : List (List ℕ)) (ws : List ℕ) (ms₁ : List (List ℕ)) (ws₁ : List ℕ) (ms₂ : List (List ℕ)) (ws₂ : List ℕ) →
+    order₁ ≡ order → R₁ ≡ R → bits₁ ≡ bits → v ≡ m + 1 → rs' ≡ rs ++ r ∷ [] →
+    PlaysBatch order o R E bits n f w claim h rs v f₁ w₁ claim₁ h₁ ms ws ms₁ ws₁ →
+    PlaysRound order₁ o R₁ E bits₁ m f₁ w₁ claim₁ h₁ r f₂ w₂ claim₂ h₂ ms₁ ws₁ ms₂ ws₂ →
+    PlaysBatch order o R E bits n f w claim h rs' m f₂ w₂ claim₂ h₂ ms ws ms₂ ws₂
+batch_more o ring order order₁ R R₁ E bits bits₁ n f w claim h rs rs' v m f₁ w₁ claim₁ h₁ r f₂ w₂ claim₂ h₂ ms ws ms₁ ws₁ ms₂ ws₂ same_order same_rules same_bits fewer drawn p q =
+    let next : v ≡ suc m = omega arith in
+    let A : Order → Type 0 = λ t. PlaysRound t o R₁ E bits₁ m f₁ w₁ claim₁ h₁ r f₂ w₂ claim₂ h₂ ms₁ ws₁ ms₂ ws₂ in
+    let B : Rules → Type 0 = λ t. PlaysRound order o t E bits₁ m f₁ w₁ claim₁ h₁ r f₂ w₂ claim₂ h₂ ms₁ ws₁ ms₂ ws₂ in
+    let C : ℕ → Type 0 = λ t. PlaysRound order o R E t m f₁ w₁ claim₁ h₁ r f₂ w₂ claim₂ h₂ ms₁ ws₁ ms₂ ws₂ in
+    let last = subst C same_bits (subst B same_rules (subst A same_order q)) in
+    let sent : Round = round_of (message_of evaluation order o (2 ^ m) f₁ w₁) last.witness in
+    let D : ℕ → Type 0 = λ k. IsPlayed evaluation order o R E bits n f w claim h p.rounds rs k f₁ w₁ claim₁ h₁ in
+    let whole = IsPlayed-more evaluation order o ring tt R E bits n f w claim h p.rounds rs m f₁ w₁ claim₁ h₁ sent r f₂ w₂ claim₂ h₂ (subst D next p.played) last.round in
+    let G : List ℕ → Type 0 = λ t. IsPlayed evaluation order o R E bits n f w claim h (p.rounds ++ sent ∷ []) t m f₂ w₂ claim₂ h₂ in
+    record {
+      rounds = p.rounds ++ sent ∷ [];
+      played = subst G (sym drawn) whole;
+      appended = last.message ∙ ap (λ t. t ++ sent.values ∷ []) p.appended ∙ append_assoc ms (messages_of p.rounds) (sent.values ∷ [])
+          ∙ ap (λ t. ms ++ t) (sym (messages-append p.rounds sent));
+      found = last.found ∙ ap (λ t. t ++ witnesses_of bits (sent ∷ [])) p.found ∙ append_assoc ws (witnesses_of bits p.rounds) (witnesses_of bits (sent ∷ []))
+          ∙ ap (λ t. ws ++ t) (sym (witnesses-append bits p.rounds sent));
+    }
+
+-- the same batch, by other names of what it left
+pub batch_at : (order : Order) (o : Ops) (R : Rules) (E : Extension) (bits n : ℕ) (f w : ℕ → ℕ) (claim : ℕ) (h : List Event) (rs : List ℕ)
+    (v v' : ℕ) (f₁ f' w₁ w' : ℕ → ℕ) (c₁ c' : ℕ) (h₁ h' : List Event) (ms : List (List ℕ)) (ws : List ℕ) (ms₁ ms' : List (List ℕ)) (ws₁ ws' : List ℕ) →
+    v' ≡ v → f' ≡ f₁ → w' ≡ w₁ → c' ≡ c₁ → h' ≡ h₁ → ms' ≡ ms₁ → ws' ≡ ws₁ →
+    PlaysBatch order o R E bits n f w claim h rs v f₁ w₁ c₁ h₁ ms ws ms₁ ws₁ → PlaysBatch order o R E bits n f w claim h rs v' f' w' c' h' ms ws ms' ws'
+batch_at order o R E bits n f w claim h rs v v' f₁ f' w₁ w' c₁ c' h₁ h' ms ws ms₁ ms' ws₁ ws' ev ef ew ec eh em es p = rw (ev, ef, ew, ec, eh, em, es) p
+
+-- the same last round, by other names of where it began
+pub ends_at : (order order₁ : Order) (o : Ops) (R R₁ : Rules) (E : Extension) (bits bits₁ m size : ℕ) (f₁ f' w₁ w' : ℕ → ℕ) (h₁ h' : List Event) →
+    order₁ ≡ order → R₁ ≡ R → bits₁ ≡ bits → f' ≡ f₁ → w' ≡ w₁ → EndsRound order₁ o R₁ E bits₁ m size f₁ w₁ h₁ h' → EndsRound order o R E bits m size f' w' h₁ h'
+ends_at order order₁ o R R₁ E bits bits₁ m size f₁ f' w₁ w' h₁ h' eo er eb ef ew p = rw (← eo, ← er, ← eb, ef, ew) p

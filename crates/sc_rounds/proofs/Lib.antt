@@ -1,0 +1,6 @@
+pub mod StepLaws
+pub mod RoundWords
+pub mod WitnessReads
+pub mod PairRounds
+pub mod BatchLaws
+pub mod TakenLaws

@@ -1,0 +1,37 @@
+use Rattle.std.proofs.Common.{◌≡◌, ap, ◌∙◌, sym, arith}
+use Rattle.sc_definitions.specs.Tables.{inner}
+use Rattle.sc_definitions.specs.Statements.{batched_weight, batched_claim}
+use Rattle.sc_statements.specs.Constraints.{constraint_arity, constraint_challenge, constraint_power, constraint_statements}
+use Rattle.sc_rounds.specs.Products.{variables_in, evals_in, weights_in}
+use Rattle.sc_rounds.proofs.TakenLaws.{sum_taken, claim_taken}
+use Rattle.sc_rounds.proofs.strategy.SumcheckProver.constraint_is_true.Goals as goal
+
+pub returns-clause-told : goal.returns-clause-told
+returns-clause-told g c =
+    let o = g.EF.Field.ops in
+    let ring = g.met.EF.Field.is_field.ring in
+    let N = g.EF.Field.number in
+    let old = c.args.self.now in
+    let n = variables_in old.poly in
+    let f = evals_in N old.poly in
+    let w = weights_in N old.poly in
+    let pair = c.new_unpacked-combined.result in
+    let end = c.combine.new.self in
+    let v = batched_weight o (constraint_challenge N c.args.c.now) (constraint_power c.args.c.now) (constraint_statements N c.args.c.now) in
+    let claim = batched_claim o (constraint_challenge N c.args.c.now) (constraint_power c.args.c.now) (constraint_statements N c.args.c.now) in
+    let arity : constraint_arity c.args.c.now ≡ n = sym c.num_variables.ensures ∙ c.if-num_variables.false ∙ c.num_variables-2.ensures in
+    let size : variables_in pair ≡ n = c.new_unpacked-combined.ensures.variables ∙ c.in_ok-evals.ensures.variables in
+    let evals : evals_in N pair ≡ f = c.new_unpacked-combined.ensures.evals ∙ c.in_ok-evals.ensures.table in
+    let weights : weights_in N pair ≡ w = c.new_unpacked-combined.ensures.weights ∙ c.in_ok-weights.ensures.table in
+    let begun : N old.sum ≡ inner o (variables_in pair) (evals_in N pair) (weights_in N pair) =
+    old.true_sum ∙ ap (λ k. inner o k f w) (sym size) ∙ ap (λ t. inner o (variables_in pair) t w) (sym evals) ∙ ap (inner o (variables_in pair) (evals_in N pair)) (sym weights) in
+    let moved : inner o (variables_in end) (evals_in N end) (weights_in N end) ≡ inner o (variables_in pair) (evals_in N pair) (weights_in N end) =
+    ap (λ k. inner o k (evals_in N end) (weights_in N end)) c.combine.ensures.variables ∙ ap (λ t. inner o (variables_in pair) t (weights_in N end)) c.combine.ensures.evals in
+    let there : inner o (variables_in pair) (evals_in N pair) v ≡ inner o n f v = ap (λ k. inner o k (evals_in N pair) v) size ∙ ap (λ t. inner o n t v) evals in
+    let added = c.in_ok-combine.ensures.ok in (
+      λ told. record {
+        arity = arity;
+        claim = sym there ∙ claim_taken o ring _ _ _ _ _ _ _ _ _ begun (c.sum_is_true.ensures.0 told ∙ moved) added;
+      },
+      λ true_one. c.sum_is_true.ensures.1 (sum_taken o ring _ _ _ _ _ _ _ _ _ begun (there ∙ true_one.claim) added ∙ sym moved),
+    )

@@ -1,0 +1,18 @@
+//! The rounds of the quadratic sumcheck: what a prover sends, what a transcript absorbs, and what a verifier replays.
+//!
+//! A table f of n variables and weights w of as many carry the claim that the sum of f w over all rows is a given element. Each round sends the
+//! constant and the leading coefficient of the polynomial that is left when every variable but one is summed out, draws a challenge, and binds the
+//! variable there. After n rounds what is left of the claim is the product of the two values at the challenges.
+#![tactic(auto)]
+
+mod data;
+mod error;
+mod product_polynomial;
+mod strategy;
+mod transcript;
+
+pub use data::SumcheckData;
+pub use error::SumcheckError;
+pub use product_polynomial::ProductPolynomial;
+pub use strategy::SumcheckProver;
+pub use transcript::{ProverTranscript, SumcheckShape, VerifierTranscript};

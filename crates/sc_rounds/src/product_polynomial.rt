@@ -1,0 +1,244 @@
+//! A table and its weights, on which rounds are played.
+ghost use Rattle.std.specs.Prelude.{◌≡◌, ◌⊎◌, ℕ, Err, suc, ◌+◌, ◌<◌, ◌≤◌, ◌^◌, [], ◌∷◌, IfOk, OnOk, OnErr, length, map, vec_capacity};
+ghost use Rattle.sc_definitions.specs.Ring.{times};
+ghost use Rattle.sc_definitions.specs.Tables.{entries, value, sum_below};
+ghost use Rattle.sc_table.specs.Polys.{variables_of, table_of};
+ghost use Rattle.sc_table.specs.Strategy.{order_of};
+ghost use Rattle.sc_statements.specs.Constraints.{constraint_arity, constraint_challenge, constraint_power, constraint_statements};
+ghost use Rattle.sc_statements.specs.Batches.{AddsBatch};
+
+use crate::data::SumcheckData;
+use crate::error::SumcheckError;
+use crate::transcript::ProverTranscript;
+use sc_challenger::Challenger;
+use sc_field::{ExtensionField, Field, NoMemory};
+use sc_statements::Constraint;
+use sc_table::{Basis, Point, Poly, VariableOrder};
+use std::alloc::Global;
+use std::marker::PhantomData;
+
+/// A table of evaluations and a table of weights, of as many variables, with the order in which rounds bind these.
+#[derive(Drop)]
+pub struct ProductPolynomial<F, EF> {
+    order: VariableOrder,
+    evals: Poly<EF>,
+    weights: Poly<EF>,
+    of: PhantomData<F>,
+    pub ghost same: { variables_of evals ≡ variables_of weights },
+}
+
+impl<F: Field, EF: ExtensionField<F>> ProductPolynomial<F, EF> {
+    ghost use Rattle.sc_rounds.specs.Data.{messages_in, witnesses_in};
+    ghost use Rattle.sc_rounds.specs.Products.{variables_in, order_in, evals_in, weights_in, sum_in, PlaysRound, EndsRound};
+    ghost use Rattle.sc_rounds.specs.Batches.{PlaysBatch, StopsBatch, FailsBatch};
+
+    /// The pair of these tables, which have as many variables.
+    pub fn new_unpacked(order: VariableOrder, evals: Poly<EF>, weights: Poly<EF>) -> Self
+        requires { variables_of evals ≡ variables_of weights }
+        ensures variables { variables_in result ≡ variables_of evals }
+        ensures order { order_in result ≡ order_of order }
+        ensures evals { evals_in EF.number result ≡ table_of EF.number evals }
+        ensures weights { weights_in EF.number result ≡ table_of EF.number weights }
+    {
+        ProductPolynomial {
+            order,
+            evals,
+            weights,
+            of: PhantomData,
+        }
+    }
+
+    /// The order in which rounds bind the variables.
+    pub fn order(&self) -> VariableOrder
+        ensures { order_of result ≡ order_in self.now }
+    {
+        self.order
+    }
+
+    /// How many variables are left.
+    pub fn num_variables(&self) -> usize
+        ensures { result ≡ variables_in self.now }
+    {
+        self.evals.num_variables()
+    }
+
+    /// The value of the table of evaluations alone, at a point of as many coordinates as variables are left.
+    pub fn eval(&self, point: &Point<EF>) -> EF
+        requires { length point.now ≡ variables_in self.now }
+        ensures { EF.number result ≡ value EF.ops (evals_in EF.number self.now) (map EF.number point.now) }
+    {
+        self.evals.eval(point)
+    }
+
+    /// The evaluations, row 0 first.
+    pub fn evals_view(&self) -> &[EF]
+        ensures numbers { entries EF.number result.now ≡ evals_in EF.number self.now }
+        ensures size { length result.now ≡ 2 ^ variables_in self.now }
+    {
+        self.evals.as_slice()
+    }
+
+    /// The evaluations, in memory of their own.
+    pub fn evals(&self, alloc: Global) -> Result<Poly<EF>, NoMemory>
+        ensures variables { IfOk result (λ p. variables_of p ≡ variables_in self.now) }
+        ensures table { IfOk result (λ p. table_of EF.number p ≡ evals_in EF.number self.now) }
+    {
+        self.evals.copy(alloc)
+    }
+
+    /// The weights, in memory of their own.
+    pub fn weights(&self, alloc: Global) -> Result<Poly<EF>, NoMemory>
+        ensures variables { IfOk result (λ p. variables_of p ≡ variables_in self.now) }
+        ensures table { IfOk result (λ p. table_of EF.number p ≡ weights_in EF.number self.now) }
+    {
+        self.weights.copy(alloc)
+    }
+
+    /// The sum over all rows of evaluation times weight. It takes no memory.
+    pub fn dot_product(&self) -> EF
+        ensures { EF.number result ≡ sum_in EF.ops EF.number self.now }
+    {
+        dot(self.evals.as_slice(), self.weights.as_slice())
+    }
+
+    /// Adds the batch of a constraint on as many variables: its weights to the weights, and its claim to the sum. The evaluations stay.
+    ///
+    /// A refusal leaves the pair and the sum as they were.
+    pub fn combine(
+        &mut self,
+        alloc: Global,
+        sum: &mut EF,
+        constraint: &Constraint<F, EF>,
+    ) -> Result<(), NoMemory>
+        requires { constraint_arity constraint.now ≡ variables_in self.old }
+        ensures variables { variables_in self.new ≡ variables_in self.old }
+        ensures order { order_in self.new ≡ order_in self.old }
+        ensures evals { evals_in EF.number self.new ≡ evals_in EF.number self.old }
+        ensures ok { OnOk result (AddsBatch EF.ops (variables_in self.old) (constraint_challenge EF.number constraint.now) (constraint_power constraint.now)
+            (constraint_statements EF.number constraint.now)
+            (weights_in EF.number self.old) (weights_in EF.number self.new) (EF.number sum.old) (EF.number sum.new)) }
+        ensures refused { OnErr result (self.new ≡ self.old) }
+        ensures refused_sum { OnErr result (sum.new ≡ sum.old) }
+    {
+        let mut weights = self.weights.copy(alloc)?;
+        let mut total = *sum;
+        constraint.combine(alloc, &mut weights, &mut total)?;
+        self.weights = weights;
+        *sum = total;
+        Ok(())
+    }
+
+    /// Plays a round: appends the message of the two tables to the data, binds both at its challenge, and moves the sum to the sent polynomial's value there,
+    /// which is the sum of the bound tables. A variable is left, the transcript has a round left, and `sum` is [`ProductPolynomial::dot_product`].
+    ///
+    /// The refusals are those of [`ProverTranscript::round`], and leave the pair, the data and the sum as they were.
+    pub fn round<C: Challenger<F>>(
+        &mut self,
+        sumcheck_data: &mut SumcheckData<F, EF>,
+        transcript: &mut ProverTranscript<'_, C, F, EF>,
+        sum: &mut EF,
+    ) -> Result<EF, SumcheckError>
+        requires variables { 0 < variables_in self.old }
+        requires left { transcript.old.played < transcript.old.shape.num_rounds }
+        requires sum { EF.number sum.old ≡ sum_in EF.ops EF.number self.old }
+        ensures same_reference { transcript.new.challenger.ghost_name ≡ transcript.old.challenger.ghost_name }
+        ensures rules { C.rules transcript.new.challenger.now ≡ C.rules transcript.old.challenger.now }
+        ensures shape { transcript.new.shape ≡ transcript.old.shape }
+        ensures played { OnOk result (transcript.new.played ≡ transcript.old.played + 1) }
+        ensures not_played { OnErr result (transcript.new.played ≡ transcript.old.played) }
+        ensures fewer { OnOk result (variables_in self.old ≡ variables_in self.new + 1) }
+        ensures order { order_in self.new ≡ order_in self.old }
+        ensures round { IfOk result (λ r. PlaysRound (order_in self.old) EF.ops (C.rules transcript.old.challenger.now) EF.extension transcript.old.shape.pow_bits (variables_in self.new)
+            (evals_in EF.number self.old) (weights_in EF.number self.old) (EF.number sum.old) (C.history transcript.old.challenger.now)
+            (EF.number r) (evals_in EF.number self.new) (weights_in EF.number self.new) (EF.number sum.new) (C.history transcript.new.challenger.now)
+            (messages_in EF.number sumcheck_data.old) (witnesses_in F.number sumcheck_data.old) (messages_in EF.number sumcheck_data.new) (witnesses_in F.number sumcheck_data.new)) }
+        ensures true_sum { OnOk result (EF.number sum.new ≡ sum_in EF.ops EF.number self.new) }
+        ensures refused { OnErr result (self.new ≡ self.old) }
+        ensures refused_sum { OnErr result (sum.new ≡ sum.old) }
+        ensures refused_messages { OnErr result (messages_in EF.number sumcheck_data.new ≡ messages_in EF.number sumcheck_data.old) }
+        ensures refused_witnesses { OnErr result (witnesses_in F.number sumcheck_data.new ≡ witnesses_in F.number sumcheck_data.old) }
+        ensures causes { OnErr result ((result ≡ Err SumcheckError.NoMemory) ⊎ (result ≡ Err (SumcheckError.NoWitness transcript.old.played))) }
+        ensures no_witness { (m : ℕ) → variables_in self.old ≡ suc m → result ≡ Err (SumcheckError.NoWitness transcript.old.played)
+            → EndsRound (order_in self.old) EF.ops (C.rules transcript.old.challenger.now) EF.extension transcript.old.shape.pow_bits m F.ops.size
+            (evals_in EF.number self.old) (weights_in EF.number self.old) (C.history transcript.old.challenger.now) (C.history transcript.new.challenger.now) }
+        ensures no_memory { result ≡ Err SumcheckError.NoMemory → C.history transcript.new.challenger.now ≡ C.history transcript.old.challenger.now }
+    {
+        let message = self
+            .order
+            .sumcheck_coefficients::<EF, EF>(self.evals.as_slice(), self.weights.as_slice());
+        let r = match sumcheck_data.observe_and_sample(transcript, message.c_a, message.c_inf) {
+            Ok(r) => r,
+            Err(error) => return Err(error),
+        };
+        self.order.fix_var::<EF, EF>(&mut self.evals, r);
+        self.order.fix_var::<EF, EF>(&mut self.weights, r);
+        *sum = Basis::Evaluation.reduce_claim(message.c_a, message.c_inf, r, *sum);
+        Ok(r)
+    }
+
+    /// Plays so many rounds of a transcript that has as many left, and appends their challenges to a list that has room for them. The sum is
+    /// [`ProductPolynomial::dot_product`].
+    pub(crate) fn play<C: Challenger<F>>(
+        &mut self,
+        sumcheck_data: &mut SumcheckData<F, EF>,
+        transcript: &mut ProverTranscript<'_, C, F, EF>,
+        sum: &mut EF,
+        challenges: &mut Vec<EF>,
+    ) -> Result<(), SumcheckError>
+        requires variables { transcript.old.shape.num_rounds ≤ variables_in self.old }
+        requires none_played { transcript.old.played ≡ 0 }
+        requires sum { EF.number sum.old ≡ sum_in EF.ops EF.number self.old }
+        requires empty { challenges.old.items ≡ [] }
+        requires room { transcript.old.shape.num_rounds ≤ vec_capacity challenges.old }
+        ensures same_reference { transcript.new.challenger.ghost_name ≡ transcript.old.challenger.ghost_name }
+        ensures rules { C.rules transcript.new.challenger.now ≡ C.rules transcript.old.challenger.now }
+        ensures shape { transcript.new.shape ≡ transcript.old.shape }
+        ensures order { order_in self.new ≡ order_in self.old }
+        ensures sum { EF.number sum.new ≡ sum_in EF.ops EF.number self.new }
+        ensures all { OnOk result (transcript.new.played ≡ transcript.new.shape.num_rounds) }
+        ensures left { variables_in self.new + transcript.new.played ≡ variables_in self.old }
+        ensures played { OnOk result ((f w : ℕ → ℕ)
+            → ((b : ℕ) → b < 2 ^ variables_in self.old → evals_in EF.number self.old b ≡ f b)
+            → ((b : ℕ) → b < 2 ^ variables_in self.old → weights_in EF.number self.old b ≡ w b)
+            → PlaysBatch (order_in self.old) EF.ops (C.rules transcript.old.challenger.now) EF.extension transcript.old.shape.pow_bits (variables_in self.old)
+            f w (EF.number sum.old) (C.history transcript.old.challenger.now) (map EF.number challenges.new.items) (variables_in self.new)
+            (evals_in EF.number self.new) (weights_in EF.number self.new) (EF.number sum.new) (C.history transcript.new.challenger.now)
+            (messages_in EF.number sumcheck_data.old) (witnesses_in F.number sumcheck_data.old) (messages_in EF.number sumcheck_data.new) (witnesses_in F.number sumcheck_data.new)) }
+        ensures causes { OnErr result ((result ≡ Err SumcheckError.NoMemory) ⊎ (result ≡ Err (SumcheckError.NoWitness transcript.new.played))) }
+        ensures begun { OnErr result (transcript.new.played < transcript.new.shape.num_rounds) }
+        ensures no_memory { result ≡ Err SumcheckError.NoMemory → (f w : ℕ → ℕ)
+            → ((b : ℕ) → b < 2 ^ variables_in self.old → evals_in EF.number self.old b ≡ f b)
+            → ((b : ℕ) → b < 2 ^ variables_in self.old → weights_in EF.number self.old b ≡ w b)
+            → StopsBatch (order_in self.old) EF.ops (C.rules transcript.old.challenger.now) EF.extension transcript.old.shape.pow_bits (variables_in self.old)
+            f w (EF.number sum.old) (C.history transcript.old.challenger.now) (variables_in self.new)
+            (evals_in EF.number self.new) (weights_in EF.number self.new) (EF.number sum.new) (C.history transcript.new.challenger.now)
+            (messages_in EF.number sumcheck_data.old) (witnesses_in F.number sumcheck_data.old) (messages_in EF.number sumcheck_data.new) (witnesses_in F.number sumcheck_data.new) }
+        ensures no_witness { (m : ℕ) → variables_in self.new ≡ suc m → result ≡ Err (SumcheckError.NoWitness transcript.new.played) → (f w : ℕ → ℕ)
+            → ((b : ℕ) → b < 2 ^ variables_in self.old → evals_in EF.number self.old b ≡ f b)
+            → ((b : ℕ) → b < 2 ^ variables_in self.old → weights_in EF.number self.old b ≡ w b)
+            → FailsBatch (order_in self.old) EF.ops (C.rules transcript.old.challenger.now) EF.extension transcript.old.shape.pow_bits (variables_in self.old)
+            f w (EF.number sum.old) (C.history transcript.old.challenger.now) F.ops.size m
+            (evals_in EF.number self.new) (weights_in EF.number self.new) (EF.number sum.new) (C.history transcript.new.challenger.now)
+            (messages_in EF.number sumcheck_data.old) (witnesses_in F.number sumcheck_data.old) (messages_in EF.number sumcheck_data.new) (witnesses_in F.number sumcheck_data.new) }
+    {
+        for _round in 0..transcript.shape().num_rounds {
+            match self.round(sumcheck_data, transcript, sum) {
+                Ok(r) => challenges.push_reserved(r),
+                Err(error) => return Err(error),
+            }
+        }
+        Ok(())
+    }
+}
+
+// The sum of the products of the entries of two lists of one length.
+fn dot<EF: Field>(left: &[EF], right: &[EF]) -> EF
+    requires { length left.now ≡ length right.now }
+    ensures { EF.number result ≡ sum_below EF.ops (length left.now) (λ b. times EF.ops (entries EF.number left.now b) (entries EF.number right.now b)) }
+{
+    let mut sum = EF::ZERO;
+    for i in 0..left.len() {
+        sum = sum.add(left[i].mul(right[i]));
+    }
+    sum
+}

@@ -1,0 +1,221 @@
+//! The prover of a sumcheck.
+ghost use Rattle.std.specs.Prelude.{◌≡◌, ◌↔◌, ◌⊎◌, ℕ, suc, ◌+◌, ◌<◌, ◌≤◌, ◌^◌, ◌++◌, Err, IfOk, OnOk, OnErr, IsTrue, length, map};
+ghost use Rattle.sc_definitions.specs.Ring.{plus};
+ghost use Rattle.sc_definitions.specs.Tables.{entries, value, inner};
+ghost use Rattle.sc_definitions.specs.Events.{words};
+ghost use Rattle.sc_definitions.specs.Seeds.{quadratic_seed};
+ghost use Rattle.sc_definitions.specs.Tables.{evaluation};
+ghost use Rattle.sc_table.specs.Polys.{variables_of, table_of};
+ghost use Rattle.sc_table.specs.Strategy.{order_of};
+ghost use Rattle.sc_definitions.specs.Statements.{batched_weight, batched_claim};
+ghost use Rattle.sc_statements.specs.Constraints.{constraint_challenge, constraint_power, constraint_statements};
+ghost use Rattle.sc_rounds.specs.Products.{sum_in};
+
+use crate::data::{SumcheckData, with_room};
+use crate::error::SumcheckError;
+use crate::product_polynomial::ProductPolynomial;
+use crate::transcript::{ProverTranscript, SumcheckShape};
+use sc_challenger::Challenger;
+use sc_field::{ExtensionField, Field, NoMemory};
+use sc_statements::Constraint;
+use sc_table::{Basis, Point, Poly, VariableOrder};
+use std::alloc::Global;
+
+/// A prover: a pair of tables, and the claim that the sum over all rows of evaluation times weight has a value, which is always true. Each challenge
+/// is bound at once.
+#[derive(Drop)]
+pub struct SumcheckProver<F: Field, EF: ExtensionField<F>> {
+    poly: ProductPolynomial<F, EF>,
+    sum: EF,
+    ghost true_sum: { EF.number sum ≡ sum_in EF.ops EF.number poly },
+}
+
+impl<F: Field, EF: ExtensionField<F>> SumcheckProver<F, EF> {
+    ghost use Rattle.sc_rounds.specs.Data.{messages_in, witnesses_in};
+    ghost use Rattle.sc_rounds.specs.Products.{variables_in, order_in, evals_in, weights_in};
+    ghost use Rattle.sc_rounds.specs.Batches.{PlaysBatch, StopsBatch, FailsBatch, IsUnplayed, weights_with, claim_with};
+    ghost use Rattle.sc_rounds.specs.Invalid.{FindsNone};
+    ghost use Rattle.sc_rounds.specs.Provers.{IsTrueConstraint, IsTrueIfSome};
+
+    /// A prover of a claim that is true, as [`SumcheckProver::sum_is_true`] tests.
+    pub fn new(poly: ProductPolynomial<F, EF>, sum: EF) -> Self
+        requires { EF.number sum ≡ sum_in EF.ops EF.number poly }
+        ensures variables { variables_in result.poly ≡ variables_in poly }
+        ensures order { order_in result.poly ≡ order_in poly }
+        ensures evals { evals_in EF.number result.poly ≡ evals_in EF.number poly }
+        ensures weights { weights_in EF.number result.poly ≡ weights_in EF.number poly }
+        ensures claim { EF.number result.sum ≡ EF.number sum }
+    {
+        SumcheckProver { poly, sum }
+    }
+
+    /// Whether the sum over all rows of evaluation times weight is this one. It takes no memory.
+    pub fn sum_is_true(poly: &ProductPolynomial<F, EF>, sum: EF) -> bool
+        ensures { IsTrue result ↔ (EF.number sum ≡ sum_in EF.ops EF.number poly.now) }
+    {
+        sum.index() == poly.dot_product().index()
+    }
+
+    /// The claim.
+    pub fn claimed_sum(&self) -> EF
+        ensures number { EF.number result ≡ EF.number self.now.sum }
+
+        // It is the sum over all rows of evaluation times weight.
+        ensures true_sum { EF.number self.now.sum ≡ inner EF.ops (variables_in self.now.poly) (evals_in EF.number self.now.poly) (weights_in EF.number self.now.poly) }
+    {
+        self.sum
+    }
+
+    /// How many variables are left.
+    pub fn num_variables(&self) -> usize
+        ensures { result ≡ variables_in self.now.poly }
+    {
+        self.poly.num_variables()
+    }
+
+    /// The order in which rounds bind the variables.
+    pub fn order(&self) -> VariableOrder
+        ensures { order_of result ≡ order_in self.now.poly }
+    {
+        self.poly.order()
+    }
+
+    /// Binds a challenge that is still held. None is: each is bound at once.
+    pub fn settle(&mut self)
+        ensures { self.new ≡ self.old }
+    {}
+
+    /// The bound evaluations, in memory of their own.
+    pub fn evals(&mut self, alloc: Global) -> Result<Poly<EF>, NoMemory>
+        ensures kept { self.new ≡ self.old }
+        ensures variables { IfOk result (λ p. variables_of p ≡ variables_in self.old.poly) }
+        ensures table { IfOk result (λ p. table_of EF.number p ≡ evals_in EF.number self.old.poly) }
+    {
+        self.poly.evals(alloc)
+    }
+
+    /// The bound weights, in memory of their own.
+    pub fn weights(&mut self, alloc: Global) -> Result<Poly<EF>, NoMemory>
+        ensures kept { self.new ≡ self.old }
+        ensures variables { IfOk result (λ p. variables_of p ≡ variables_in self.old.poly) }
+        ensures table { IfOk result (λ p. table_of EF.number p ≡ weights_in EF.number self.old.poly) }
+    {
+        self.poly.weights(alloc)
+    }
+
+    /// The value of the bound table of evaluations alone, at a point of as many coordinates as variables are left.
+    pub fn eval(&mut self, point: &Point<EF>) -> EF
+        requires { length point.now ≡ variables_in self.old.poly }
+        ensures kept { self.new ≡ self.old }
+        ensures number { EF.number result ≡ value EF.ops (evals_in EF.number self.old.poly) (map EF.number point.now) }
+    {
+        self.poly.eval(point)
+    }
+
+    /// Whether a constraint is on tables of as many variables as are left, and its batched claim is the sum over all rows of evaluation times its
+    /// batched weights.
+    pub fn constraint_is_true(
+        &mut self,
+        alloc: Global,
+        c: &Constraint<F, EF>,
+    ) -> Result<bool, NoMemory>
+        ensures kept { self.new ≡ self.old }
+        ensures told { IfOk result (λ told. IsTrue told ↔ IsTrueConstraint EF.ops EF.number (variables_in self.old.poly) (evals_in EF.number self.old.poly) c.now) }
+    {
+        if c.num_variables() != self.poly.num_variables() {
+            return Ok(false);
+        }
+        let evals = self.poly.evals(alloc)?;
+        let weights = self.poly.weights(alloc)?;
+        let mut combined = ProductPolynomial::new_unpacked(self.poly.order(), evals, weights);
+        let mut sum = self.sum;
+        combined.combine(alloc, &mut sum, c)?;
+        Ok(SumcheckProver::sum_is_true(&combined, sum))
+    }
+
+    /// Plays a batch of rounds, one for each of the next `folding_factor` variables, at a difficulty of at most the challenger's
+    /// [`Challenger::max_bits`], and answers their challenges in drawing order. A constraint, which is true as
+    /// [`SumcheckProver::constraint_is_true`] tests, is taken in before the first round.
+    ///
+    /// `NoWitness` comes only where no element of the base field passes the test of that round: the rounds before it are played, and the data has as
+    /// many more. After `NoMemory` some rounds are played, and the constraint is taken in or not; without a round nothing is appended.
+    pub fn compute_sumcheck_polynomials<C: Challenger<F>>(
+        &mut self,
+        alloc: Global,
+        sumcheck_data: &mut SumcheckData<F, EF>,
+        challenger: &mut C,
+        folding_factor: usize,
+        pow_bits: usize,
+        constraint: Option<Constraint<F, EF>>,
+    ) -> Result<Point<EF>, SumcheckError>
+        requires variables { folding_factor ≤ variables_in self.old.poly }
+        requires difficulty { pow_bits ≤ (C.rules challenger.old).max_bits }
+        requires constraint { IsTrueIfSome EF.ops EF.number (variables_in self.old.poly) (evals_in EF.number self.old.poly) constraint }
+        ensures rules { C.rules challenger.new ≡ C.rules challenger.old }
+        ensures order { order_in self.new.poly ≡ order_in self.old.poly }
+        ensures fewer { OnOk result (variables_in self.new.poly + folding_factor ≡ variables_in self.old.poly) }
+        ensures batch { IfOk result (λ point. PlaysBatch (order_in self.old.poly) EF.ops (C.rules challenger.old) EF.extension pow_bits (variables_in self.old.poly)
+            (evals_in EF.number self.old.poly) (weights_with EF.ops EF.number constraint (weights_in EF.number self.old.poly)) (claim_with EF.ops EF.number constraint (EF.number self.old.sum))
+            (C.history challenger.old ++ words (quadratic_seed EF.DEGREE evaluation pow_bits folding_factor)) (map EF.number point) (variables_in self.new.poly)
+            (evals_in EF.number self.new.poly) (weights_in EF.number self.new.poly) (EF.number self.new.sum) (C.history challenger.new)
+            (messages_in EF.number sumcheck_data.old) (witnesses_in F.number sumcheck_data.old) (messages_in EF.number sumcheck_data.new) (witnesses_in F.number sumcheck_data.new)) }
+        ensures no_witness { (i m : ℕ) → result ≡ Err (SumcheckError.NoWitness i) → variables_in self.new.poly ≡ suc m → (variables_in self.new.poly + i ≡ variables_in self.old.poly)
+            × FailsBatch (order_in self.old.poly) EF.ops (C.rules challenger.old) EF.extension pow_bits (variables_in self.old.poly)
+            (evals_in EF.number self.old.poly) (weights_with EF.ops EF.number constraint (weights_in EF.number self.old.poly)) (claim_with EF.ops EF.number constraint (EF.number self.old.sum))
+            (C.history challenger.old ++ words (quadratic_seed EF.DEGREE evaluation pow_bits folding_factor)) F.ops.size m
+            (evals_in EF.number self.new.poly) (weights_in EF.number self.new.poly) (EF.number self.new.sum) (C.history challenger.new)
+            (messages_in EF.number sumcheck_data.old) (witnesses_in F.number sumcheck_data.old) (messages_in EF.number sumcheck_data.new) (witnesses_in F.number sumcheck_data.new) }
+        ensures no_memory { result ≡ Err SumcheckError.NoMemory
+            → IsUnplayed (variables_in self.old.poly) (evals_in EF.number self.old.poly) (weights_in EF.number self.old.poly) (weights_with EF.ops EF.number constraint (weights_in EF.number self.old.poly))
+            (EF.number self.old.sum) (claim_with EF.ops EF.number constraint (EF.number self.old.sum)) (C.history challenger.old)
+            (messages_in EF.number sumcheck_data.old) (witnesses_in F.number sumcheck_data.old)
+            (variables_in self.new.poly) (evals_in EF.number self.new.poly) (weights_in EF.number self.new.poly) (EF.number self.new.sum) (C.history challenger.new)
+            (messages_in EF.number sumcheck_data.new) (witnesses_in F.number sumcheck_data.new)
+            ⊎ StopsBatch (order_in self.old.poly) EF.ops (C.rules challenger.old) EF.extension pow_bits (variables_in self.old.poly)
+            (evals_in EF.number self.old.poly) (weights_with EF.ops EF.number constraint (weights_in EF.number self.old.poly)) (claim_with EF.ops EF.number constraint (EF.number self.old.sum))
+            (C.history challenger.old ++ words (quadratic_seed EF.DEGREE evaluation pow_bits folding_factor)) (variables_in self.new.poly)
+            (evals_in EF.number self.new.poly) (weights_in EF.number self.new.poly) (EF.number self.new.sum) (C.history challenger.new)
+            (messages_in EF.number sumcheck_data.old) (witnesses_in F.number sumcheck_data.old) (messages_in EF.number sumcheck_data.new) (witnesses_in F.number sumcheck_data.new) }
+        ensures causes { OnErr result ((result ≡ Err SumcheckError.NoMemory) ⊎ FindsNone result) }
+        ensures left { variables_in self.old.poly ≤ variables_in self.new.poly + folding_factor }
+    {
+        if let Some(constraint) = constraint {
+            self.take_in(alloc, &constraint)?;
+        }
+        let mut challenges = with_room(alloc, folding_factor)?;
+        let shape = SumcheckShape::new(folding_factor, pow_bits, Basis::Evaluation);
+        shape.seed::<F, EF, C>(alloc, challenger)?;
+        let mut transcript = ProverTranscript::over(challenger, shape);
+        match self.poly.play(
+            sumcheck_data,
+            &mut transcript,
+            &mut self.sum,
+            &mut challenges,
+        ) {
+            Ok(()) => {
+                transcript.finish();
+                Ok(Point::new(challenges))
+            }
+            Err(error) => {
+                transcript.abort();
+                Err(error)
+            }
+        }
+    }
+
+    // Adds the batch of a true constraint to the weights and to the claim. A refusal leaves both as they were.
+    fn take_in(&mut self, alloc: Global, constraint: &Constraint<F, EF>) -> Result<(), NoMemory>
+        requires { IsTrueConstraint EF.ops EF.number (variables_in self.old.poly) (evals_in EF.number self.old.poly) constraint.now }
+        ensures variables { variables_in self.new.poly ≡ variables_in self.old.poly }
+        ensures order { order_in self.new.poly ≡ order_in self.old.poly }
+        ensures evals { evals_in EF.number self.new.poly ≡ evals_in EF.number self.old.poly }
+        ensures weights { OnOk result ((b : ℕ) → b < 2 ^ variables_in self.old.poly → weights_in EF.number self.new.poly b
+            ≡ plus EF.ops (weights_in EF.number self.old.poly b) (batched_weight EF.ops (constraint_challenge EF.number constraint.now) (constraint_power constraint.now) (constraint_statements EF.number constraint.now) b)) }
+        ensures claim { OnOk result (EF.number self.new.sum
+            ≡ plus EF.ops (EF.number self.old.sum) (batched_claim EF.ops (constraint_challenge EF.number constraint.now) (constraint_power constraint.now) (constraint_statements EF.number constraint.now))) }
+        ensures refused { OnErr result (self.new.poly ≡ self.old.poly) }
+        ensures refused_sum { OnErr result (self.new.sum ≡ self.old.sum) }
+    {
+        self.poly.combine(alloc, &mut self.sum, constraint)
+    }
+}
