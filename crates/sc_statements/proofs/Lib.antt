@@ -6,3 +6,4 @@ pub mod EvaluationReads
 pub mod BatchSteps
 pub mod GroupSteps
 pub mod FalseGroups
+pub mod BatchValues

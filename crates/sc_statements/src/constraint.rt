@@ -1,7 +1,8 @@
 //! Groups of statements, batched under the powers of one challenge.
 
-ghost use Rattle.std.specs.Prelude.{◌≡◌, ℕ, ◌+◌, ◌^◌, ◌<◌, ◌≤◌, All, length, IfOk, OnOk, OnErr};
+ghost use Rattle.std.specs.Prelude.{◌≡◌, ℕ, ◌+◌, ◌^◌, ◌<◌, ◌≤◌, All, length, map, IfOk, OnOk, OnErr};
 ghost use Rattle.sc_definitions.specs.Ring.{plus, power};
+ghost use Rattle.sc_definitions.specs.Tables.{value};
 ghost use Rattle.sc_definitions.specs.Statements.{first_false_claim, batched_weight, batched_claim};
 ghost use Rattle.sc_field.specs.Powers.{base_of, start_of};
 ghost use Rattle.sc_table.specs.Polys.{variables_of, table_of};
@@ -12,7 +13,7 @@ ghost use Rattle.sc_statements.specs.FalseClaims.{told};
 use crate::statement::Statements;
 use sc_definitions::FalseClaim;
 use sc_field::{ExtensionField, Field, NoMemory, Powers};
-use sc_table::Poly;
+use sc_table::{Point, Poly};
 use std::alloc::Global;
 use std::marker::PhantomData;
 
@@ -149,6 +150,24 @@ impl<F: Field, EF: ExtensionField<F>> Constraint<F, EF> {
         let mut eval = EF::ZERO;
         self.combine(alloc, &mut combined, &mut eval)?;
         Ok((combined, eval))
+    }
+
+    /// The value at `row` of the batched weights, as a table. `row` has as many coordinates as the tables
+    /// have variables.
+    ///
+    /// It makes no table and takes no memory: it is the sum over all statements of coefficient times the
+    /// value of the statement's own weights.
+    pub fn eval_at(&self, row: &Point<EF>) -> EF
+        requires { length row.now ≡ constraint_arity self.now }
+        ensures { EF.number result ≡ value EF.ops
+            (batched_weight EF.ops (constraint_challenge EF.number self.now) (constraint_power self.now) (constraint_statements EF.number self.now)) (map EF.number row.now) }
+    {
+        let mut sum = EF::ZERO;
+        let mut coefficient = self.first_coefficient();
+        for group in &self.statements {
+            coefficient = group.add_weights_at(&mut sum, row, self.challenge, coefficient);
+        }
+        sum
     }
 
     /// The first statement that is false of the table, numbered from 0 over all groups, if one is. The

@@ -1,8 +1,9 @@
 //! The kinds of statements, and groups of one kind.
 
-ghost use Rattle.std.specs.Prelude.{◌≡◌, ℕ, ◌+◌, ◌↔◌, [], length, IsTrue, IfOk, OnErr};
+ghost use Rattle.std.specs.Prelude.{◌≡◌, ℕ, ◌+◌, ◌↔◌, [], length, map, IsTrue, IfOk, OnErr};
 ghost use Rattle.sc_definitions.specs.Ring.{plus, power};
-ghost use Rattle.sc_definitions.specs.Statements.{first_false_claim, batched_claim};
+ghost use Rattle.sc_definitions.specs.Tables.{value};
+ghost use Rattle.sc_definitions.specs.Statements.{first_false_claim, batched_weight, batched_claim};
 ghost use Rattle.sc_table.specs.Polys.{variables_of, table_of};
 ghost use Rattle.sc_statements.specs.Batches.{AddsBatch, IsUnchanged};
 
@@ -11,7 +12,7 @@ mod eq;
 pub use eq::{EqIter, EqStatement, EqWeights};
 use sc_definitions::FalseClaim;
 use sc_field::{Algebra, Field, NoMemory};
-use sc_table::Poly;
+use sc_table::{Point, Poly};
 use std::alloc::Global;
 
 /// A group of statements of one kind, in order.
@@ -76,7 +77,27 @@ impl<EF: Field> Statements<EF> {
         }
     }
 
-    // The same, and the weights are added to the rows of a table. `NoMemory` leaves both as they were.
+    // Adds the values at `row` of the weights to the sum, with the same factors and the same answer.
+    pub(crate) fn add_weights_at(
+        &self,
+        sum: &mut EF,
+        row: &Point<EF>,
+        challenge: EF,
+        first: EF,
+    ) -> EF
+        requires { length row.now ≡ group_arity self.now }
+        ensures added { (p : ℕ) → EF.number first ≡ power EF.ops (EF.number challenge) p →
+            EF.number sum.new ≡ plus EF.ops (EF.number sum.old)
+            (value EF.ops (batched_weight EF.ops (EF.number challenge) p (group_statements EF.number self.now)) (map EF.number row.now)) }
+        ensures next { (p : ℕ) → EF.number first ≡ power EF.ops (EF.number challenge) p →
+            EF.number result ≡ power EF.ops (EF.number challenge) (p + length (group_statements EF.number self.now)) }
+    {
+        match self {
+            Statements::Eq(statement) => statement.add_weights_at(sum, row, challenge, first),
+        }
+    }
+
+    // As `add_values`, and the weights are added to the rows of a table. `NoMemory` leaves both as they were.
     pub(crate) fn add_batch(
         &self,
         _alloc: Global,

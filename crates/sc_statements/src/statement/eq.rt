@@ -3,7 +3,8 @@
 ghost use Rattle.std.specs.Prelude.{◌≡◌, ℕ, ◌+◌, ◌<◌, ◌≤◌, ◌↔◌, [], ◌∷◌, ◌++◌, All, length, map, slice_index, IsTrue, IfOk, OnOk, OnErr, true, false};
 ghost use Rattle.std.specs.Iterator.{YieldsFirstBy, item_count};
 ghost use Rattle.sc_definitions.specs.Ring.{plus, power};
-ghost use Rattle.sc_definitions.specs.Statements.{equality, claims, arity_of, AllTrueOf, first_false_claim, true_values, claimed_values, batched_claim};
+ghost use Rattle.sc_definitions.specs.Tables.{value};
+ghost use Rattle.sc_definitions.specs.Statements.{equality, claims, arity_of, AllTrueOf, first_false_claim, true_values, claimed_values, batched_weight, batched_claim};
 ghost use Rattle.sc_table.specs.Polys.{variables_of, table_of};
 ghost use Rattle.sc_statements.specs.Batches.{AddsBatch, WritesBatch, IsUnchanged};
 
@@ -268,6 +269,32 @@ impl<EF: Field> EqStatement<EF> {
         let mut coefficient = first;
         for constraint in &self.constraints {
             *sum = sum.add(coefficient.mul(constraint.eval));
+            coefficient = coefficient.mul(challenge);
+        }
+        coefficient
+    }
+
+    // Adds the values at `row` of the weights to the sum, that of the first statement times `first`, and
+    // that of each next one times the challenge once more. `row` has as many coordinates as the tables
+    // have variables. The answer is the factor of a statement behind the last.
+    pub(crate) fn add_weights_at(
+        &self,
+        sum: &mut EF,
+        row: &Point<EF>,
+        challenge: EF,
+        first: EF,
+    ) -> EF
+        requires { length row.now ≡ eq_arity self.now }
+        ensures added { (p : ℕ) → EF.number first ≡ power EF.ops (EF.number challenge) p →
+            EF.number sum.new ≡ plus EF.ops (EF.number sum.old)
+            (value EF.ops (batched_weight EF.ops (EF.number challenge) p (eq_statements EF.number self.now)) (map EF.number row.now)) }
+        ensures next { (p : ℕ) → EF.number first ≡ power EF.ops (EF.number challenge) p →
+            EF.number result ≡ power EF.ops (EF.number challenge) (p + length (eq_statements EF.number self.now)) }
+    {
+        let mut coefficient = first;
+        for constraint in &self.constraints {
+            let weight = Point::eval_eq(constraint.point.as_slice(), row.as_slice());
+            *sum = sum.add(coefficient.mul(weight));
             coefficient = coefficient.mul(challenge);
         }
         coefficient

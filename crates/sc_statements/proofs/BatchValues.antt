@@ -1,0 +1,109 @@
+-- The values of batched weights, as a table, at a point.
+use Rattle.std.proofs.Common.{◌≡◌, ℕ, suc, ◌+◌, ◌^◌, ◌<◌, ◌≤◌, List, [], ◌∷◌, ◌++◌, length, All, get_or, map, take, sym, ◌∙◌, ap, refl}
+use Rattle.std.specs.List.{flat_map}
+use Rattle.std.proofs.lemmas.List.{length-map, map-append, take_all}
+use Rattle.sc_definitions.specs.Ring.{Ops, IsRing, plus, times, power}
+use Rattle.sc_definitions.specs.Tables.{sum_below, weight, eq_product, value}
+use Rattle.sc_definitions.specs.Statements.{Statement, claims, weight_of, weights_at, claimed_values, powers_sum, batched_weight, batched_claim}
+use Rattle.sc_definitions.proofs.Sums.{sum-same, sum-plus, times-sum}
+use Rattle.sc_definitions.proofs.Identity.{atom, nought, ◌⊕◌, ◌⊗◌, Agree, identity}
+use Rattle.sc_definitions.proofs.BuildLaws.{sum-zeros}
+use Rattle.sc_statements.specs.declared.statement.eq.EvaluatedConstraint.{EvaluatedConstraint}
+use Rattle.sc_statements.specs.EqStatements.{evaluation}
+use Rattle.sc_statements.proofs.Evaluations.{arity-at, evaluations-more}
+use Rattle.sc_statements.proofs.WeightValues.{value-weight_of}
+use Rattle.sc_statements.proofs.BatchSteps.{IsSummed, IsSummed-more, claim-alone}
+use Rattle.sc_statements.proofs.GroupSteps.{sum-group}
+
+-- the statement whose claim is the value at a point of its weight table
+abbrev pub valued : Ops → List ℕ → Statement → Statement
+valued o zs s = claims s.kind (value o (weight_of o s.kind) zs)
+
+module _ (o : Ops) (ring : IsRing o) where
+  -- the value of a batch of weight tables is the batch of their values
+  pub value-powers_sum : (c p : ℕ) (ss : List Statement) (zs : List ℕ) →
+      value o (λ b. powers_sum o c p (weights_at o ss b)) zs ≡ powers_sum o c p (map (λ s. value o (weight_of o s.kind) zs) ss)
+  unfolding value powers_sum Agree
+  value-powers_sum c p [] zs =
+      sum-same o (2 ^ length zs) _ _ (λ b _. identity o ring (weight o zs b ∷ []) (nought ⊗ atom 0) nought tt tt refl) ∙ sum-zeros o ring (2 ^ length zs)
+  value-powers_sum c p (s ∷ ss) zs =
+      let N = 2 ^ length zs in
+      let first : ℕ → ℕ = λ b. times o (power o c p) (times o (weight_of o s.kind b) (weight o zs b)) in
+      let others : ℕ → ℕ = λ b. times o (powers_sum o c (suc p) (weights_at o ss b)) (weight o zs b) in
+      let Z = atom 0 in let P = atom 1 in let W = atom 2 in let R = atom 3 in
+      sum-same o N _ _ (λ b _. identity o ring (weight o zs b ∷ power o c p ∷ weight_of o s.kind b ∷ powers_sum o c (suc p) (weights_at o ss b) ∷ [])
+      ((P ⊗ W ⊕ R) ⊗ Z) (P ⊗ (W ⊗ Z) ⊕ R ⊗ Z) tt tt refl)
+      ∙ sym (sum-plus o ring N first others)
+      ∙ ap (λ t. plus o t (sum_below o N others)) (sym (times-sum o ring (power o c p) N (λ b. times o (weight_of o s.kind b) (weight o zs b))))
+      ∙ ap (plus o (times o (power o c p) (sum_below o N (λ b. times o (weight_of o s.kind b) (weight o zs b))))) (value-powers_sum c (suc p) ss zs)
+
+  claimed-valued : (zs : List ℕ) (ss : List Statement) → claimed_values (map (valued o zs) ss) ≡ map (λ s. value o (weight_of o s.kind) zs) ss
+  claimed-valued zs [] = refl
+  claimed-valued zs (s ∷ ss) = ap (λ t. value o (weight_of o s.kind) zs ∷ t) (claimed-valued zs ss)
+
+  pub value-batched : (c p : ℕ) (ss : List Statement) (zs : List ℕ) → value o (batched_weight o c p ss) zs ≡ batched_claim o c p (map (valued o zs) ss)
+  unfolding batched_weight batched_claim
+  value-batched c p ss zs = value-powers_sum c p ss zs ∙ ap (powers_sum o c p) (sym (claimed-valued zs ss))
+
+-- ---- the loop over the statements of one group
+
+module _ {EF : Type 0} (number : EF → ℕ) (o : Ops) (ring : IsRing o) (c p : ℕ) (row : List EF) (cs all : List (EvaluatedConstraint EF)) (i : ℕ) where
+  -- the weight of one statement more
+  pub value-more : (n : ℕ) (one : EvaluatedConstraint EF) (coords coords_at : List EF) (old total total' weight_there term factor factor' : ℕ) →
+      IsSummed o c p (map (valued o (map number row)) (map (evaluation number) (take i cs))) old total factor →
+      All (λ d. length d.point ≡ n) all → cs ≡ all → i < length cs → one ≡ get_or cs i one → length row ≡ n → coords ≡ one.point → coords_at ≡ row →
+      weight_there ≡ eq_product o (map number coords) (map number coords_at) → term ≡ times o factor weight_there → total' ≡ plus o total term → factor' ≡ times o factor c →
+      IsSummed o c p (map (valued o (map number row)) (map (evaluation number) (take (i + 1) cs))) old total' factor'
+  value-more n one coords coords_at old total total' weight_there term factor factor' so_far fits same low at size first second weight_is term_is total_is factor_is =
+      let zs = map number row in
+      let s = valued o zs (evaluation number one) in
+      let lengths : length (map number one.point) ≡ length zs =
+      length-map one.point number ∙ arity-at number n cs all i one fits same low at ∙ sym size ∙ sym (length-map row number) in
+      let is : weight_there ≡ s.claimed =
+      weight_is ∙ ap (λ l. eq_product o (map number l) (map number coords_at)) first ∙ ap (λ l. eq_product o (map number one.point) (map number l)) second
+      ∙ sym (value-weight_of o ring (map number one.point) zs lengths) in
+      IsSummed-more o ring c p _ _ s old total total' factor factor'
+      (ap (map (valued o zs)) (evaluations-more number cs i one low at) ∙ map-append (valued o zs) (map (evaluation number) (take i cs)) (evaluation number one ∷ []))
+      so_far (total_is ∙ ap (plus o total) (term_is ∙ ap (times o factor) is)) factor_is
+
+  -- all statements of the group
+  pub value-end : (old total factor : ℕ) → IsSummed o c p (map (valued o (map number row)) (map (evaluation number) (take i cs))) old total factor → cs ≡ all → length cs ≤ i →
+      total ≡ plus o old (value o (batched_weight o c p (map (evaluation number) all)) (map number row))
+  value-end old total factor so_far same past =
+      let zs = map number row in
+      so_far.summed ∙ ap (λ l. plus o old (batched_claim o c p (map (valued o zs) (map (evaluation number) l)))) (take_all i cs past ∙ same)
+      ∙ ap (plus o old) (sym (value-batched o ring c p (map (evaluation number) all) zs))
+
+  pub next-end : (old total factor : ℕ) → IsSummed o c p (map (valued o (map number row)) (map (evaluation number) (take i cs))) old total factor → cs ≡ all → length cs ≤ i →
+      factor ≡ power o c (p + length (map (evaluation number) all))
+  next-end old total factor so_far same past =
+      let zs = map number row in
+      so_far.next ∙ ap (λ l. power o c (p + length (map (valued o zs) (map (evaluation number) l)))) (take_all i cs past ∙ same)
+      ∙ ap (λ k. power o c (p + k)) (length-map (map (evaluation number) all) (valued o zs))
+
+-- ---- the loop over the groups
+
+module _ {G : Type 0} (statements_of : G → List Statement) (o : Ops) (ring : IsRing o) (c p : ℕ) (zs : List ℕ) where
+  -- one group more
+  pub value-group : (groups : List G) (i : ℕ) (x : G) (old total total' factor factor' : ℕ) → IsSummed o c p (flat_map (λ g. map (valued o zs) (statements_of g)) (take i groups)) old total factor →
+      i < length groups → x ≡ get_or groups i x →
+      ((q : ℕ) → factor ≡ power o c q → total' ≡ plus o total (value o (batched_weight o c q (statements_of x)) zs)) →
+      ((q : ℕ) → factor ≡ power o c q → factor' ≡ power o c (q + length (statements_of x))) →
+      IsSummed o c p (flat_map (λ g. map (valued o zs) (statements_of g)) (take (i + 1) groups)) old total' factor'
+  value-group groups i x old total total' factor factor' so_far low at added next =
+      sum-group (λ g. map (valued o zs) (statements_of g)) o ring c p groups i x old total total' factor factor' so_far low at
+      (λ q is. added q is ∙ ap (plus o total) (value-batched o ring c q (statements_of x) zs))
+      (λ q is. next q is ∙ ap (λ k. power o c (q + k)) (sym (length-map (statements_of x) (valued o zs))))
+
+  flat-valued : (groups : List G) → flat_map (λ g. map (valued o zs) (statements_of g)) groups ≡ map (valued o zs) (flat_map statements_of groups)
+  flat-valued [] = refl
+  flat-valued (x ∷ groups) =
+      ap (λ t. map (valued o zs) (statements_of x) ++ t) (flat-valued groups) ∙ sym (map-append (valued o zs) (statements_of x) (flat_map statements_of groups))
+
+  -- all groups, onto zero
+  pub value-groups : (groups all : List G) (i old total factor : ℕ) → IsSummed o c p (flat_map (λ g. map (valued o zs) (statements_of g)) (take i groups)) old total factor →
+      old ≡ 0 → groups ≡ all → length groups ≤ i → total ≡ value o (batched_weight o c p (flat_map statements_of all)) zs
+  value-groups groups all i old total factor so_far none same past =
+      claim-alone o ring c p (flat_map (λ g. map (valued o zs) (statements_of g)) (take i groups)) old total none so_far.summed
+      ∙ ap (λ l. batched_claim o c p (flat_map (λ g. map (valued o zs) (statements_of g)) l)) (take_all i groups past ∙ same)
+      ∙ ap (batched_claim o c p) (flat-valued all) ∙ sym (value-batched o ring c p (flat_map statements_of all) zs)

@@ -1,0 +1,13 @@
+use Rattle.std.proofs.Common.{map, take}
+use Rattle.std.specs.List.{flat_map}
+use Rattle.sc_statements.specs.Groups.{group_statements}
+use Rattle.sc_statements.proofs.BatchSteps.{IsSummed}
+use Rattle.sc_statements.proofs.BatchValues.{valued}
+use Rattle.sc_statements.proofs.constraint.Constraint.eval_at.Given as goal
+
+abbrev pub invariant-loop-group : goal.invariant-loop-group
+invariant-loop-group g l =
+    let f = g.EF.Field in
+    IsSummed f.ops (f.number l.self.challenge) l.self.initial_power
+    (flat_map (λ x. map (valued f.ops (map f.number l.row)) (group_statements f.number x)) (take l.group-index l.group-items))
+    0 (f.number l.sum) (f.number l.coefficient)
