@@ -6,6 +6,7 @@ ghost use Rattle.sc_definitions.specs.Seeds.{quadratic_separator};
 
 use crate::challenger::Challenger;
 use crate::extension::{observe_ext, sample_ext};
+use crate::grinding::{GrindError, grind};
 use crate::interaction::InteractionPattern;
 use crate::scripted::ScriptedChallenger;
 use crate::separator::DomainSeparator;
@@ -273,5 +274,39 @@ fn sets_labels(rt: HostRuntime) -> Result<(), Fail> {
         digits(rt.alloc(), &words)? == NO_STEPS.concat(rt.alloc())?,
         true
     );
+    Ok(())
+}
+
+// Searches for a witness, with any challenger.
+fn found_by<F: Field, C: Challenger<F>>(challenger: &mut C) -> Result<F, GrindError>
+    requires { 1 ≤ (C.rules challenger.old).max_bits }
+{
+    grind(challenger, 1)
+}
+
+#[test]
+fn the_first_witness_is_found_until_none_passes(rt: HostRuntime) -> Result<(), Fail> {
+    let lists = vec![in rt.alloc();
+        vec![in rt.alloc(); of(9), of(5)]?,
+        vec![in rt.alloc(); of(6)]?,
+    ]?;
+    let mut challenger: ScriptedChallenger<F65537> = ScriptedChallenger::new(
+        rt.alloc(),
+        Vec::new(rt.alloc()),
+        lists,
+    );
+    assert_eq!(rt; found_by(&mut challenger)?.index(), 5);
+    assert_eq!(rt; found_by(&mut challenger)?.index(), 6);
+    assert_eq!(rt;
+        found_by(&mut challenger) == Err(GrindError::NoWitness),
+        true
+    );
+    let wanted = [
+        Event::Word(5),
+        Event::Test(1),
+        Event::Word(6),
+        Event::Test(1),
+    ];
+    assert_eq!(rt; challenger.events() == wanted.as_slice(), true);
     Ok(())
 }
