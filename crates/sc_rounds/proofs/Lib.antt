@@ -4,3 +4,4 @@ pub mod WitnessReads
 pub mod PairRounds
 pub mod BatchLaws
 pub mod TakenLaws
+pub mod ConstraintPoints

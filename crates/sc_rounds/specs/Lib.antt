@@ -4,3 +4,4 @@ pub mod Products
 pub mod Batches
 pub mod Provers
 pub mod Invalid
+pub mod ConstraintValues

@@ -7,12 +7,14 @@
 
 mod data;
 mod error;
+mod eval_constraints;
 mod product_polynomial;
 mod strategy;
 mod transcript;
 
 pub use data::SumcheckData;
 pub use error::SumcheckError;
+pub use eval_constraints::EvalConstraints;
 pub use product_polynomial::ProductPolynomial;
 pub use strategy::SumcheckProver;
 pub use transcript::{ProverTranscript, SumcheckShape, VerifierTranscript};
