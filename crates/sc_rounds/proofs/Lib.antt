@@ -5,3 +5,4 @@ pub mod PairRounds
 pub mod BatchLaws
 pub mod TakenLaws
 pub mod ConstraintPoints
+pub mod InStep

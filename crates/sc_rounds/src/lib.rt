@@ -8,6 +8,7 @@
 mod data;
 mod error;
 mod eval_constraints;
+mod laws;
 mod product_polynomial;
 mod strategy;
 mod transcript;
@@ -15,6 +16,7 @@ mod transcript;
 pub use data::SumcheckData;
 pub use error::SumcheckError;
 pub use eval_constraints::EvalConstraints;
+pub use laws::batch_in_step;
 pub use product_polynomial::ProductPolynomial;
 pub use strategy::SumcheckProver;
 pub use transcript::{ProverTranscript, SumcheckShape, VerifierTranscript};
