@@ -11,6 +11,8 @@ mod eval_constraints;
 mod laws;
 mod product_polynomial;
 mod strategy;
+#[cfg(test)]
+mod tests;
 mod transcript;
 
 pub use data::SumcheckData;
