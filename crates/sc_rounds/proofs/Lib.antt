@@ -6,3 +6,4 @@ pub mod BatchLaws
 pub mod TakenLaws
 pub mod ConstraintPoints
 pub mod InStep
+pub mod AddedEntries

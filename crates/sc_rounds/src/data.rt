@@ -1,5 +1,5 @@
 //! The data of a proof, and the verifier's replay of it.
-ghost use Rattle.std.specs.Prelude.{◌≡◌, ◌≢◌, ◌⊎◌, ◌↔◌, ℕ, ◌+◌, ◌<◌, ◌≤◌, [], ◌∷◌, ◌++◌, Err, IfOk, OnOk, OnErr, IsOk, IsErrOf, IsSome, length, map, vec_len, vec_capacity, slice_index_or, None};
+ghost use Rattle.std.specs.Prelude.{◌≡◌, ◌≢◌, ◌⊎◌, ◌↔◌, ℕ, ◌+◌, ◌<◌, ◌≤◌, [], ◌∷◌, ◌++◌, Err, IfOk, OnOk, OnErr, IsOk, IsErrOf, IsSome, IsNone, IfSome, length, map, vec_len, vec_capacity, slice_index_or, None};
 ghost use Rattle.std.specs.Option.{option_map_or};
 ghost use Rattle.sc_definitions.specs.Events.{words, NonePasses};
 ghost use Rattle.sc_definitions.specs.Rounds.{next_claim};
@@ -7,6 +7,7 @@ ghost use Rattle.sc_definitions.specs.Transcript.{sent};
 ghost use Rattle.sc_definitions.specs.Replays.{Replays, ReplaysSome, IsInvalidAt};
 ghost use Rattle.sc_table.specs.Strategy.{basis_of};
 ghost use Rattle.sc_rounds.specs.Shapes.{seed_of, events_of};
+ghost use Rattle.sc_rounds.specs.Data.{rounds_in};
 
 use crate::error::SumcheckError;
 use crate::transcript::{ProverTranscript, SumcheckShape, VerifierTranscript};
@@ -26,7 +27,7 @@ pub struct SumcheckData<F, EF> {
 
 impl<F: Field, EF: ExtensionField<F>> SumcheckData<F, EF> {
     ghost use Rattle.sc_rounds.specs.Invalid.{IsInvalid};
-    ghost use Rattle.sc_rounds.specs.Data.{messages_in, witnesses_in, rounds_in, spare_in, witness_count, IsAppended};
+    ghost use Rattle.sc_rounds.specs.Data.{messages_in, witnesses_in, spare_in, witness_count, IsAppended};
 
     /// Data without rounds.
     pub fn new(alloc: Global) -> Self
@@ -202,6 +203,40 @@ impl<F: Field, EF: ExtensionField<F>> SumcheckData<F, EF> {
             return Err(SumcheckError::PowWitnessCountMismatch { expected, actual });
         }
         Ok(())
+    }
+}
+
+/// Replays the last rounds of a protocol, which may have none, and then may carry no data: for no rounds it answers an empty point, and reads neither the
+/// data nor the challenger. `MissingSumcheckData` comes exactly where there are rounds and no data came, and leaves everything as it was; else it is
+/// [`SumcheckData::verify_rounds`].
+pub fn verify_final_sumcheck_rounds<F: Field, EF: ExtensionField<F>, C: Challenger<F>>(
+    alloc: Global,
+    final_sumcheck: Option<&SumcheckData<F, EF>>,
+    challenger: &mut C,
+    claimed_sum: &mut EF,
+    rounds: usize,
+    pow_bits: usize,
+    basis: Basis,
+) -> Result<Point<EF>, SumcheckError>
+    requires { 0 < rounds → pow_bits ≤ (C.rules challenger.old).max_bits }
+    ensures rules { C.rules challenger.new ≡ C.rules challenger.old }
+    ensures none { rounds ≡ 0 → IfOk result (λ point. point ≡ []) × (C.history challenger.new ≡ C.history challenger.old) × (claimed_sum.new ≡ claimed_sum.old) × IsOk result }
+    ensures missing { result ≡ Err (SumcheckError.MissingSumcheckData rounds) ↔ ((0 < rounds) × IsNone final_sumcheck.entry) }
+    ensures untouched { IsNone final_sumcheck.entry → (C.history challenger.new ≡ C.history challenger.old) × (claimed_sum.new ≡ claimed_sum.old) }
+    ensures replayed { IfSome final_sumcheck.entry (λ data_in. 0 < rounds → IfOk result (λ point. Replays (next_claim (basis_of basis) EF.ops) (C.rules challenger.old) EF.extension pow_bits
+        (C.history challenger.old ++ words (seed_of EF.DEGREE (record { num_rounds = rounds; pow_bits = pow_bits; basis = basis }))) (EF.number claimed_sum.old)
+        (rounds_in F.number EF.number data_in.now) (C.history challenger.new) (map EF.number point) (EF.number claimed_sum.new))) }
+    ensures counted { IfSome final_sumcheck.entry (λ data_in. 0 < rounds → (result ≡ Err (SumcheckError.RoundCountMismatch rounds (vec_len data_in.now.polynomial_evaluations))
+        ↔ (vec_len data_in.now.polynomial_evaluations ≢ rounds))) }
+{
+    if rounds == 0 {
+        return Ok(Point::new(Vec::new(alloc)));
+    }
+    match final_sumcheck {
+        None => Err(SumcheckError::MissingSumcheckData {
+            expected_rounds: rounds,
+        }),
+        Some(found) => found.verify_rounds(alloc, challenger, claimed_sum, rounds, pow_bits, basis),
     }
 }
 

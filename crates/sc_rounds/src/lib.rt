@@ -15,7 +15,7 @@ mod strategy;
 mod tests;
 mod transcript;
 
-pub use data::SumcheckData;
+pub use data::{SumcheckData, verify_final_sumcheck_rounds};
 pub use error::SumcheckError;
 pub use eval_constraints::EvalConstraints;
 pub use laws::batch_in_step;

@@ -1,7 +1,7 @@
 //! A table and its weights, on which rounds are played.
 ghost use Rattle.std.specs.Prelude.{◌≡◌, ◌⊎◌, ℕ, Err, suc, ◌+◌, ◌<◌, ◌≤◌, ◌^◌, [], ◌∷◌, IfOk, OnOk, OnErr, length, map, vec_capacity};
-ghost use Rattle.sc_definitions.specs.Ring.{times};
-ghost use Rattle.sc_definitions.specs.Tables.{entries, value, sum_below};
+ghost use Rattle.sc_definitions.specs.Ring.{plus, times};
+ghost use Rattle.sc_definitions.specs.Tables.{entries, value, sum_below, inner};
 ghost use Rattle.sc_table.specs.Polys.{variables_of, table_of};
 ghost use Rattle.sc_table.specs.Strategy.{order_of};
 ghost use Rattle.sc_statements.specs.Constraints.{constraint_arity, constraint_challenge, constraint_power, constraint_statements};
@@ -128,6 +128,26 @@ impl<F: Field, EF: ExtensionField<F>> ProductPolynomial<F, EF> {
         Ok(())
     }
 
+    // Adds as many values as there are rows to the weights, row by row. The evaluations stay.
+    pub(crate) fn add_weights(&mut self, delta: &[EF])
+        requires { length delta.now ≡ 2 ^ variables_in self.old }
+        ensures variables { variables_in self.new ≡ variables_in self.old }
+        ensures order { order_in self.new ≡ order_in self.old }
+        ensures evals { evals_in EF.number self.new ≡ evals_in EF.number self.old }
+        ensures weights { (b : ℕ) → b < 2 ^ variables_in self.old
+            → weights_in EF.number self.new b ≡ plus EF.ops (weights_in EF.number self.old b) (entries EF.number delta.now b) }
+    {
+        add_entries(self.weights.as_mut_slice(), delta);
+    }
+
+    // The sum over all rows of evaluation times another weight.
+    pub(crate) fn dot_with(&self, weights: &[EF]) -> EF
+        requires { length weights.now ≡ 2 ^ variables_in self.now }
+        ensures { EF.number result ≡ inner EF.ops (variables_in self.now) (evals_in EF.number self.now) (entries EF.number weights.now) }
+    {
+        dot(self.evals.as_slice(), weights)
+    }
+
     /// Plays a round: appends the message of the two tables to the data, binds both at its challenge, and moves the sum to the sent polynomial's value there,
     /// which is the sum of the bound tables. A variable is left, the transcript has a round left, and `sum` is [`ProductPolynomial::dot_product`].
     ///
@@ -241,4 +261,15 @@ fn dot<EF: Field>(left: &[EF], right: &[EF]) -> EF
         sum = sum.add(left[i].mul(right[i]));
     }
     sum
+}
+
+// Adds the values to the totals, entry by entry.
+fn add_entries<EF: Field>(totals: &mut [EF], values: &[EF])
+    requires { length totals.old ≡ length values.now }
+    ensures { (b : ℕ) → b < length values.now
+        → entries EF.number totals.new b ≡ plus EF.ops (entries EF.number totals.old b) (entries EF.number values.now b) }
+{
+    for i in 0..totals.len() {
+        totals[i] = totals[i].add(values[i]);
+    }
 }

@@ -133,6 +133,41 @@ impl<F: Field, EF: ExtensionField<F>> SumcheckProver<F, EF> {
         Ok(SumcheckProver::sum_is_true(&combined, sum))
     }
 
+    /// The bound evaluations, row 0 first.
+    pub fn evals_view(&mut self) -> &[EF]
+        ensures numbers { entries EF.number result.now ≡ evals_in EF.number self.old.poly }
+        ensures size { length result.now ≡ 2 ^ variables_in self.old.poly }
+    {
+        self.poly.evals_view()
+    }
+
+    /// Whether the sum over all rows of evaluation times these values, as many as there are rows, is this one. It takes no memory.
+    pub fn delta_is_true(&mut self, weights_delta: &[EF], sum_delta: EF) -> bool
+        requires { length weights_delta.now ≡ 2 ^ variables_in self.old.poly }
+        ensures kept { self.new ≡ self.old }
+        ensures told { IsTrue result
+            ↔ (EF.number sum_delta ≡ inner EF.ops (variables_in self.old.poly) (evals_in EF.number self.old.poly) (entries EF.number weights_delta.now)) }
+    {
+        self.poly.dot_with(weights_delta).index() == sum_delta.index()
+    }
+
+    /// Adds to the weights, row by row, as many values as there are rows, and to the claim their sum times the evaluations, as
+    /// [`SumcheckProver::delta_is_true`] tests. The evaluations stay.
+    pub fn accumulate_claim(&mut self, weights_delta: &[EF], sum_delta: EF)
+        requires rows { length weights_delta.now ≡ 2 ^ variables_in self.old.poly }
+        requires sum { EF.number sum_delta ≡ inner EF.ops (variables_in self.old.poly) (evals_in EF.number self.old.poly) (entries EF.number weights_delta.now) }
+        ensures variables { variables_in self.new.poly ≡ variables_in self.old.poly }
+        ensures order { order_in self.new.poly ≡ order_in self.old.poly }
+        ensures evals { evals_in EF.number self.new.poly ≡ evals_in EF.number self.old.poly }
+        ensures weights { (b : ℕ) → b < 2 ^ variables_in self.old.poly
+            → weights_in EF.number self.new.poly b ≡ plus EF.ops (weights_in EF.number self.old.poly b) (entries EF.number weights_delta.now b) }
+        ensures claim { EF.number self.new.sum ≡ plus EF.ops (EF.number self.old.sum) (EF.number sum_delta) }
+    {
+        let SumcheckProver { poly, sum } = self;
+        poly.add_weights(weights_delta);
+        *sum = sum.add(sum_delta);
+    }
+
     /// Plays a batch of rounds, one for each of the next `folding_factor` variables, at a difficulty of at most the challenger's
     /// [`Challenger::max_bits`], and answers their challenges in drawing order. A constraint, which is true as
     /// [`SumcheckProver::constraint_is_true`] tests, is taken in before the first round.
