@@ -1,6 +1,6 @@
 use Rattle.std.proofs.Common.{◌≡◌, ℕ, suc, ◌+◌, [], ◌∷◌, ◌++◌, length, map, sym, ◌∙◌, ap, refl, arith}
 use Rattle.std.proofs.lemmas.List.{length-append, length-map, map_push}
-use Rattle.sc_definitions.specs.Ring.{Ops, IsRing, plus, times, power}
+use Rattle.sc_definitions.specs.Ring.{Ops, plus, times, power}
 use Rattle.sc_definitions.specs.Statements.{powers_sum}
 use Rattle.sc_definitions.proofs.RingLaws.{times_comm}
 use Rattle.sc_definitions.proofs.Power.{power-zero}
