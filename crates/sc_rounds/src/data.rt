@@ -7,7 +7,8 @@ ghost use Rattle.sc_definitions.specs.Transcript.{sent};
 ghost use Rattle.sc_definitions.specs.Replays.{Replays, ReplaysSome, IsInvalidAt};
 ghost use Rattle.sc_table.specs.Strategy.{basis_of};
 ghost use Rattle.sc_rounds.specs.Shapes.{seed_of, events_of};
-ghost use Rattle.sc_rounds.specs.Data.{rounds_in};
+ghost use Rattle.sc_rounds.specs.Data.{rounds_in, witness_count};
+ghost use Rattle.sc_rounds.specs.Invalid.{IsInvalid};
 
 use crate::error::SumcheckError;
 use crate::transcript::{ProverTranscript, SumcheckShape, VerifierTranscript};
@@ -26,8 +27,7 @@ pub struct SumcheckData<F, EF> {
 }
 
 impl<F: Field, EF: ExtensionField<F>> SumcheckData<F, EF> {
-    ghost use Rattle.sc_rounds.specs.Invalid.{IsInvalid};
-    ghost use Rattle.sc_rounds.specs.Data.{messages_in, witnesses_in, spare_in, witness_count, IsAppended};
+    ghost use Rattle.sc_rounds.specs.Data.{messages_in, witnesses_in, spare_in, IsAppended};
 
     /// Data without rounds.
     pub fn new(alloc: Global) -> Self
@@ -228,6 +228,24 @@ pub fn verify_final_sumcheck_rounds<F: Field, EF: ExtensionField<F>, C: Challeng
         (rounds_in F.number EF.number data_in.now) (C.history challenger.new) (map EF.number point) (EF.number claimed_sum.new))) }
     ensures counted { IfSome final_sumcheck.entry (λ data_in. 0 < rounds → (result ≡ Err (SumcheckError.RoundCountMismatch rounds (vec_len data_in.now.polynomial_evaluations))
         ↔ (vec_len data_in.now.polynomial_evaluations ≢ rounds))) }
+    ensures witnesses { IfSome final_sumcheck.entry (λ data_in. 0 < rounds
+        → (result ≡ Err (SumcheckError.PowWitnessCountMismatch (witness_count pow_bits rounds) (vec_len data_in.now.pow_witnesses))
+        ↔ ((vec_len data_in.now.polynomial_evaluations ≡ rounds) × (vec_len data_in.now.pow_witnesses ≢ witness_count pow_bits rounds)))) }
+    ensures uncounted { IfSome final_sumcheck.entry (λ data_in. 0 < rounds
+        → ((vec_len data_in.now.polynomial_evaluations ≢ rounds) ⊎ (vec_len data_in.now.pow_witnesses ≢ witness_count pow_bits rounds))
+        → (C.history challenger.new ≡ C.history challenger.old) × (claimed_sum.new ≡ claimed_sum.old)) }
+    ensures invalid { IfSome final_sumcheck.entry (λ data_in. 0 < rounds → (i bits : ℕ) → result ≡ Err (SumcheckError.InvalidPowWitness i bits) → (bits ≡ pow_bits)
+        × IsInvalidAt (next_claim (basis_of basis) EF.ops) (C.rules challenger.old) EF.extension pow_bits
+        (C.history challenger.old ++ words (seed_of EF.DEGREE (record { num_rounds = rounds; pow_bits = pow_bits; basis = basis }))) (EF.number claimed_sum.old)
+        (rounds_in F.number EF.number data_in.now) i (C.history challenger.new) (EF.number claimed_sum.new)) }
+    ensures no_memory { IfSome final_sumcheck.entry (λ data_in. 0 < rounds → result ≡ Err SumcheckError.NoMemory
+        → ((C.history challenger.new ≡ C.history challenger.old) × (claimed_sum.new ≡ claimed_sum.old))
+        ⊎ ReplaysSome (next_claim (basis_of basis) EF.ops) (C.rules challenger.old) EF.extension pow_bits
+        (C.history challenger.old ++ words (seed_of EF.DEGREE (record { num_rounds = rounds; pow_bits = pow_bits; basis = basis }))) (EF.number claimed_sum.old)
+        (rounds_in F.number EF.number data_in.now) (C.history challenger.new) (EF.number claimed_sum.new)) }
+    ensures causes { IfSome final_sumcheck.entry (λ data_in. 0 < rounds
+        → OnErr result ((vec_len data_in.now.polynomial_evaluations ≢ rounds) ⊎ (vec_len data_in.now.pow_witnesses ≢ witness_count pow_bits rounds)
+        ⊎ (result ≡ Err SumcheckError.NoMemory) ⊎ IsInvalid result)) }
 {
     if rounds == 0 {
         return Ok(Point::new(Vec::new(alloc)));

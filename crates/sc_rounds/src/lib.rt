@@ -13,6 +13,10 @@ mod product_polynomial;
 mod strategy;
 #[cfg(test)]
 mod tests;
+#[cfg(test)]
+mod tests_constraint;
+#[cfg(test)]
+mod tests_step;
 mod transcript;
 
 pub use data::{SumcheckData, verify_final_sumcheck_rounds};

@@ -20,19 +20,19 @@ const TWO_ROUNDS: usize = 402;
 const TWO_TESTED_ROUNDS: usize = 542;
 
 // The element of this number.
-fn of(number: u64) -> F65537 {
+pub(crate) fn of(number: u64) -> F65537 {
     F65537::element(number % 65537)
 }
 
 // The elements of these numbers.
-fn elements(alloc: Global, numbers: &[u64]) -> Result<Vec<F65537>, NoMemory>
+pub(crate) fn elements(alloc: Global, numbers: &[u64]) -> Result<Vec<F65537>, NoMemory>
     ensures { IfOk result (λ v. length v.items ≡ length numbers.now) }
 {
     let elements = numbers.iter().map(|number| of(*number)).collect(alloc)?;
     Ok(elements)
 }
 
-fn have_numbers(elements: &[F65537], numbers: &[u64]) -> bool {
+pub(crate) fn have_numbers(elements: &[F65537], numbers: &[u64]) -> bool {
     elements.len() == numbers.len()
         && elements
             .iter()
@@ -352,7 +352,7 @@ const REPLAYS: [Replay; 8] = [
 ];
 
 // Data of these rounds and witnesses.
-fn data_of(
+pub(crate) fn data_of(
     alloc: Global,
     rounds: &[(u64, u64)],
     witnesses: &[u64],
@@ -371,7 +371,7 @@ fn data_of(
 }
 
 // Whether an answer is this one; a point by its coordinates' numbers.
-fn answers(
+pub(crate) fn answers(
     answer: &Result<Point<F65537>, SumcheckError>,
     wanted: Result<&[u64], SumcheckError>,
 ) -> bool {
