@@ -1,6 +1,6 @@
 -- The last challenges as a point, and the sum over constraints.
 use Rattle.std.proofs.Common.{◌≡◌, ℕ, suc, ◌+◌, ◌-◌, ◌<◌, ◌≤◌, List, [], ◌∷◌, ◌++◌, length, reverse, get_or, Result, Ok, Err, IfOk, drop, map, sym, ◌∙◌, ap, refl, arith, add-one}
-use Rattle.std.proofs.lemmas.List.{append-nil, length-map, map-append, length-append, reverse-append, drop_at, drop_all}
+use Rattle.std.proofs.lemmas.List.{length-map, map-append, length-append, reverse-append, drop_at, drop_all}
 use Rattle.std.proofs.Math.Seq.{drop-cons}
 use Rattle.sc_definitions.specs.Ring.{Ops, IsRing, plus, element}
 use Rattle.sc_definitions.proofs.RingLaws.{plus-zero, plus_assoc, plus_comm, element-small, element-plus, element-zero}

@@ -1,5 +1,5 @@
 -- A replay of the rounds that a prover played.
-use Rattle.std.proofs.Common.{◌≡◌, ℕ, zero, suc, ◌+◌, true, false, List, [], ◌∷◌, ◌++◌, length, map, take, refl, ap, sym, ◌∙◌, Some, Result, Ok, Err, OnErr, IsErrAnd, ◌⊎◌, inl, append_assoc, if◌then◌else◌, ne_eqb, arith}
+use Rattle.std.proofs.Common.{◌≡◌, ℕ, zero, suc, ◌+◌, true, false, List, [], ◌∷◌, ◌++◌, length, take, refl, ap, sym, ◌∙◌, Some, Result, Ok, Err, OnErr, IsErrAnd, ◌⊎◌, inl, append_assoc, if◌then◌else◌, ne_eqb, arith}
 use Rattle.std.proofs.lemmas.List.{append-nil, length-map}
 use Rattle.std.specs.List.{slice_get}
 use Rattle.sc_definitions.specs.declared.events.Event.{Event}
@@ -7,8 +7,8 @@ use Rattle.sc_definitions.specs.Ring.{Ops}
 use Rattle.sc_definitions.specs.Tables.{evaluation, Order}
 use Rattle.sc_definitions.specs.Rounds.{next_claim, claim_along}
 use Rattle.sc_definitions.specs.Events.{Rules, Extension}
-use Rattle.sc_definitions.specs.Transcript.{Round, round_of, messages_of, round_events, rounds_events, challenge, challenges, HasFirstWitness, IsBuilt}
-use Rattle.sc_definitions.specs.Replays.{round_passes, AllPass, given_rounds, Replays, IsInvalidAt}
+use Rattle.sc_definitions.specs.Transcript.{Round, round_of, messages_of, round_events, rounds_events, challenge, HasFirstWitness, IsBuilt}
+use Rattle.sc_definitions.specs.Replays.{round_passes, given_rounds, Replays, IsInvalidAt}
 use Rattle.sc_definitions.proofs.BuiltLaws.{length-messages}
 use Rattle.sc_rounds.specs.declared.error.SumcheckError.{SumcheckError}
 use Rattle.sc_rounds.specs.declared.error.SumcheckError.TheVariants.{RoundCountMismatch, MissingSumcheckData, InvalidPowWitness, MissingPowWitness, PowWitnessCountMismatch, WireSizeMismatch, EvenCharacteristic, MaskTooShort, NoRounds, OpeningShapeMismatch, NoWitness, NoMemory}
