@@ -1,5 +1,5 @@
 -- A batch of rounds, one round after the other.
-use Rattle.std.proofs.Common.{◌≡◌, ℕ, zero, suc, ◌+◌, ◌^◌, ◌<◌, List, [], ◌∷◌, ◌++◌, map, refl, ap, sym, ◌∙◌, subst, arith, append_assoc}
+use Rattle.std.proofs.Common.{◌≡◌, ℕ, zero, suc, ◌+◌, ◌^◌, ◌<◌, List, [], ◌∷◌, ◌++◌, refl, ap, sym, ◌∙◌, subst, arith, append_assoc}
 use Rattle.std.proofs.lemmas.List.{append-nil, map-append}
 use Rattle.sc_definitions.specs.declared.events.Event.{Event}
 use Rattle.sc_definitions.specs.Ring.{Ops, IsRing}
@@ -7,7 +7,7 @@ use Rattle.sc_definitions.specs.Tables.{evaluation, Order}
 use Rattle.sc_definitions.specs.Messages.{message_of}
 use Rattle.sc_definitions.specs.Events.{Rules, Extension}
 use Rattle.sc_definitions.specs.Transcript.{Round, round_of, messages_of}
-use Rattle.sc_definitions.specs.Played.{IsRound, IsPlayed}
+use Rattle.sc_definitions.specs.Played.{IsPlayed}
 use Rattle.sc_definitions.proofs.BuiltLaws.{messages-append}
 use Rattle.sc_definitions.proofs.PlayedLaws.{IsPlayed-none, IsPlayed-more}
 use Rattle.sc_rounds.specs.Data.{witnesses_of}

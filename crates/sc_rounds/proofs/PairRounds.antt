@@ -7,7 +7,7 @@ use Rattle.sc_definitions.specs.Tables.{evaluation, Order, sum_below, inner, bou
 use Rattle.sc_definitions.specs.Messages.{message_first, message_leading, message_of}
 use Rattle.sc_definitions.specs.Rounds.{next_claim}
 use Rattle.sc_definitions.specs.Events.{Rules, Extension, NonePasses}
-use Rattle.sc_definitions.specs.Transcript.{Round, round_of, sent}
+use Rattle.sc_definitions.specs.Transcript.{sent}
 use Rattle.sc_definitions.proofs.Sums.{sum-same}
 use Rattle.sc_definitions.proofs.MessageLaws.{inner-bound_in}
 use Rattle.sc_rounds.specs.Data.{IsAppended}

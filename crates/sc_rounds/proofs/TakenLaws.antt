@@ -1,8 +1,8 @@
 -- A constraint that is taken in.
-use Rattle.std.proofs.Common.{◌≡◌, ◌↔◌, ℕ, zero, suc, ◌^◌, ◌<◌, List, [], ◌∷◌, Result, Ok, Err, OnOk, OnErr, refl, ap, sym, ◌∙◌, arith}
-use Rattle.sc_definitions.specs.Ring.{Ops, IsRing, element, plus, times}
-use Rattle.sc_definitions.specs.Tables.{sum_below, inner}
-use Rattle.sc_definitions.specs.Statements.{Statement, powers_sum, batched_weight, batched_claim}
+use Rattle.std.proofs.Common.{◌≡◌, ℕ, ◌^◌, ◌<◌, List, Result, Ok, Err, OnOk, OnErr, ap, sym, ◌∙◌}
+use Rattle.sc_definitions.specs.Ring.{Ops, IsRing, plus, times}
+use Rattle.sc_definitions.specs.Tables.{inner}
+use Rattle.sc_definitions.specs.Statements.{Statement, batched_weight, batched_claim}
 use Rattle.sc_definitions.proofs.RingLaws.{plus_comm, plus_cancel, times-plus}
 use Rattle.sc_definitions.proofs.Sums.{sum-same, sum-plus, element-sum}
 use Rattle.sc_definitions.proofs.StatementLaws.{element-powers_sum}

@@ -1,11 +1,11 @@
-use Rattle.std.proofs.Common.{◌≡◌, ℕ, ◌<◌, ◌∙◌, ◌++◌, List, ◌∷◌, [], length, ap, sym, arith, rules, get_or, map, inl, inr, Err, Some}
+use Rattle.std.proofs.Common.{◌≡◌, ℕ, ◌<◌, ◌∙◌, ◌++◌, [], length, ap, sym, arith, rules, get_or, map, inl, inr, Err, Some}
 use Rattle.std.proofs.lemmas.List.{map-append, length-map}
 use Rattle.std.proofs.lemmas.Option.{slice_get-get_or}
 use Rattle.std.specs.Option.{option_map_or}
 use Rattle.sc_definitions.specs.Transcript.{Round}
 use Rattle.sc_definitions.proofs.ReplayLaws.{Replays-none, Replays-more, Replays-at, take_whole, Invalid-from, ReplaysSome-from, length-given_rounds, get_or-given_rounds}
 use Rattle.sc_rounds.specs.declared.error.SumcheckError.TheVariants.{NoMemory, InvalidPowWitness}
-use Rattle.sc_rounds.specs.Data.{pair_of, messages_in, witnesses_in}
+use Rattle.sc_rounds.specs.Data.{pair_of, messages_in}
 use Rattle.sc_definitions.specs.Events.{words}
 use Rattle.sc_rounds.specs.Shapes.{seed_of, pair_round}
 use Rattle.sc_rounds.proofs.WitnessReads.{message_at}

@@ -1,4 +1,4 @@
-use Rattle.std.proofs.Common.{◌≡◌, ℕ, suc, length, map, ap, sym, refl, Err, ◌∙◌, arith, rules}
+use Rattle.std.proofs.Common.{◌≡◌, suc, length, map, ap, sym, refl, Err, ◌∙◌, arith, rules}
 use Rattle.std.proofs.lemmas.List.{map-append}
 use Rattle.sc_rounds.specs.declared.error.SumcheckError.TheVariants.{NoMemory, NoWitness}
 use Rattle.sc_rounds.specs.Products.{variables_in, evals_in, weights_in}

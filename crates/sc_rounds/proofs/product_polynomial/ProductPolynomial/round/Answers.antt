@@ -1,9 +1,7 @@
-use Rattle.std.proofs.Common.{◌≡◌, ℕ, ◌^◌, ◌<◌, subst, refl, arith, [], ◌∷◌, ◌+◌, Err}
+use Rattle.std.proofs.Common.{◌≡◌, ℕ, ◌^◌, ◌<◌, subst, refl, arith, ◌+◌}
 use Rattle.sc_definitions.specs.Tables.{evaluation, bound_in}
-use Rattle.sc_definitions.specs.Messages.{message_of}
 use Rattle.sc_table.specs.Polys.{variables_of, table_of}
 use Rattle.sc_table.specs.Strategy.{order_of}
-use Rattle.sc_rounds.specs.declared.error.SumcheckError.TheVariants.{NoWitness}
 use Rattle.sc_rounds.proofs.PairRounds.{even_power, message_halves, plays, sum_after, ends}
 use Rattle.sc_rounds.proofs.product_polynomial.ProductPolynomial.round.Goals as goal
 

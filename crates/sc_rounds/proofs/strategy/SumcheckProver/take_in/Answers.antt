@@ -1,4 +1,4 @@
-use Rattle.std.proofs.Common.{◌≡◌, ap, ◌∙◌, sym}
+use Rattle.std.proofs.Common.{ap, ◌∙◌, sym}
 use Rattle.sc_definitions.specs.Tables.{inner}
 use Rattle.sc_rounds.specs.Products.{variables_in, evals_in, weights_in, sum_in}
 use Rattle.sc_rounds.proofs.TakenLaws.{ok_or_err, sum_taken}

@@ -1,4 +1,4 @@
-use Rattle.std.proofs.Common.{◌≡◌, ℕ, ◌++◌, ◌∙◌, ap}
+use Rattle.std.proofs.Common.{◌≡◌, ℕ, ◌++◌, ap}
 use Rattle.std.specs.Option.{option_map_or}
 use Rattle.sc_definitions.specs.Transcript.{before_draw}
 use Rattle.sc_rounds.specs.Shapes.{pair_round}

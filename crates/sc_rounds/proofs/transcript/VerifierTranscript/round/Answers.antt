@@ -1,7 +1,6 @@
-use Rattle.std.proofs.Common.{◌≡◌, ℕ, ◌<◌, ◌++◌, ◌∙◌, ap, refl}
+use Rattle.std.proofs.Common.{◌≡◌, ℕ, ◌++◌, ◌∙◌, refl}
 use Rattle.std.specs.Option.{option_map_or}
-use Rattle.sc_definitions.specs.Transcript.{before_draw, ground}
-use Rattle.sc_definitions.specs.Replays.{round_passes}
+use Rattle.sc_definitions.specs.Transcript.{before_draw}
 use Rattle.sc_rounds.specs.Shapes.{pair_round}
 use Rattle.sc_rounds.proofs.RoundWords.{round_before, round_grown, round_drawn, passes_tested, passes_either}
 use Rattle.sc_rounds.proofs.transcript.VerifierTranscript.round.Goals as goal
