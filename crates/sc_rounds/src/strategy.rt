@@ -172,8 +172,8 @@ impl<F: Field, EF: ExtensionField<F>> SumcheckProver<F, EF> {
     /// [`Challenger::max_bits`], and answers their challenges in drawing order. A constraint, which is true as
     /// [`SumcheckProver::constraint_is_true`] tests, is taken in before the first round.
     ///
-    /// `NoWitness` comes only where no element of the base field passes the test of that round: the rounds before it are played, and the data has as
-    /// many more. After `NoMemory` some rounds are played, and the constraint is taken in or not; without a round nothing is appended.
+    /// `NoWitness` names one of these rounds, and comes only where no element of the base field passes its test: the rounds before it are played, and the
+    /// data has as many more. After `NoMemory` some rounds are played, and the constraint is taken in or not; without a round nothing is appended.
     pub fn compute_sumcheck_polynomials<C: Challenger<F>>(
         &mut self,
         alloc: Global,
@@ -194,8 +194,9 @@ impl<F: Field, EF: ExtensionField<F>> SumcheckProver<F, EF> {
             (C.history challenger.old ++ words (quadratic_seed EF.DEGREE evaluation pow_bits folding_factor)) (map EF.number point) (variables_in self.new.poly)
             (evals_in EF.number self.new.poly) (weights_in EF.number self.new.poly) (EF.number self.new.sum) (C.history challenger.new)
             (messages_in EF.number sumcheck_data.old) (witnesses_in F.number sumcheck_data.old) (messages_in EF.number sumcheck_data.new) (witnesses_in F.number sumcheck_data.new)) }
-        ensures no_witness { (i m : ℕ) → result ≡ Err (SumcheckError.NoWitness i) → variables_in self.new.poly ≡ suc m → (variables_in self.new.poly + i ≡ variables_in self.old.poly)
-            × FailsBatch (order_in self.old.poly) EF.ops (C.rules challenger.old) EF.extension pow_bits (variables_in self.old.poly)
+        ensures stopped { (i : ℕ) → result ≡ Err (SumcheckError.NoWitness i) → (i < folding_factor) × (variables_in self.new.poly + i ≡ variables_in self.old.poly) }
+        ensures no_witness { (i m : ℕ) → result ≡ Err (SumcheckError.NoWitness i) → variables_in self.new.poly ≡ suc m
+            → FailsBatch (order_in self.old.poly) EF.ops (C.rules challenger.old) EF.extension pow_bits (variables_in self.old.poly)
             (evals_in EF.number self.old.poly) (weights_with EF.ops EF.number constraint (weights_in EF.number self.old.poly)) (claim_with EF.ops EF.number constraint (EF.number self.old.sum))
             (C.history challenger.old ++ words (quadratic_seed EF.DEGREE evaluation pow_bits folding_factor)) F.ops.size m
             (evals_in EF.number self.new.poly) (weights_in EF.number self.new.poly) (EF.number self.new.sum) (C.history challenger.new)
