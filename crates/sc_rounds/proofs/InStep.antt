@@ -8,7 +8,7 @@ use Rattle.sc_definitions.specs.Tables.{evaluation, Order}
 use Rattle.sc_definitions.specs.Rounds.{next_claim, claim_along}
 use Rattle.sc_definitions.specs.Events.{Rules, Extension}
 use Rattle.sc_definitions.specs.Transcript.{Round, round_of, messages_of, round_events, rounds_events, challenge, HasFirstWitness, IsBuilt}
-use Rattle.sc_definitions.specs.Replays.{round_passes, given_rounds, Replays, IsInvalidAt}
+use Rattle.sc_definitions.specs.Replays.{round_passes, AllPass, given_rounds, Replays, IsInvalidAt}
 use Rattle.sc_definitions.proofs.BuiltLaws.{length-messages}
 use Rattle.sc_rounds.specs.declared.error.SumcheckError.{SumcheckError}
 use Rattle.sc_rounds.specs.declared.error.SumcheckError.TheVariants.{RoundCountMismatch, MissingSumcheckData, InvalidPowWitness, MissingPowWitness, PowWitnessCountMismatch, WireSizeMismatch, EvenCharacteristic, MaskTooShort, NoRounds, OpeningShapeMismatch, NoWitness, NoMemory}
@@ -80,6 +80,14 @@ passes_at honest R E bits h rs (suc n) (q ∷ rounds) (suc i) r b is =
     ap (λ t. round_passes R E bits t r) (sym (append_assoc h (round_events E bits q) (rounds_events E bits (take i rounds))))
     ∙ passes_at honest R E bits (h ++ round_events E bits q) (rs ++ challenge R E bits h q ∷ []) n rounds i r b.2 is
 
+-- so each of them passes
+pub all_pass : (honest : List ℕ → ℕ → List ℕ) (R : Rules) (E : Extension) (bits : ℕ) (h : List Event) (rs : List ℕ) (n : ℕ) (rounds : List Round) →
+    IsBuilt honest R E bits h rs n rounds → AllPass R E bits h rounds
+all_pass honest R E bits h rs n [] b = tt
+all_pass honest R E bits h rs zero (q ∷ rounds) b = absurd b
+all_pass honest R E bits h rs (suc n) (q ∷ rounds) b =
+    (passes_first R E bits h q b.1, all_pass honest R E bits (h ++ round_events E bits q) (rs ++ challenge R E bits h q ∷ []) n rounds b.2)
+
 -- a result that is the want of memory
 pub out_of_memory : {T : Type 0} (r : Result T SumcheckError) → IsErrAnd r (λ e. e ≡ NoMemory) → OnErr r ((r ≡ Err NoMemory) ⊎ FindsNone r)
 out_of_memory (Ok x) is = tt
@@ -111,6 +119,18 @@ module _ (order : Order) (o : Ops) (R R₁ : Rules) (E : Extension) (bits n : �
 
   pub found_count : (k : ℕ) → left + k ≡ n → length ws' ≡ witness_count bits k
   found_count k whole = ap length witnesses_are ∙ count_witnesses bits played.rounds ∙ ap (witness_count bits) (count_rounds k whole)
+
+  -- its rounds are a replay
+  played_replays : Replays (next_claim evaluation o) R E bits h claim played.rounds h' rs claim'
+  played_replays = record {
+    history = played.played.history;
+    drawn = played.played.drawn;
+    claim = played.played.along ∙ ap (claim_along (next_claim evaluation o) claim (messages_of played.rounds)) played.played.drawn;
+    passes = all_pass _ R E bits h [] n played.rounds played.played.built;
+  }
+
+  pub has_replay : Replays (next_claim evaluation o) R₁ E bits h₁ claim₁ (given_rounds ms' ws') h' rs claim'
+  has_replay = rw (same_rules, same_history, same_claim, rounds_given) played_replays
 
   module _ (hv : List Event) (out : List ℕ) (c : ℕ) (replays : Replays (next_claim evaluation o) R₁ E bits h₁ claim₁ (given_rounds ms' ws') hv out c) where
     moved : Replays (next_claim evaluation o) R E bits h claim played.rounds hv out c

@@ -5,3 +5,4 @@ pub mod Batches
 pub mod Provers
 pub mod Invalid
 pub mod ConstraintValues
+pub mod Laws

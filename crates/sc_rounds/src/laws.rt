@@ -1,23 +1,40 @@
 //! Laws of batches, as contracts: a caller calls the function and has them.
-ghost use Rattle.std.specs.Prelude.{◌≡◌, ◌⊎◌, ◌+◌, ◌≤◌, [], Err, IfOk, OnOk, OnErr, map};
+ghost use Rattle.std.specs.Prelude.{◌≡◌, ◌⊎◌, ◌+◌, ◌≤◌, [], ◌++◌, Err, IfOk, OnOk, OnErr, map};
+ghost use Rattle.sc_definitions.specs.Events.{words};
+ghost use Rattle.sc_definitions.specs.Seeds.{quadratic_seed};
+ghost use Rattle.sc_definitions.specs.Tables.{evaluation};
 ghost use Rattle.sc_rounds.specs.Data.{messages_in, witnesses_in};
-ghost use Rattle.sc_rounds.specs.Products.{variables_in, order_in};
+ghost use Rattle.sc_rounds.specs.Products.{variables_in, order_in, evals_in, weights_in};
+ghost use Rattle.sc_rounds.specs.Batches.{PlaysBatch, weights_with, claim_with};
+ghost use Rattle.sc_rounds.specs.Provers.{IsTrueIfSome};
 ghost use Rattle.sc_rounds.specs.Invalid.{FindsNone};
+ghost use Rattle.sc_rounds.specs.Laws.{BatchesReplay, ReplaysAgree, NoneIsInvalid};
 
 use crate::data::SumcheckData;
 use crate::error::SumcheckError;
 use crate::strategy::SumcheckProver;
 use sc_challenger::Challenger;
 use sc_field::{ExtensionField, Field};
+use sc_statements::Constraint;
 use sc_table::{Basis, Point};
 use std::alloc::Global;
 
-/// A prover and a verifier stay in step: a batch of rounds is played on one challenger without a constraint, onto data that is empty, and the data is
-/// replayed on another one, from the claim with which the batch began. Both challengers have the same rules and the same history.
+/// Laws of the replay of a batch of rounds that was played onto empty data, in either order, at every difficulty, by whatever rules and extension: from
+/// the history and the claim with which the batch began it has a replay, every replay has its challenges and leaves its history and its claim, and no
+/// witness fails.
+pub fn replay_laws<EF: Field>()
+    ensures replay { BatchesReplay EF.ops }
+    ensures agree { ReplaysAgree EF.ops }
+    ensures none_invalid { NoneIsInvalid EF.ops }
+{}
+
+/// A prover and a verifier stay in step: a batch of rounds is played on one challenger onto data that is empty, with its constraint taken in, and the
+/// data is replayed on another one, from the claim with which the batch began: the prover's, and the constraint's batched claim with it. The
+/// constraint, if there is one, is true as [`SumcheckProver::constraint_is_true`] tests. Both challengers have the same rules and the same history.
 ///
 /// The answers are the prover's challenges, the verifier's, and what the verifier leaves of the claim. The challenges are equal, and so are the
 /// histories after them, and the verifier is left with the prover's claim. The verifier refuses no batch that a prover played: a refusal is the want
-/// of memory, or the prover finds no witness.
+/// of memory, or the prover finds no witness, and then the verifier's challenger is as it was.
 pub fn batch_in_step<F: Field, EF: ExtensionField<F>, C: Challenger<F>>(
     alloc: Global,
     prover: &mut SumcheckProver<F, EF>,
@@ -26,9 +43,11 @@ pub fn batch_in_step<F: Field, EF: ExtensionField<F>, C: Challenger<F>>(
     verifier_challenger: &mut C,
     folding_factor: usize,
     pow_bits: usize,
+    constraint: Option<Constraint<F, EF>>,
 ) -> Result<(Point<EF>, Point<EF>, EF), SumcheckError>
     requires variables { folding_factor ≤ variables_in prover.old.poly }
     requires difficulty { pow_bits ≤ (C.rules prover_challenger.old).max_bits }
+    requires constraint { IsTrueIfSome EF.ops EF.number (variables_in prover.old.poly) (evals_in EF.number prover.old.poly) constraint }
     requires rules { C.rules verifier_challenger.old ≡ C.rules prover_challenger.old }
     requires history { C.history verifier_challenger.old ≡ C.history prover_challenger.old }
     requires messages { messages_in EF.number sumcheck_data.old ≡ [] }
@@ -36,20 +55,26 @@ pub fn batch_in_step<F: Field, EF: ExtensionField<F>, C: Challenger<F>>(
     ensures challenges { IfOk result (λ played. map EF.number played.1 ≡ map EF.number played.0) }
     ensures histories { OnOk result (C.history verifier_challenger.new ≡ C.history prover_challenger.new) }
     ensures claims { IfOk result (λ played. EF.number played.2 ≡ EF.number prover.new.sum) }
+    ensures batch { IfOk result (λ played. PlaysBatch (order_in prover.old.poly) EF.ops (C.rules prover_challenger.old) EF.extension pow_bits (variables_in prover.old.poly)
+        (evals_in EF.number prover.old.poly) (weights_with EF.ops EF.number constraint (weights_in EF.number prover.old.poly)) (claim_with EF.ops EF.number constraint (EF.number prover.old.sum))
+        (C.history prover_challenger.old ++ words (quadratic_seed EF.DEGREE evaluation pow_bits folding_factor)) (map EF.number played.0) (variables_in prover.new.poly)
+        (evals_in EF.number prover.new.poly) (weights_in EF.number prover.new.poly) (EF.number prover.new.sum) (C.history prover_challenger.new)
+        (messages_in EF.number sumcheck_data.old) (witnesses_in F.number sumcheck_data.old) (messages_in EF.number sumcheck_data.new) (witnesses_in F.number sumcheck_data.new)) }
     ensures causes { OnErr result ((result ≡ Err SumcheckError.NoMemory) ⊎ FindsNone result) }
+    ensures not_begun { FindsNone result → C.history verifier_challenger.new ≡ C.history verifier_challenger.old }
     ensures prover_rules { C.rules prover_challenger.new ≡ C.rules prover_challenger.old }
     ensures verifier_rules { C.rules verifier_challenger.new ≡ C.rules verifier_challenger.old }
     ensures order { order_in prover.new.poly ≡ order_in prover.old.poly }
     ensures fewer { OnOk result (variables_in prover.new.poly + folding_factor ≡ variables_in prover.old.poly) }
 {
-    let mut claim = prover.claimed_sum();
+    let mut claim = with_claim(prover.claimed_sum(), &constraint);
     let drawn = prover.compute_sumcheck_polynomials(
         alloc,
         sumcheck_data,
         prover_challenger,
         folding_factor,
         pow_bits,
-        None,
+        constraint,
     )?;
     let replayed = sumcheck_data.verify_rounds(
         alloc,
@@ -60,4 +85,17 @@ pub fn batch_in_step<F: Field, EF: ExtensionField<F>, C: Challenger<F>>(
         Basis::Evaluation,
     )?;
     Ok((drawn, replayed, claim))
+}
+
+// A claim, and the batched claim of a constraint with it, if there is one.
+fn with_claim<F: Field, EF: ExtensionField<F>>(
+    mut claim: EF,
+    constraint: &Option<Constraint<F, EF>>,
+) -> EF
+    ensures { EF.number result ≡ claim_with EF.ops EF.number constraint.now (EF.number claim) }
+{
+    if let Some(constraint) = constraint {
+        constraint.combine_evals(&mut claim);
+    }
+    claim
 }

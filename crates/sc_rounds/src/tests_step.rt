@@ -6,7 +6,9 @@ ghost use Rattle.sc_table.specs.Polys.{variables_of};
 ghost use Rattle.sc_rounds.specs.Products.{variables_in};
 
 use crate::tests::{elements, have_numbers, of};
-use crate::{EvalConstraints, ProductPolynomial, SumcheckData, SumcheckProver, batch_in_step};
+use crate::{
+    EvalConstraints, ProductPolynomial, SumcheckData, SumcheckProver, batch_in_step, replay_laws,
+};
 use sc_challenger::{Challenger, ScriptedChallenger};
 use sc_field::{F65537, Field, NoMemory};
 use sc_statements::{Constraint, EqStatement, Statements};
@@ -105,6 +107,7 @@ fn prover_and_verifier_stay_in_step(rt: HostRuntime) -> Result<(), Fail> {
             &mut other_side,
             2,
             1,
+            None,
         )?;
         assert!(rt; have_numbers(drawn.as_slice(), &[3, 4]));
         assert!(rt; have_numbers(replayed.as_slice(), &[3, 4]));
@@ -117,7 +120,37 @@ fn prover_and_verifier_stay_in_step(rt: HostRuntime) -> Result<(), Fail> {
 }
 
 #[test]
+fn a_batch_stays_in_step_with_its_constraint(rt: HostRuntime) -> Result<(), Fail> {
+    for (order, left) in [(VariableOrder::Prefix, 374), (VariableOrder::Suffix, 396)] {
+        let mut prover = prover_of(rt.alloc(), order, &[5, 0, 0, 1])?;
+        assert_eq!(rt; prover.claimed_sum().index(), 9);
+        let constraint = one_claim(rt.alloc(), &[0, 1], 2)?;
+        assert!(rt; prover.constraint_is_true(rt.alloc(), &constraint)?);
+        let mut data = SumcheckData::new(rt.alloc());
+        let mut one_side = scripted(rt.alloc())?;
+        let mut other_side = one_side.copy(rt.alloc())?;
+        let (drawn, replayed, claim) = batch_in_step(
+            rt.alloc(),
+            &mut prover,
+            &mut data,
+            &mut one_side,
+            &mut other_side,
+            2,
+            1,
+            Some(constraint),
+        )?;
+        assert!(rt; have_numbers(drawn.as_slice(), &[3, 4]));
+        assert!(rt; have_numbers(replayed.as_slice(), &[3, 4]));
+        assert_eq!(rt; claim.index(), left);
+        assert_eq!(rt; prover.claimed_sum().index(), left);
+        assert!(rt; one_side.events() == other_side.events());
+    }
+    Ok(())
+}
+
+#[test]
 fn batches_follow_on_each_other(rt: HostRuntime) -> Result<(), Fail> {
+    replay_laws::<F65537>();
     for (order, between, left) in [
         (VariableOrder::Prefix, 65521, 65449),
         (VariableOrder::Suffix, 12, 65429),
@@ -134,6 +167,7 @@ fn batches_follow_on_each_other(rt: HostRuntime) -> Result<(), Fail> {
             &mut other_side,
             1,
             0,
+            None,
         )?;
         assert!(rt; have_numbers(first.as_slice(), &[3]));
         assert_eq!(rt; claim.index(), between);
@@ -146,6 +180,7 @@ fn batches_follow_on_each_other(rt: HostRuntime) -> Result<(), Fail> {
             &mut other_side,
             1,
             0,
+            None,
         )?;
         assert!(rt; have_numbers(second.as_slice(), &[4]));
         assert_eq!(rt; claim.index(), left);
