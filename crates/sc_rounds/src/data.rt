@@ -80,7 +80,8 @@ impl<F: Field, EF: ExtensionField<F>> SumcheckData<F, EF> {
 
     /// Plays a round of these values, appends it, and answers its challenge. What the values mean is the basis of the transcript's shape.
     ///
-    /// The refusals are those of [`ProverTranscript::round`], and leave the data as it was.
+    /// The refusals are those of [`ProverTranscript::round`], and leave the data as it was. Where the data has room for a round and the challenger for its
+    /// events, none of them is `NoMemory`, and the round takes no more room than that.
     pub fn observe_and_sample<C: Challenger<F>>(
         &mut self,
         transcript: &mut ProverTranscript<'_, C, F, EF>,
@@ -104,6 +105,10 @@ impl<F: Field, EF: ExtensionField<F>> SumcheckData<F, EF> {
         ensures no_witness { result ≡ Err (SumcheckError.NoWitness transcript.old.played) → C.history transcript.new.challenger.now
             ≡ C.history transcript.old.challenger.now ++ sent EF.extension (EF.number c_a ∷ EF.number c_inf ∷ []) }
         ensures no_memory { result ≡ Err SumcheckError.NoMemory → C.history transcript.new.challenger.now ≡ C.history transcript.old.challenger.now }
+        ensures has_room { 1 ≤ spare_in self.old → events_of EF.DEGREE transcript.old.shape.pow_bits ≤ C.spare transcript.old.challenger.now → result ≢ Err SumcheckError.NoMemory }
+        ensures spare { OnOk result (C.spare transcript.old.challenger.now ≤ C.spare transcript.new.challenger.now + events_of EF.DEGREE transcript.old.shape.pow_bits) }
+        ensures room { OnOk result (spare_in self.old ≤ spare_in self.new + 1) }
+        ensures room_kept { OnErr result (spare_in self.old ≤ spare_in self.new) }
     {
         self.reserve(1)?;
         let (challenge, witness) = transcript.round(c_a, c_inf)?;

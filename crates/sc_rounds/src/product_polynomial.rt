@@ -1,11 +1,12 @@
 //! A table and its weights, on which rounds are played.
-ghost use Rattle.std.specs.Prelude.{◌≡◌, ◌⊎◌, ℕ, Err, suc, ◌+◌, ◌<◌, ◌≤◌, ◌^◌, [], ◌∷◌, IfOk, OnOk, OnErr, length, map, vec_capacity};
+ghost use Rattle.std.specs.Prelude.{◌≡◌, ◌≢◌, ◌⊎◌, ℕ, Err, suc, ◌+◌, ◌<◌, ◌≤◌, ◌^◌, [], ◌∷◌, IfOk, OnOk, OnErr, length, map, vec_capacity};
 ghost use Rattle.sc_definitions.specs.Ring.{plus, times};
 ghost use Rattle.sc_definitions.specs.Tables.{entries, value, sum_below, inner};
 ghost use Rattle.sc_table.specs.Polys.{variables_of, table_of};
 ghost use Rattle.sc_table.specs.Strategy.{order_of};
 ghost use Rattle.sc_statements.specs.Constraints.{constraint_arity, constraint_challenge, constraint_power, constraint_statements};
 ghost use Rattle.sc_statements.specs.Batches.{AddsBatch};
+ghost use Rattle.sc_rounds.specs.Shapes.{events_of};
 
 use crate::data::SumcheckData;
 use crate::error::SumcheckError;
@@ -28,7 +29,7 @@ pub struct ProductPolynomial<F, EF> {
 }
 
 impl<F: Field, EF: ExtensionField<F>> ProductPolynomial<F, EF> {
-    ghost use Rattle.sc_rounds.specs.Data.{messages_in, witnesses_in};
+    ghost use Rattle.sc_rounds.specs.Data.{messages_in, witnesses_in, spare_in};
     ghost use Rattle.sc_rounds.specs.Products.{variables_in, order_in, evals_in, weights_in, sum_in, PlaysRound, EndsRound};
     ghost use Rattle.sc_rounds.specs.Batches.{PlaysBatch, StopsBatch, FailsBatch};
 
@@ -151,7 +152,7 @@ impl<F: Field, EF: ExtensionField<F>> ProductPolynomial<F, EF> {
     /// Plays a round: appends the message of the two tables to the data, binds both at its challenge, and moves the sum to the sent polynomial's value there,
     /// which is the sum of the bound tables. A variable is left, the transcript has a round left, and `sum` is [`ProductPolynomial::dot_product`].
     ///
-    /// The refusals are those of [`ProverTranscript::round`], and leave the pair, the data and the sum as they were.
+    /// The refusals are those of [`SumcheckData::observe_and_sample`], and leave the pair, the data and the sum as they were.
     pub fn round<C: Challenger<F>>(
         &mut self,
         sumcheck_data: &mut SumcheckData<F, EF>,
@@ -182,6 +183,10 @@ impl<F: Field, EF: ExtensionField<F>> ProductPolynomial<F, EF> {
             → EndsRound (order_in self.old) EF.ops (C.rules transcript.old.challenger.now) EF.extension transcript.old.shape.pow_bits m F.ops.size
             (evals_in EF.number self.old) (weights_in EF.number self.old) (C.history transcript.old.challenger.now) (C.history transcript.new.challenger.now) }
         ensures no_memory { result ≡ Err SumcheckError.NoMemory → C.history transcript.new.challenger.now ≡ C.history transcript.old.challenger.now }
+        ensures has_room { 1 ≤ spare_in sumcheck_data.old → events_of EF.DEGREE transcript.old.shape.pow_bits ≤ C.spare transcript.old.challenger.now → result ≢ Err SumcheckError.NoMemory }
+        ensures spare { OnOk result (C.spare transcript.old.challenger.now ≤ C.spare transcript.new.challenger.now + events_of EF.DEGREE transcript.old.shape.pow_bits) }
+        ensures room { OnOk result (spare_in sumcheck_data.old ≤ spare_in sumcheck_data.new + 1) }
+        ensures room_kept { OnErr result (spare_in sumcheck_data.old ≤ spare_in sumcheck_data.new) }
     {
         let message = self
             .order

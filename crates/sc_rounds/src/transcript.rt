@@ -246,7 +246,7 @@ pub struct ProverTranscript<'a, C: Challenger<F>, F: Field, EF> {
 }
 
 impl<'a, C: Challenger<F>, F: Field, EF: ExtensionField<F>> ProverTranscript<'a, C, F, EF> {
-    /// Begins a batch: the seed's words are observed, or nothing for no rounds.
+    /// Begins a batch: the seed's words are observed, or nothing for no rounds. No more of the challenger's room is taken than they need.
     ///
     /// The difficulty is at most the challenger's [`Challenger::max_bits`].
     pub fn new(alloc: Global, challenger: &'a mut C, shape: SumcheckShape) -> Result<Self, NoMemory>
@@ -256,6 +256,7 @@ impl<'a, C: Challenger<F>, F: Field, EF: ExtensionField<F>> ProverTranscript<'a,
         ensures history { IfOk result (λ t. C.history t.challenger.now ≡ C.history challenger.old ++ words (seed_of EF.DEGREE shape)) }
         ensures shape { IfOk result (λ t. t.shape ≡ shape) }
         ensures played { IfOk result (λ t. t.played ≡ 0) }
+        ensures spare { IfOk result (λ t. C.spare challenger.old ≤ C.spare t.challenger.now + length (seed_of EF.DEGREE shape)) }
     {
         shape.seed::<F, EF, C>(alloc, challenger)?;
         Ok(ProverTranscript::over(challenger, shape))
@@ -368,7 +369,7 @@ pub struct VerifierTranscript<'a, C: Challenger<F>, F: Field, EF> {
 }
 
 impl<'a, C: Challenger<F>, F: Field, EF: ExtensionField<F>> VerifierTranscript<'a, C, F, EF> {
-    /// Begins a batch: the seed's words are observed, or nothing for no rounds.
+    /// Begins a batch: the seed's words are observed, or nothing for no rounds. No more of the challenger's room is taken than they need.
     ///
     /// The difficulty is at most the challenger's [`Challenger::max_bits`].
     pub fn new(alloc: Global, challenger: &'a mut C, shape: SumcheckShape) -> Result<Self, NoMemory>
@@ -378,6 +379,7 @@ impl<'a, C: Challenger<F>, F: Field, EF: ExtensionField<F>> VerifierTranscript<'
         ensures history { IfOk result (λ t. C.history t.challenger.now ≡ C.history challenger.old ++ words (seed_of EF.DEGREE shape)) }
         ensures shape { IfOk result (λ t. t.shape ≡ shape) }
         ensures played { IfOk result (λ t. t.played ≡ 0) }
+        ensures spare { IfOk result (λ t. C.spare challenger.old ≤ C.spare t.challenger.now + length (seed_of EF.DEGREE shape)) }
     {
         shape.seed::<F, EF, C>(alloc, challenger)?;
         Ok(VerifierTranscript::over(challenger, shape))
