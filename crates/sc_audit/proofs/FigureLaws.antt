@@ -1,0 +1,56 @@
+-- The figures of a report, one by one.
+use Rattle.std.proofs.Common.{◌≡◌, ℕ, ◌==◌, List, Bool, true, false, map, slice_index, Option, None, Some, refl, ap, sym, ◌∙◌}
+use Rattle.sc_definitions.specs.declared.false_claim.FalseClaim.{FalseClaim}
+use Rattle.sc_definitions.specs.Ring.{Ops, times}
+use Rattle.sc_definitions.specs.Tables.{evaluation, Order, value, point_of}
+use Rattle.sc_definitions.specs.Statements.{Statement, batched_weight, batched_claim}
+use Rattle.sc_definitions.specs.Problem.{Problem, weights_of, claim_of, residual_of, eval_of, weight_value_of}
+use Rattle.sc_statements.specs.FalseClaims.{told}
+use Rattle.sc_audit.specs.Figures.{Figures, Finding, finding_by, false_claim_of, is_matched, figures_of}
+
+module _ (o : Ops) (p : Problem) where
+  pub claim-batched : (x : ℕ) → x ≡ batched_claim o p.batching p.initial p.statements → x ≡ claim_of o p
+  unfolding claim_of
+  claim-batched x is = is
+
+  pub weights-batched : (b x : ℕ) → x ≡ batched_weight o p.batching p.initial p.statements b → x ≡ weights_of o p b
+  unfolding weights_of
+  weights-batched b x is = is
+
+  -- the figures are determined
+  pub figures-are : (messages ms : List (List ℕ)) (witnesses ws : List ℕ) (challenges rs : List ℕ) (claim residual eval weight : ℕ) (finding : Finding) →
+      messages ≡ ms → witnesses ≡ ws → challenges ≡ rs → claim ≡ claim_of o p → residual ≡ residual_of o p ms rs → eval ≡ eval_of o p rs → weight ≡ weight_value_of o p rs →
+      finding ≡ finding_by (is_matched o p ms rs) (false_claim_of o p) →
+      ◌≡◌ {A = Figures} (record { claim = claim; messages = messages; witnesses = witnesses; challenges = challenges; residual = residual; eval = eval; weight = weight; finding = finding })
+      (figures_of o p ms ws rs)
+  unfolding figures_of
+  figures-are messages ms witnesses ws challenges rs claim residual eval weight finding em ew er ec es ee et ef = rw (em, ew, er, ec, es, ee, et, ef) refl
+
+  -- the finding is that of the figures
+  pub finding-is : (ms : List (List ℕ)) (ws rs : List ℕ) → (figures_of o p ms ws rs).finding ≡ finding_by (is_matched o p ms rs) (false_claim_of o p)
+  unfolding figures_of
+  finding-is ms ws rs = refl
+
+  pub matched-told : (b : Bool) (x y z : ℕ) (ms : List (List ℕ)) (rs : List ℕ) → x ≡ residual_of o p ms rs → y ≡ eval_of o p rs → z ≡ weight_value_of o p rs →
+      b ≡ (x == times o y z) → b ≡ is_matched o p ms rs
+  matched-told b x y z ms rs ex ey ez is = is ∙ cc (ex, ey, ez)
+
+-- the problem of a table with statements
+abbrev pub stated : Order → ℕ → (ℕ → ℕ) → List Statement → ℕ → ℕ → Problem
+stated order n f ss c i = record { basis = evaluation; order = order; variables = n; table = f; statements = ss; batching = c; initial = i }
+
+module _ (o : Ops) (order : Order) (n : ℕ) (f : ℕ → ℕ) (ss : List Statement) (c i : ℕ) where
+  -- the values at the point that the challenges make
+  pub eval-at : (rs : List ℕ) (x : ℕ) → x ≡ value o f (point_of order rs) → x ≡ eval_of o (stated order n f ss c i) rs
+  unfolding eval_of
+  eval-at rs x is = is
+
+  pub weight-at : (rs : List ℕ) (x : ℕ) → x ≡ value o (batched_weight o c i ss) (point_of order rs) → x ≡ weight_value_of o (stated order n f ss c i) rs
+  unfolding weight_value_of weights_of
+  weight-at rs x is = is
+
+-- a statement's number does not matter to the finding
+pub finding-told : (b : Bool) (found : Option FalseClaim) → finding_by b (told found) ≡ finding_by b found
+finding-told false found = refl
+finding-told true None = refl
+finding-told true (Some c) = refl

@@ -1,0 +1,27 @@
+use Rattle.std.proofs.Common.{◌≡◌, Some, None, Err, sym, ◌∙◌, ap, inl}
+use Rattle.std.proofs.lemmas.Option.{same_Some}
+use Rattle.sc_definitions.specs.Statements.{first_false_claim}
+use Rattle.sc_statements.specs.Constraints.{constraint_arity, constraint_statements}
+use Rattle.sc_statements.specs.FalseClaims.{told}
+use Rattle.sc_audit.specs.Cases.{problem_in}
+use Rattle.sc_audit.specs.Refusals.{false_refusal}
+use Rattle.sc_audit.specs.Figures.{false_claim_of}
+use Rattle.sc_audit.proofs.building.build.Goals as goal
+
+pub returns-in-Some-clause-refused : goal.returns-in-Some-clause-refused
+returns-in-Some-clause-refused g c = λ strategy e is.
+    let N = g.EF.Field.number in
+    let job = c.args.job.now in
+    let found : told (false_claim_of g.EF.Field.ops (problem_in g.F.Field.number N g.EF.Algebra.embedding job)) ≡ Some c.in-Some.fault =
+    ap (λ t. told (first_false_claim g.EF.Field.ops (constraint_arity job.constraint) (λ b. g.EF.Algebra.embedding (t b)) 0 (constraint_statements N job.constraint))) (sym c.in_ok-table.ensures.table)
+    ∙ sym c.first_false.ensures.found ∙ c.in-Some.is in
+    inl (ap Err (same_Some _ _ (sym (ap false_refusal found) ∙ is)))
+
+pub returns-clause-refused : goal.returns-clause-refused
+returns-clause-refused g c = λ strategy e is.
+    let N = g.EF.Field.number in
+    let job = c.args.job.now in
+    let found : told (false_claim_of g.EF.Field.ops (problem_in g.F.Field.number N g.EF.Algebra.embedding job)) ≡ None =
+    ap (λ t. told (first_false_claim g.EF.Field.ops (constraint_arity job.constraint) (λ b. g.EF.Algebra.embedding (t b)) 0 (constraint_statements N job.constraint))) (sym c.in_ok-table.ensures.table)
+    ∙ sym c.first_false.ensures.found ∙ c.in_default.is in
+    let clash = sym (ap false_refusal found) ∙ is in cc

@@ -1,0 +1,46 @@
+use Rattle.std.proofs.Common.{◌≡◌, ℕ, ◌==◌, map, refl, sym, ◌∙◌, ap}
+use Rattle.sc_definitions.specs.Ring.{times}
+use Rattle.sc_definitions.specs.Tables.{entries, value, point_of}
+use Rattle.sc_definitions.specs.Statements.{batched_weight}
+use Rattle.sc_definitions.specs.Problem.{eval_of, weight_value_of}
+use Rattle.sc_table.specs.Strategy.{order_of}
+use Rattle.sc_statements.specs.Constraints.{constraint_arity, constraint_challenge, constraint_power, constraint_statements}
+use Rattle.sc_rounds.specs.Data.{messages_in, witnesses_in}
+use Rattle.sc_audit.specs.Figures.{finding_by, false_claim_of, is_matched}
+use Rattle.sc_audit.proofs.FigureLaws.{stated, figures-are, finding-is, matched-told, eval-at, weight-at}
+use Rattle.sc_audit.proofs.checking.report_on.Goals as goal
+
+pub returns-in_err-verdict-clause-lucky : goal.returns-in_err-verdict-clause-lucky
+returns-in_err-verdict-clause-lucky g c = λ _.
+    let N = g.EF.Field.number in
+    let o = g.EF.Field.ops in
+    let job = c.args.job.now in
+    let f : ℕ → ℕ = λ b. g.EF.Algebra.embedding (entries g.F.Field.number job.table.items b) in
+    let p = stated (order_of job.order) (constraint_arity job.constraint) f (constraint_statements N job.constraint) (constraint_challenge N job.constraint) (constraint_power job.constraint) in
+    let rs = map N c.args.challenges in
+    let ms = messages_in N c.args.proof.now in
+    let eval : N c.eval-eval.result ≡ eval_of o p rs =
+    eval-at o (order_of job.order) _ f _ _ _ rs _ (c.eval-eval.ensures ∙ ap (λ t. value o (λ b. g.EF.Algebra.embedding (t b)) (map N c.in_ok-point.point)) c.in_ok-table.ensures.table ∙ ap (value o f) c.in_ok-point.ensures) in
+    let weight : N c.eval_at-weight.result ≡ weight_value_of o p rs =
+    weight-at o (order_of job.order) _ f _ _ _ rs _ (c.eval_at-weight.ensures ∙ ap (value o (batched_weight o _ _ _)) c.in_ok-point.ensures) in
+    let matched : (c.index.result == c.index-2.result) ≡ is_matched o p ms rs =
+    matched-told o p _ (N c.args.residual) (N c.eval-eval.result) (N c.eval_at-weight.result) ms rs c.requires.residual eval weight (cc (c.index.ensures, c.index-2.ensures, c.mul.ensures)) in
+    finding-is o p ms (witnesses_in g.F.Field.number c.args.proof.now) rs ∙ ap (λ t. finding_by t (false_claim_of o p)) (sym matched) ∙ c.in_err-verdict.ensures.lucky.1
+
+pub returns-clause-figures : goal.returns-clause-figures
+returns-clause-figures g c =
+    let N = g.EF.Field.number in
+    let o = g.EF.Field.ops in
+    let job = c.args.job.now in
+    let f : ℕ → ℕ = λ b. g.EF.Algebra.embedding (entries g.F.Field.number job.table.items b) in
+    let p = stated (order_of job.order) (constraint_arity job.constraint) f (constraint_statements N job.constraint) (constraint_challenge N job.constraint) (constraint_power job.constraint) in
+    let rs = map N c.args.challenges in
+    let ms = messages_in N c.args.proof.now in
+    let eval : N c.eval-eval.result ≡ eval_of o p rs =
+    eval-at o (order_of job.order) _ f _ _ _ rs _ (c.eval-eval.ensures ∙ ap (λ t. value o (λ b. g.EF.Algebra.embedding (t b)) (map N c.in_ok-point.point)) c.in_ok-table.ensures.table ∙ ap (value o f) c.in_ok-point.ensures) in
+    let weight : N c.eval_at-weight.result ≡ weight_value_of o p rs =
+    weight-at o (order_of job.order) _ f _ _ _ rs _ (c.eval_at-weight.ensures ∙ ap (value o (batched_weight o _ _ _)) c.in_ok-point.ensures) in
+    let matched : (c.index.result == c.index-2.result) ≡ is_matched o p ms rs =
+    matched-told o p _ (N c.args.residual) (N c.eval-eval.result) (N c.eval_at-weight.result) ms rs c.requires.residual eval weight (cc (c.index.ensures, c.index-2.ensures, c.mul.ensures)) in
+    figures-are o p _ ms _ (witnesses_in g.F.Field.number c.args.proof.now) _ rs _ _ _ _ _ c.in_ok-rounds.ensures.messages c.in_ok-rounds.ensures.witnesses refl
+    c.requires.claim c.requires.residual eval weight (c.in_ok-verdict.ensures.found ∙ ap (λ t. finding_by t (false_claim_of o p)) matched)

@@ -1,0 +1,74 @@
+-- The figures of a report, which the rounds and their challenges determine.
+use Rattle.std.specs.Prelude.{ℕ, List, map, Bool, true, false, ◌==◌, Option, Some, None}
+use Rattle.sc_definitions.specs.declared.false_claim.FalseClaim.{FalseClaim}
+use Rattle.sc_definitions.specs.Ring.{Ops, times}
+use Rattle.sc_definitions.specs.Statements.{first_false_claim}
+use Rattle.sc_definitions.specs.Problem.{Problem, claim_of, residual_of, eval_of, weight_value_of}
+use Rattle.sc_rounds.specs.Data.{messages_in, witnesses_in}
+use Rattle.sc_audit.specs.declared.report.Report.{Report}
+use Rattle.sc_audit.specs.declared.report.Verdict.{Verdict}
+use Rattle.sc_audit.specs.declared.report.Verdict.TheVariants.{Holds, Refuted, LuckyBatch, LuckyRound}
+
+-- What rounds say of statements. Where the residual is right although a statement is false, a challenge was lucky.
+pub data Finding : Type 0 where
+  holds : Finding
+  refuted : Finding
+  lucky : Finding
+
+-- the figures of a report
+pub record Figures : Type 0 where
+  pub claim : ℕ
+  pub messages : List (List ℕ)
+  pub witnesses : List ℕ
+  pub challenges : List ℕ
+  pub residual : ℕ
+  pub eval : ℕ
+  pub weight : ℕ
+  pub finding : Finding
+
+-- whether the residual is right, and which statement is false, if one is
+abbrev pub finding_by : Bool → Option FalseClaim → Finding
+finding_by false fault = refuted
+finding_by true None = holds
+finding_by true (Some c) = lucky
+
+-- the first false statement of a problem, if one is
+abbrev pub false_claim_of : Ops → Problem → Option FalseClaim
+false_claim_of o p = first_false_claim o p.variables p.table 0 p.statements
+
+-- whether what messages leave of the claim is the product of the table's and the weights' values at their challenges
+abbrev pub is_matched : Ops → Problem → List (List ℕ) → List ℕ → Bool
+is_matched o p messages rs = residual_of o p messages rs == times o (eval_of o p rs) (weight_value_of o p rs)
+
+-- the figures of these messages, witnesses and challenges
+unfoldable pub figures_of : Ops → Problem → List (List ℕ) → List ℕ → List ℕ → Figures
+figures_of o p messages witnesses rs = record {
+  claim = claim_of o p;
+  messages = messages;
+  witnesses = witnesses;
+  challenges = rs;
+  residual = residual_of o p messages rs;
+  eval = eval_of o p rs;
+  weight = weight_value_of o p rs;
+  finding = finding_by (is_matched o p messages rs) (false_claim_of o p);
+}
+
+-- what a verdict says
+abbrev pub finding_in : {EF : Type 0} → Verdict EF → Finding
+finding_in Holds = holds
+finding_in Refuted = refuted
+finding_in (LuckyBatch poly vanishing) = lucky
+finding_in (LuckyRound round poly vanishing) = lucky
+
+-- the figures that a report shows
+abbrev pub figures_in : {F EF : Type 0} → (F → ℕ) → (EF → ℕ) → Report F EF → Figures
+figures_in base number r = record {
+  claim = number r.claim;
+  messages = messages_in number r.rounds;
+  witnesses = witnesses_in base r.rounds;
+  challenges = map number r.challenges;
+  residual = number r.residual;
+  eval = number r.eval;
+  weight = number r.weight;
+  finding = finding_in r.verdict;
+}

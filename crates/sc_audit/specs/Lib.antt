@@ -1,0 +1,4 @@
+pub mod Cases
+pub mod Refusals
+pub mod Figures
+pub mod Audits

@@ -1,0 +1,72 @@
+-- What is refused before a round is played, in the order in which it is tested.
+use Rattle.std.specs.Prelude.{ℕ, zero, suc, ◌^◌, ◌==◌, length, nat_lt, if◌then◌else◌, Option, Some, None}
+use Rattle.sc_definitions.specs.declared.false_claim.FalseClaim.{FalseClaim as FalseStatement}
+use Rattle.sc_definitions.specs.Ring.{Ops}
+use Rattle.sc_definitions.specs.Statements.{first_false_claim}
+use Rattle.sc_definitions.specs.Problem.{Problem}
+use Rattle.sc_statements.specs.FalseClaims.{told}
+use Rattle.sc_rounds.specs.Data.{witness_count}
+use Rattle.sc_audit.specs.declared.job.Strategy.TheVariants.{Plain, Represented, SmallValue}
+use Rattle.sc_audit.specs.declared.error.AuditError.{AuditError}
+use Rattle.sc_audit.specs.declared.error.AuditError.TheVariants.{Unbuilt, JobShape, FalseClaim, MissingSumcheckData, RoundCountMismatch, PowWitnessCountMismatch}
+use Rattle.sc_audit.specs.declared.error.Form.TheVariants.{Mode}
+use Rattle.sc_audit.specs.declared.error.ShapeFault.TheVariants.{TableLength, Difficulty, Arity}
+use Rattle.sc_audit.specs.Cases.{Case, Given, Task, build, check}
+
+-- the first refusal, or else the later one
+abbrev pub or_later : Option AuditError → Option AuditError → Option AuditError
+or_later (Some e) later = Some e
+or_later None later = later
+
+-- a strategy that is not built yet
+abbrev pub mode_refusal : Task → Option AuditError
+mode_refusal (build Plain) = None
+mode_refusal (build Represented) = Some (Unbuilt Mode)
+mode_refusal (build (SmallValue variables)) = Some (Unbuilt Mode)
+mode_refusal (check proof) = None
+
+-- the first of the `count` numbers from n on that 2 has to be raised to
+abbrev pub exponent_from : ℕ → ℕ → ℕ → Option ℕ
+exponent_from n zero len = None
+exponent_from n (suc count) len = if len == 2 ^ n then Some n else exponent_from (suc n) count len
+
+-- the number of variables, at most 24, of a table of so many rows
+unfoldable pub arity_of : ℕ → Option ℕ
+arity_of len = exponent_from 0 25 len
+
+-- the difficulty is above the challenger's bound, or else the statements are on another number of variables than the table has
+abbrev pub shape_by : Option ℕ → ℕ → ℕ → ℕ → ℕ → Option AuditError
+shape_by None max_bits rows bits variables = Some (JobShape (TableLength rows))
+shape_by (Some n) max_bits rows bits variables =
+    if nat_lt max_bits bits then Some (JobShape (Difficulty bits max_bits))
+    else (if n == variables then None else Some (JobShape (Arity n variables)))
+
+-- a table whose number of rows is no power of two up to 2^24, or else one of these
+abbrev pub shape_refusal : ℕ → Case → Option AuditError
+shape_refusal max_bits c = shape_by (arity_of c.rows) max_bits c.rows c.bits c.problem.variables
+
+abbrev pub false_refusal : Option FalseStatement → Option AuditError
+false_refusal (Some s) = Some (FalseClaim s.statement s.claimed s.actual)
+false_refusal None = None
+
+-- no proof, where there are variables
+abbrev pub missing_refusal : ℕ → Option AuditError
+missing_refusal n = if n == 0 then None else Some (MissingSumcheckData n)
+
+-- a proof without one round for each variable, or else with another number of witnesses than they have
+abbrev pub count_refusal : ℕ → ℕ → Given → Option AuditError
+count_refusal n bits g =
+    if length g.messages == n
+    then (if length g.witnesses == witness_count bits n then None else Some (PowWitnessCountMismatch (witness_count bits n) (length g.witnesses)))
+    else Some (RoundCountMismatch n (length g.messages))
+
+-- a build's first false statement; a proof's absence, or its counts
+abbrev pub task_refusal : Ops → Problem → ℕ → Task → Option AuditError
+task_refusal o p bits (build strategy) = false_refusal (told (first_false_claim o p.variables p.table 0 p.statements))
+task_refusal o p bits (check None) = missing_refusal p.variables
+task_refusal o p bits (check (Some given)) = count_refusal p.variables bits given
+
+-- the first refusal of a case before a round is played, if there is one, under a challenger of this greatest difficulty
+abbrev pub refusal_of : Ops → ℕ → Case → Option AuditError
+refusal_of o max_bits c =
+    or_later (mode_refusal c.task) (or_later (shape_refusal max_bits c) (task_refusal o c.problem c.bits c.task))

@@ -1,0 +1,50 @@
+//! What building and checking share.
+ghost use Rattle.std.specs.Prelude.{◌≡◌, ◌⊎◌, ◌<◌, ◌≤◌, ◌^◌, ℕ, Err, IfOk, OnErr, IsOk, Some, None, [], length, map, vec_len};
+ghost use Rattle.std.specs.Option.{option_map};
+ghost use Rattle.sc_definitions.specs.Tables.{entries, point_of};
+ghost use Rattle.sc_definitions.specs.Problem.{weights_of, claim_of};
+ghost use Rattle.sc_table.specs.Polys.{variables_of, table_of};
+ghost use Rattle.sc_table.specs.Strategy.{order_of};
+ghost use Rattle.sc_statements.specs.Constraints.{constraint_arity};
+ghost use Rattle.sc_rounds.specs.Products.{variables_in, order_in, evals_in, weights_in};
+ghost use Rattle.sc_audit.specs.Cases.{case_in, given_in, problem_in, task_in, build, check};
+ghost use Rattle.sc_audit.specs.Refusals.{refusal_of, task_refusal, count_refusal, mode_refusal};
+ghost use Rattle.sc_audit.specs.Figures.{figures_in, finding_in, false_claim_of, lucky};
+ghost use Rattle.sc_audit.specs.Audits.{FindsNone, IsAudited, IsCaused, IsUngroundResult, IsValid, MayMeet, refusal_by};
+
+use crate::error::AuditError;
+use crate::job::Job;
+use sc_field::{ExtensionField, Field, NoMemory};
+use sc_rounds::SumcheckError;
+use sc_table::Poly;
+use std::alloc::Global;
+
+// What the replay or the prover refuses is refused by the audit.
+pub(crate) fn refusal(error: SumcheckError) -> AuditError
+    ensures { result ≡ refusal_by error }
+{
+    match error {
+        SumcheckError::RoundCountMismatch { expected, actual } => {
+            AuditError::RoundCountMismatch { expected, actual }
+        }
+        SumcheckError::PowWitnessCountMismatch { expected, actual } => {
+            AuditError::PowWitnessCountMismatch { expected, actual }
+        }
+        SumcheckError::InvalidPowWitness { round, difficulty } => {
+            AuditError::InvalidPowWitness { round, difficulty }
+        }
+        SumcheckError::NoWitness { round } => AuditError::NoWitness { round },
+        // neither side refuses more, but for want of memory
+        _ => AuditError::NoMemory,
+    }
+}
+
+// The table of a job.
+pub(crate) fn table_of_job<F: Field, EF: ExtensionField<F>>(alloc: Global, job: &Job<F, EF>) -> Result<Poly<F>, NoMemory>
+    requires { vec_len job.now.table ≡ 2 ^ constraint_arity job.now.constraint }
+    ensures variables { IfOk result (λ p. variables_of p ≡ constraint_arity job.now.constraint) }
+    ensures table { IfOk result (λ p. table_of F.number p ≡ entries F.number job.now.table.items) }
+{
+    Ok(Poly::new(Vec::from_slice(alloc, &job.table)?))
+}
+

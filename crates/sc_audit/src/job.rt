@@ -1,0 +1,41 @@
+//! What is asked.
+use sc_rounds::SumcheckData;
+use sc_statements::Constraint;
+use sc_table::VariableOrder;
+
+/// How rounds are built.
+#[derive(Clone, Copy, Debug, PartialEq, Eq)]
+pub enum Strategy {
+    /// On the table of the extension's elements.
+    Plain,
+    /// On the table of their images in a representation.
+    Represented,
+    /// The first rounds on the table of base elements, for so many variables.
+    SmallValue {
+        variables: usize,
+    },
+}
+
+/// What is done with a table and its statements.
+#[derive(Drop)]
+pub enum Mode<F, EF> {
+    /// The rounds are built. Each statement has to be true of the table.
+    Build(Strategy),
+    /// The rounds of a proof are checked. A table without a variable needs no proof.
+    Check(Option<SumcheckData<F, EF>>),
+}
+
+/// A table, statements on it, and what is done with them.
+#[derive(Drop)]
+pub struct Job<F, EF> {
+    /// The table, row 0 first; the first variable belongs to the highest bit of a row.
+    pub table: Vec<F>,
+    /// The statements, with the challenge that batches them.
+    pub constraint: Constraint<F, EF>,
+    /// Which variable a round binds.
+    pub order: VariableOrder,
+    /// The difficulty of each round's test in bits, or 0 for no test.
+    pub pow_bits: usize,
+    /// What is done.
+    pub mode: Mode<F, EF>,
+}

@@ -1,0 +1,19 @@
+//! A sumcheck as one call: a table, statements on it, and either the rounds are built, or those of a proof are checked.
+//!
+//! [`audit`] answers the report with its verdict, or why there is none, for every field, extension, representation and challenger.
+#![tactic(auto)]
+
+mod audits;
+mod building;
+mod checking;
+mod common;
+mod error;
+mod job;
+mod report;
+mod shape;
+
+pub use audits::audit;
+pub use error::{AuditError, FitFault, Form, ShapeFault};
+pub use job::{Job, Mode, Strategy};
+pub use report::{Report, Verdict};
+pub use sc_svo::{Grid, Grids};
