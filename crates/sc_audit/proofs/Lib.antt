@@ -4,3 +4,6 @@ pub mod SameTables
 pub mod FigureLaws
 pub mod Embedded
 pub mod BuiltReports
+pub mod CountLaws
+pub mod CheckedReports
+pub mod CauseLaws

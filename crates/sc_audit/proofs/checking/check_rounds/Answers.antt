@@ -1,0 +1,159 @@
+use Rattle.std.proofs.Common.{◌≡◌, ℕ, ◌++◌, map, length, None, Err, IfOk, refl, sym, ◌∙◌, ap, subst, arith, inl, inr}
+use Rattle.std.proofs.lemmas.List.{length-map}
+use Rattle.std.specs.Prelude.{vec_len}
+use Rattle.std.proofs.lemmas.Bool.Decides.{eqb_tells}
+use Rattle.std.proofs.lemmas.Result.{IfOk-weaker}
+use Rattle.sc_definitions.specs.Tables.{evaluation, entries}
+use Rattle.sc_definitions.specs.Events.{words}
+use Rattle.sc_definitions.specs.Seeds.{quadratic_seed}
+use Rattle.sc_definitions.specs.Problem.{claim_of}
+use Rattle.sc_definitions.proofs.BuiltLaws.{length-challenges}
+use Rattle.sc_definitions.proofs.ReplayLaws.{length-given_rounds, messages-given_rounds}
+use Rattle.sc_table.specs.Strategy.{order_of}
+use Rattle.sc_statements.specs.Constraints.{constraint_arity, constraint_challenge, constraint_power, constraint_statements}
+use Rattle.sc_statements.proofs.BatchSteps.{claim-alone}
+use Rattle.sc_rounds.specs.Data.{messages_in, witnesses_in, rounds_in, witness_count}
+use Rattle.sc_rounds.specs.declared.error.SumcheckError.TheVariants as replay
+use Rattle.sc_rounds.proofs.InStep.{invalid_is}
+use Rattle.sc_audit.specs.declared.error.AuditError.TheVariants.{Unbuilt, RoundCountMismatch, PowWitnessCountMismatch, NoMemory}
+use Rattle.sc_audit.specs.declared.error.Form.TheVariants.{Verdict}
+use Rattle.sc_audit.specs.Cases.{case_in, check, given_in}
+use Rattle.sc_audit.specs.Figures.{figures_of}
+use Rattle.sc_audit.specs.Audits.{refusal_by}
+use Rattle.sc_audit.proofs.CauseLaws.{on_err, caused-memory, caused-lucky, caused-rounds, caused-witnesses, caused-invalid}
+use Rattle.sc_audit.proofs.FigureLaws.{stated, claim-batched}
+use Rattle.sc_audit.proofs.CountLaws.{count-rounds, count-witnesses, count-fits}
+use Rattle.sc_audit.proofs.CheckedReports.{not_other, residual-checked, report-checked}
+use Rattle.sc_audit.proofs.checking.check_rounds.Goals as goal
+
+-- the claim that the replay begins with
+pub report_on-requires-clause-claim : goal.report_on-requires-clause-claim
+report_on-requires-clause-claim g c =
+    claim-batched g.EF.Field.ops _ _ (claim-alone g.EF.Field.ops g.met.EF.Field.is_field.ring _ _ _ _ _ (ap g.EF.Field.number c.ZERO-claim.ensures ∙ g.met.EF.Field.zero_is) c.combine_evals.ensures)
+
+pub report_on-requires-clause-count : goal.report_on-requires-clause-count
+report_on-requires-clause-count g c =
+    sym (length-map c.in-Ok.challenges g.EF.Field.number)
+    ∙ ap length c.in-Ok.ensures.ok.drawn ∙ length-challenges _ _ _ _ _ ∙ length-given_rounds _ _ ∙ length-map _ _
+    ∙ sym c.args.proof.now.polynomial_evaluations.ok.0
+    ∙ not_other _ _ (λ differ. let clash = c.in-Ok.ensures.rounds.1 differ in cc) ∙ c.num_variables.ensures
+
+pub report_on-requires-clause-residual : goal.report_on-requires-clause-residual
+report_on-requires-clause-residual g c =
+    let N = g.EF.Field.number in
+    let o = g.EF.Field.ops in
+    let E = g.EF.ExtensionField.extension in
+    let job = c.args.job.now in
+    let f : ℕ → ℕ = λ b. g.EF.Algebra.embedding (entries g.F.Field.number job.table.items b) in
+    let n = constraint_arity job.constraint in
+    let p = stated (order_of job.order) n f (constraint_statements N job.constraint) (constraint_challenge N job.constraint) (constraint_power job.constraint) in
+    let seed = ap (λ d. words (quadratic_seed d evaluation job.pow_bits c.num_variables.result)) (sym g.met.EF.ExtensionField.degree_is)
+    ∙ ap (λ k. words (quadratic_seed E.degree evaluation job.pow_bits k)) c.num_variables.ensures in
+    let claim : N c.combine_evals.new.eval ≡ claim_of o p =
+    claim-batched o p _ (claim-alone o g.met.EF.Field.is_field.ring _ _ _ _ _ (ap N c.ZERO-claim.ensures ∙ g.met.EF.Field.zero_is) c.combine_evals.ensures) in
+    residual-checked (order_of job.order) o _ E job.pow_bits n f _ _ _ _ (length job.table.items) (check None) _ _ _ _ _ (rw (seed, claim) at c.in-Ok.ensures.ok) (length-map _ _ ∙ sym c.args.proof.now.polynomial_evaluations.ok.0 ∙ not_other _ _ (λ differ. let clash = c.in-Ok.ensures.rounds.1 differ in cc) ∙ c.num_variables.ensures)
+
+pub returns-clause-report : goal.returns-clause-report
+returns-clause-report g c =
+    let N = g.EF.Field.number in
+    let o = g.EF.Field.ops in
+    let E = g.EF.ExtensionField.extension in
+    let job = c.args.job.now in
+    let f : ℕ → ℕ = λ b. g.EF.Algebra.embedding (entries g.F.Field.number job.table.items b) in
+    let n = constraint_arity job.constraint in
+    let p = stated (order_of job.order) n f (constraint_statements N job.constraint) (constraint_challenge N job.constraint) (constraint_power job.constraint) in
+    let seed = ap (λ d. words (quadratic_seed d evaluation job.pow_bits c.num_variables.result)) (sym g.met.EF.ExtensionField.degree_is)
+    ∙ ap (λ k. words (quadratic_seed E.degree evaluation job.pow_bits k)) c.num_variables.ensures in
+    let claim : N c.combine_evals.new.eval ≡ claim_of o p =
+    claim-batched o p _ (claim-alone o g.met.EF.Field.is_field.ring _ _ _ _ _ (ap N c.ZERO-claim.ensures ∙ g.met.EF.Field.zero_is) c.combine_evals.ensures) in
+    let proof = c.args.proof.now in
+    let rounds = not_other _ _ (λ differ. let clash = c.in-Ok.ensures.rounds.1 differ in cc) in
+    let found = not_other _ _ (λ differ. let clash = c.in-Ok.ensures.witnesses.1 (rounds, differ) in cc) in
+    IfOk-weaker c.report_on.result _ _
+    (λ r is. report-checked (order_of job.order) o _ E job.pow_bits n f _ _ _ _ (length job.table.items) _ _ _ _ _ _ (rw (seed, claim) at c.in-Ok.ensures.ok)
+    (length-map _ _ ∙ sym proof.polynomial_evaluations.ok.0 ∙ rounds ∙ c.num_variables.ensures) _
+    (length-map _ _ ∙ sym proof.pow_witnesses.ok.0 ∙ found ∙ ap (witness_count job.pow_bits) c.num_variables.ensures) is)
+    c.report_on.ensures.figures
+
+pub returns-clause-caused : goal.returns-clause-caused
+returns-clause-caused g c = λ e is.
+    let N = g.EF.Field.number in
+    let o = g.EF.Field.ops in
+    let E = g.EF.ExtensionField.extension in
+    let job = c.args.job.now in
+    let f : ℕ → ℕ = λ b. g.EF.Algebra.embedding (entries g.F.Field.number job.table.items b) in
+    let n = constraint_arity job.constraint in
+    let p = stated (order_of job.order) n f (constraint_statements N job.constraint) (constraint_challenge N job.constraint) (constraint_power job.constraint) in
+    let seed = ap (λ d. words (quadratic_seed d evaluation job.pow_bits c.num_variables.result)) (sym g.met.EF.ExtensionField.degree_is)
+    ∙ ap (λ k. words (quadratic_seed E.degree evaluation job.pow_bits k)) c.num_variables.ensures in
+    let claim : N c.combine_evals.new.eval ≡ claim_of o p =
+    claim-batched o p _ (claim-alone o g.met.EF.Field.is_field.ring _ _ _ _ _ (ap N c.ZERO-claim.ensures ∙ g.met.EF.Field.zero_is) c.combine_evals.ensures) in
+    let proof = c.args.proof.now in
+    let rounds = not_other _ _ (λ differ. let clash = c.in-Ok.ensures.rounds.1 differ in cc) in
+    let found = not_other _ _ (λ differ. let clash = c.in-Ok.ensures.witnesses.1 (rounds, differ) in cc) in
+    elim (on_err c.report_on.result e is c.report_on.ensures.causes) [
+      | inl memory ↦ (let none : e ≡ NoMemory = cc in caused-memory _ _ _ _ _ _ (case_in g.F.Field.number N g.EF.Algebra.embedding job) _ e _ none)
+      | inr later ↦ let verdict : e ≡ Unbuilt Verdict = cc in caused-lucky _ _ _ _ _ _ (case_in g.F.Field.number N g.EF.Algebra.embedding job) _ e _ verdict (record {
+        report = figures_of o p (messages_in N proof) (witnesses_in g.F.Field.number proof) (map N c.in-Ok.challenges);
+        audited = report-checked (order_of job.order) o _ E job.pow_bits n f _ _ _ _ (length job.table.items) _ _ _ _ _ _ (rw (seed, claim) at c.in-Ok.ensures.ok)
+            (length-map _ _ ∙ sym proof.polynomial_evaluations.ok.0 ∙ rounds ∙ c.num_variables.ensures) _
+            (length-map _ _ ∙ sym proof.pow_witnesses.ok.0 ∙ found ∙ ap (witness_count job.pow_bits) c.num_variables.ensures) refl;
+        lucky = c.report_on.ensures.lucky later;
+      })
+    ]
+
+pub returns-in-Err-clause-caused : goal.returns-in-Err-clause-caused
+returns-in-Err-clause-caused g c = λ e is.
+    let N = g.EF.Field.number in
+    let o = g.EF.Field.ops in
+    let E = g.EF.ExtensionField.extension in
+    let job = c.args.job.now in
+    let f : ℕ → ℕ = λ b. g.EF.Algebra.embedding (entries g.F.Field.number job.table.items b) in
+    let n = constraint_arity job.constraint in
+    let bits = job.pow_bits in
+    let p = stated (order_of job.order) n f (constraint_statements N job.constraint) (constraint_challenge N job.constraint) (constraint_power job.constraint) in
+    let proof = c.args.proof.now in
+    let given = given_in g.F.Field.number N proof in
+    let seed = ap (λ d. words (quadratic_seed d evaluation bits c.num_variables.result)) (sym g.met.EF.ExtensionField.degree_is)
+    ∙ ap (λ k. words (quadratic_seed E.degree evaluation bits k)) c.num_variables.ensures in
+    let claim : N c.combine_evals.new.eval ≡ claim_of o p =
+    claim-batched o p _ (claim-alone o g.met.EF.Field.is_field.ring _ _ _ _ _ (ap N c.ZERO-claim.ensures ∙ g.met.EF.Field.zero_is) c.combine_evals.ensures) in
+    let ms : length given.messages ≡ vec_len proof.polynomial_evaluations = length-map _ _ ∙ sym proof.polynomial_evaluations.ok.0 in
+    let ws : length given.witnesses ≡ vec_len proof.pow_witnesses = length-map _ _ ∙ sym proof.pow_witnesses.ok.0 in
+    let same : c.refusal.result ≡ e = cc in
+    let told = c.refusal.ensures in
+    let vars = c.num_variables.ensures in
+    elim (eqb_tells (vec_len proof.polynomial_evaluations) c.num_variables.result) [
+      | inr apart ↦
+          let refused = c.in-Err.ensures.rounds.1 apart.1 in
+          let error_is : c.in-Err.error ≡ replay.RoundCountMismatch c.num_variables.result (vec_len proof.polynomial_evaluations) = cc in
+          let e_is : e ≡ RoundCountMismatch n (length given.messages) = sym same ∙ told ∙ ap refusal_by error_is ∙ ap (λ k. RoundCountMismatch k (vec_len proof.polynomial_evaluations)) vars ∙ ap (RoundCountMismatch n) (sym ms) in
+          caused-rounds _ _ _ _ _ _ (case_in g.F.Field.number N g.EF.Algebra.embedding job) _ e _ n (length given.messages) e_is (count-rounds n bits given (λ equal. apart.1 (sym ms ∙ equal ∙ sym vars)))
+          (c.in-Err.ensures.counted (inl apart.1)).0
+      | inl rounds ↦ elim (eqb_tells (vec_len proof.pow_witnesses) (witness_count bits c.num_variables.result)) [
+        | inr apart ↦
+            let refused = c.in-Err.ensures.witnesses.1 (rounds.1, apart.1) in
+            let error_is : c.in-Err.error ≡ replay.PowWitnessCountMismatch (witness_count bits c.num_variables.result) (vec_len proof.pow_witnesses) = cc in
+            let e_is : e ≡ PowWitnessCountMismatch (witness_count bits n) (length given.witnesses) =
+            sym same ∙ told ∙ ap refusal_by error_is ∙ ap (λ k. PowWitnessCountMismatch (witness_count bits k) (vec_len proof.pow_witnesses)) vars ∙ ap (PowWitnessCountMismatch (witness_count bits n)) (sym ws) in
+            caused-witnesses _ _ _ _ _ _ (case_in g.F.Field.number N g.EF.Algebra.embedding job) _ e _ (witness_count bits n) (length given.witnesses) e_is
+            (count-witnesses n bits given (ms ∙ rounds.1 ∙ vars) (λ equal. apart.1 (sym ws ∙ equal ∙ ap (witness_count bits) (sym vars))))
+            (c.in-Err.ensures.counted (inr apart.1)).0
+        | inl found ↦ elim c.in-Err.ensures.causes [
+          | inl differs ↦ absurd (differs rounds.1)
+          | inr more ↦ elim more [
+            | inl differs ↦ absurd (differs found.1)
+            | inr last ↦ elim last [
+              | inl memory ↦
+                  let error_is : c.in-Err.error ≡ replay.NoMemory = cc in
+                  caused-memory _ _ _ _ _ _ (case_in g.F.Field.number N g.EF.Algebra.embedding job) _ e _ (sym same ∙ told ∙ ap refusal_by error_is)
+              | inr invalid ↦
+                  let named = invalid_is _ invalid in
+                  let error_is : c.in-Err.error ≡ replay.InvalidPowWitness named.0 named.1 = cc in
+                  let at = c.in-Err.ensures.invalid named.0 named.1 named.2 in
+                  caused-invalid _ _ _ _ _ _ (case_in g.F.Field.number N g.EF.Algebra.embedding job) _ e given named.0 named.1 (sym same ∙ told ∙ ap refusal_by error_is) at.0 (record { claim = N c.verify_rounds.new.claimed_sum; at = rw (seed, claim) at at.1 })
+            ]
+          ]
+        ]
+      ]
+    ]
