@@ -190,6 +190,21 @@ fn batches_follow_on_each_other(rt: HostRuntime) -> Result<(), Fail> {
 }
 
 #[test]
+fn a_constraint_is_combined_into_a_pair(rt: HostRuntime) -> Result<(), Fail> {
+    let evals = table(rt.alloc(), &[1, 2, 3, 4])?;
+    let weights = table(rt.alloc(), &[0, 0, 0, 0])?;
+    let mut pair = ProductPolynomial::new_unpacked(VariableOrder::Suffix, evals, weights);
+    let mut sum = pair.dot_product();
+    assert_eq!(rt; sum.index(), 0);
+    let constraint = one_claim(rt.alloc(), &[0, 1], 2)?;
+    pair.combine(rt.alloc(), &mut sum, &constraint)?;
+    assert!(rt; have_numbers(pair.weights(rt.alloc())?.as_slice(), &[0, 1, 0, 0]));
+    assert!(rt; have_numbers(pair.evals_view(), &[1, 2, 3, 4]));
+    assert_eq!(rt; sum.index(), 2);
+    Ok(())
+}
+
+#[test]
 fn a_true_constraint_is_taken_in(rt: HostRuntime) -> Result<(), Fail> {
     let mut prover = prover_of(rt.alloc(), VariableOrder::Prefix, &[0, 0, 0, 0])?;
     assert_eq!(rt; prover.claimed_sum().index(), 0);
