@@ -80,8 +80,8 @@ impl<F: Field, EF: ExtensionField<F>> SumcheckData<F, EF> {
 
     /// Plays a round of these values, appends it, and answers its challenge. What the values mean is the basis of the transcript's shape.
     ///
-    /// The refusals are those of [`ProverTranscript::round`], and leave the data as it was. Where the data has room for a round and the challenger for its
-    /// events, none of them is `NoMemory`, and the round takes no more room than that.
+    /// The refusals are those of [`ProverTranscript::round`], and leave the data as it was. Where the data has room for a round and the challenger for
+    /// its events, none of them is `NoMemory`, and the round takes no more room than that.
     pub fn observe_and_sample<C: Challenger<F>>(
         &mut self,
         transcript: &mut ProverTranscript<'_, C, F, EF>,

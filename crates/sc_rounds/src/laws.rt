@@ -19,9 +19,9 @@ use sc_statements::Constraint;
 use sc_table::{Basis, Point};
 use std::alloc::Global;
 
-/// Laws of the replay of a batch of rounds that was played onto empty data, in either order, at every difficulty, by whatever rules and extension: from
-/// the history and the claim with which the batch began it has a replay, every replay has its challenges and leaves its history and its claim, and no
-/// witness fails.
+/// Laws of the replay of a batch of rounds that was played onto empty data, in either order, at every difficulty, by whatever rules and extension:
+/// from the history and the claim with which the batch began it has a replay, every replay has its challenges and leaves its history and its claim,
+/// and no witness fails.
 pub fn replay_laws<EF: Field>()
     ensures replay { BatchesReplay EF.ops }
     ensures agree { ReplaysAgree EF.ops }

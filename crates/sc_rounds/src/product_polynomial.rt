@@ -149,8 +149,9 @@ impl<F: Field, EF: ExtensionField<F>> ProductPolynomial<F, EF> {
         dot(self.evals.as_slice(), weights)
     }
 
-    /// Plays a round: appends the message of the two tables to the data, binds both at its challenge, and moves the sum to the sent polynomial's value there,
-    /// which is the sum of the bound tables. A variable is left, the transcript has a round left, and `sum` is [`ProductPolynomial::dot_product`].
+    /// Plays a round: appends the message of the two tables to the data, binds both at its challenge, and moves the sum to the sent polynomial's value
+    /// there, which is the sum of the bound tables. A variable is left, the transcript has a round left, and `sum` is
+    /// [`ProductPolynomial::dot_product`].
     ///
     /// The refusals are those of [`SumcheckData::observe_and_sample`], and leave the pair, the data and the sum as they were.
     pub fn round<C: Challenger<F>>(

@@ -172,8 +172,8 @@ impl<F: Field, EF: ExtensionField<F>> SumcheckProver<F, EF> {
     /// [`Challenger::max_bits`], and answers their challenges in drawing order. A constraint, which is true as
     /// [`SumcheckProver::constraint_is_true`] tests, is taken in before the first round.
     ///
-    /// `NoWitness` names one of these rounds, and comes only where no element of the base field passes its test: the rounds before it are played, and the
-    /// data has as many more. After `NoMemory` some rounds are played, and the constraint is taken in or not; without a round nothing is appended.
+    /// `NoWitness` names one of these rounds, and comes only where no element of the base field passes its test: the rounds before it are played, and
+    /// the data has as many more. After `NoMemory` some rounds are played, and the constraint is taken in or not; without a round nothing is appended.
     pub fn compute_sumcheck_polynomials<C: Challenger<F>>(
         &mut self,
         alloc: Global,

@@ -51,8 +51,8 @@ impl SumcheckShape {
         }
     }
 
-    #[tactic(auto, using(crate::proofs::StepLaws::steps_more))]
     /// The steps of the batch, round after round: the two values, at a positive difficulty the witness, and the challenge.
+    #[tactic(auto, using(crate::proofs::StepLaws::steps_more))]
     pub fn pattern<F: Field, EF: ExtensionField<F>>(
         &self,
         alloc: Global,
@@ -80,8 +80,8 @@ impl SumcheckShape {
         Ok(separator)
     }
 
-    #[tactic(auto, using(crate::proofs::RoundWords::seed_none, crate::proofs::RoundWords::seed_some))]
     /// Observes the seed's words, or nothing for no rounds. A refusal leaves the history as it was.
+    #[tactic(auto, using(crate::proofs::RoundWords::seed_none, crate::proofs::RoundWords::seed_some))]
     pub fn seed<F: Field, EF: ExtensionField<F>, C: Challenger<F>>(
         &self,
         alloc: Global,
@@ -233,8 +233,8 @@ fn test_witness<F: Field, C: Challenger<F>>(
     }
 }
 
-/// The prover's side of a batch. It borrows the challenger, and must be spent by [`ProverTranscript::finish`] or [`ProverTranscript::abort`], which hand the challenger back as
-/// it then is.
+/// The prover's side of a batch. It borrows the challenger, and must be spent by [`ProverTranscript::finish`] or [`ProverTranscript::abort`], which hand
+/// the challenger back as it then is.
 pub struct ProverTranscript<'a, C: Challenger<F>, F: Field, EF> {
     challenger: &'a mut C,
     shape: SumcheckShape,
@@ -356,8 +356,8 @@ impl<'a, C: Challenger<F>, F: Field, EF: ExtensionField<F>> ProverTranscript<'a,
     }
 }
 
-/// The verifier's side of a batch. It borrows the challenger, and must be spent by [`VerifierTranscript::finish`] or [`VerifierTranscript::abort`], which hand the challenger back as
-/// it then is.
+/// The verifier's side of a batch. It borrows the challenger, and must be spent by [`VerifierTranscript::finish`] or [`VerifierTranscript::abort`],
+/// which hand the challenger back as it then is.
 pub struct VerifierTranscript<'a, C: Challenger<F>, F: Field, EF> {
     challenger: &'a mut C,
     shape: SumcheckShape,
