@@ -1,13 +1,18 @@
 -- What a refusal is caused by.
-use Rattle.std.proofs.Common.{◌≡◌, ℕ, List, Option, Some, None, Result, Ok, Err, OnErr, refl, sym, ◌∙◌, ap, subst}
+use Rattle.std.proofs.Common.{◌≡◌, ℕ, zero, suc, true, false, List, [], ◌∷◌, ◌++◌, take, Option, Some, None, Result, Ok, Err, OnErr, sym, ◌∙◌, ap, subst, append_assoc}
+use Rattle.std.proofs.lemmas.List.{append-nil}
+use Rattle.std.specs.List.{slice_get}
 use Rattle.sc_definitions.specs.declared.events.Event.{Event}
 use Rattle.sc_definitions.specs.Ring.{Ops}
 use Rattle.sc_definitions.specs.Events.{Rules, Extension}
+use Rattle.sc_definitions.specs.Transcript.{Round, round_events, rounds_events}
+use Rattle.sc_definitions.specs.Replays.{round_passes, AllPass, given_rounds}
 use Rattle.sc_audit.specs.declared.error.AuditError.{AuditError}
-use Rattle.sc_audit.specs.declared.error.AuditError.TheVariants.{Unbuilt, RoundCountMismatch, PowWitnessCountMismatch, InvalidPowWitness, NoMemory}
-use Rattle.sc_audit.specs.declared.error.Form.TheVariants.{Verdict}
-use Rattle.sc_audit.specs.Cases.{Case, Task, Given, check}
-use Rattle.sc_audit.specs.Audits.{IsLucky, FailsAt, IsCaused}
+use Rattle.sc_audit.specs.declared.error.AuditError.TheVariants.{Unbuilt, JobShape, StrategyUnfit, FalseClaim, MissingSumcheckData, NoWitness, RoundCountMismatch, PowWitnessCountMismatch, InvalidPowWitness, NoMemory}
+use Rattle.sc_audit.specs.declared.error.Form.TheVariants.{Mode, Verdict}
+use Rattle.sc_audit.specs.Cases.{Case, Task, Given, build, check}
+use Rattle.sc_audit.specs.Refusals.{or_later, mode_refusal, shape_refusal, task_refusal, refusal_of}
+use Rattle.sc_audit.specs.Audits.{begun, IsLucky, FailsAt, IsFailing, IsCaused, PassesAll, IsValid, MayMeet}
 
 -- what holds of a refusal
 pub on_err : {T E : Type 0} {P : Type 0} (r : Result T E) (e : E) → r ≡ Err e → OnErr r P → P
@@ -29,3 +34,44 @@ module _ (first : Option AuditError) (o : Ops) (R : Rules) (E : Extension) (size
 
   pub caused-invalid : (given : Given) (i d : ℕ) → e ≡ InvalidPowWitness i d → d ≡ k.bits → FailsAt o R E h k given i h' → IsCaused first o R E size h k (check (Some given)) e h'
   caused-invalid given i d is same found = subst (λ t. IsCaused first o R E size h k (check (Some given)) t h') (sym is) (same, found)
+
+-- nothing earlier refuses: the refusal is that of what is done
+pub no_earlier : (o : Ops) (max_bits : ℕ) (k : Case) → mode_refusal k.task ≡ None → shape_refusal max_bits k ≡ None → refusal_of o max_bits k ≡ task_refusal o k.problem k.bits k.task
+no_earlier o max_bits k mode shape =
+    ap (λ t. or_later t (or_later (shape_refusal max_bits k) (task_refusal o k.problem k.bits k.task))) mode
+    ∙ ap (λ t. or_later t (task_refusal o k.problem k.bits k.task)) shape
+
+-- a round of which each witness passes
+passes_at : (R : Rules) (E : Extension) (bits : ℕ) (h : List Event) (rounds : List Round) (i : ℕ) (r : Round) → AllPass R E bits h rounds → slice_get rounds i ≡ Some r →
+    round_passes R E bits (h ++ rounds_events E bits (take i rounds)) r ≡ true
+passes_at R E bits h [] i r p is = cc
+passes_at R E bits h (q ∷ rounds) zero r p is =
+    let same : q ≡ r = cc in
+    ap (λ t. round_passes R E bits t r) (append-nil h) ∙ ap (round_passes R E bits h) (sym same) ∙ p.0
+passes_at R E bits h (q ∷ rounds) (suc i) r p is =
+    ap (λ t. round_passes R E bits t r) (sym (append_assoc h (round_events E bits q) (rounds_events E bits (take i rounds))))
+    ∙ passes_at R E bits (h ++ round_events E bits q) rounds i r p.1 is
+
+-- no round fails where all pass
+not_failing : (o : Ops) (R : Rules) (E : Extension) (h : List Event) (k : Case) (i : ℕ) (h' : List Event) (task : Task) → PassesAll R E h k task → IsFailing o R E h k task i h' → ⊥
+not_failing o R E h k i h' (build strategy) all fails = fails
+not_failing o R E h k i h' (check None) all fails = fails
+not_failing o R E h k i h' (check (Some given)) all fails =
+    let passes : round_passes R E k.bits fails.at.before fails.at.round ≡ true =
+    ap (λ t. round_passes R E k.bits t fails.at.round) fails.at.replays.history ∙ passes_at R E k.bits (begun E h k) (given_rounds given.messages given.witnesses) i fails.at.round all fails.at.is in
+    let clash : true ≡ false = sym passes ∙ fails.at.fails in cc
+
+-- what a valid case may meet
+pub valid-answered : (o : Ops) (R : Rules) (E : Extension) (size : ℕ) (h : List Event) (k : Case) (h' : List Event) (e : AuditError) →
+    IsValid o R E h k → IsCaused (refusal_of o R.max_bits k) o R E size h k k.task e h' → MayMeet e
+valid-answered o R E size h k h' (Unbuilt Mode) valid found = (let clash = sym valid.fits ∙ found.0 in cc)
+valid-answered o R E size h k h' (Unbuilt Verdict) valid found = tt
+valid-answered o R E size h k h' (JobShape fault) valid found = (let clash = sym valid.fits ∙ found.0 in cc)
+valid-answered o R E size h k h' (StrategyUnfit fault) valid found = (let clash = sym valid.fits ∙ found.0 in cc)
+valid-answered o R E size h k h' (FalseClaim i a b) valid found = (let clash = sym valid.fits ∙ found.0 in cc)
+valid-answered o R E size h k h' (MissingSumcheckData n) valid found = (let clash = sym valid.fits ∙ found.0 in cc)
+valid-answered o R E size h k h' (RoundCountMismatch n m) valid found = (let clash = sym valid.fits ∙ found.0 in cc)
+valid-answered o R E size h k h' (PowWitnessCountMismatch n m) valid found = (let clash = sym valid.fits ∙ found.0 in cc)
+valid-answered o R E size h k h' (InvalidPowWitness i d) valid found = absurd (not_failing o R E h k i h' k.task valid.passes found.1)
+valid-answered o R E size h k h' (NoWitness i) valid found = tt
+valid-answered o R E size h k h' NoMemory valid found = tt

@@ -78,4 +78,3 @@ fn check_mode<F: Field, EF: ExtensionField<F>>(mode: &Mode<F, EF>) -> Result<(),
         Mode::Check(_) => Ok(()),
     }
 }
-

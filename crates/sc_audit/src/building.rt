@@ -136,7 +136,10 @@ fn play<F: Field, EF: ExtensionField<F>, C: Challenger<F>>(
 }
 
 // The table of the images in the extension.
-fn embedded<F: Field, EF: ExtensionField<F>>(alloc: Global, table: &[F]) -> Result<Vec<EF>, NoMemory>
+fn embedded<F: Field, EF: ExtensionField<F>>(
+    alloc: Global,
+    table: &[F],
+) -> Result<Vec<EF>, NoMemory>
     ensures { IfOk result (λ v. map EF.number v.items ≡ map (λ x. EF.embedding (F.number x)) table.now) }
 {
     let mut images = Vec::with_capacity(alloc, table.len())?;
@@ -145,4 +148,3 @@ fn embedded<F: Field, EF: ExtensionField<F>>(alloc: Global, table: &[F]) -> Resu
     }
     Ok(images)
 }
-

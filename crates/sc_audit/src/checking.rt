@@ -179,7 +179,11 @@ fn verdict_on<F: Field, EF: ExtensionField<F>>(
 }
 
 // The point that challenges in drawing order make.
-fn point_at<EF: Field>(alloc: Global, order: VariableOrder, challenges: &Point<EF>) -> Result<Point<EF>, NoMemory>
+fn point_at<EF: Field>(
+    alloc: Global,
+    order: VariableOrder,
+    challenges: &Point<EF>,
+) -> Result<Point<EF>, NoMemory>
     ensures { IfOk result (λ p. map EF.number p ≡ point_of (order_of order) (map EF.number challenges.now)) }
 {
     match order {

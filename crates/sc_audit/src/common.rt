@@ -40,11 +40,13 @@ pub(crate) fn refusal(error: SumcheckError) -> AuditError
 }
 
 // The table of a job.
-pub(crate) fn table_of_job<F: Field, EF: ExtensionField<F>>(alloc: Global, job: &Job<F, EF>) -> Result<Poly<F>, NoMemory>
+pub(crate) fn table_of_job<F: Field, EF: ExtensionField<F>>(
+    alloc: Global,
+    job: &Job<F, EF>,
+) -> Result<Poly<F>, NoMemory>
     requires { vec_len job.now.table ≡ 2 ^ constraint_arity job.now.constraint }
     ensures variables { IfOk result (λ p. variables_of p ≡ constraint_arity job.now.constraint) }
     ensures table { IfOk result (λ p. table_of F.number p ≡ entries F.number job.now.table.items) }
 {
     Ok(Poly::new(Vec::from_slice(alloc, &job.table)?))
 }
-

@@ -60,21 +60,13 @@ pub enum AuditError {
 pub enum ShapeFault {
     /// The table's length is no power of two up to 2^24.
     #[error("a table of {len} entries is none of 2^n entries with n at most 24")]
-    TableLength {
-        len: usize,
-    },
+    TableLength { len: usize },
     /// The difficulty is above the challenger's greatest one.
     #[error("the difficulty of {bits} bits is above the greatest one, {bound}")]
-    Difficulty {
-        bits: usize,
-        bound: usize,
-    },
+    Difficulty { bits: usize, bound: usize },
     /// The statements are on tables of another number of variables than the table has.
     #[error("the table has {expected} variables, but the statements are on {actual}")]
-    Arity {
-        expected: usize,
-        actual: usize,
-    },
+    Arity { expected: usize, actual: usize },
 }
 
 /// Why a small-value strategy does not fit a job.
@@ -82,20 +74,13 @@ pub enum ShapeFault {
 pub enum FitFault {
     /// It is asked for no variable, or for more than the table has or than 12.
     #[error("{variables} variables are outside 1 to {bound}")]
-    Variables {
-        variables: usize,
-        bound: usize,
-    },
+    Variables { variables: usize, bound: usize },
     /// This statement is a select.
     #[error("statement {statement} is a select")]
-    Select {
-        statement: usize,
-    },
+    Select { statement: usize },
     /// This statement is a successor with a selector.
     #[error("statement {statement} has a selector")]
-    Selector {
-        statement: usize,
-    },
+    Selector { statement: usize },
 }
 
 /// What is not built yet.

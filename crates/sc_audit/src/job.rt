@@ -11,9 +11,7 @@ pub enum Strategy {
     /// On the table of their images in a representation.
     Represented,
     /// The first rounds on the table of base elements, for so many variables.
-    SmallValue {
-        variables: usize,
-    },
+    SmallValue { variables: usize },
 }
 
 /// What is done with a table and its statements.

@@ -92,8 +92,8 @@ returns-clause-caused g c = λ e is.
     let rounds = not_other _ _ (λ differ. let clash = c.in-Ok.ensures.rounds.1 differ in cc) in
     let found = not_other _ _ (λ differ. let clash = c.in-Ok.ensures.witnesses.1 (rounds, differ) in cc) in
     elim (on_err c.report_on.result e is c.report_on.ensures.causes) [
-      | inl memory ↦ (let none : e ≡ NoMemory = cc in caused-memory _ _ _ _ _ _ (case_in g.F.Field.number N g.EF.Algebra.embedding job) _ e _ none)
-      | inr later ↦ let verdict : e ≡ Unbuilt Verdict = cc in caused-lucky _ _ _ _ _ _ (case_in g.F.Field.number N g.EF.Algebra.embedding job) _ e _ verdict (record {
+      | inl memory ↦ (let none : e ≡ NoMemory = cc in caused-memory _ _ _ _ g.F.Field.ops.size _ (case_in g.F.Field.number N g.EF.Algebra.embedding job) _ e _ none)
+      | inr later ↦ let verdict : e ≡ Unbuilt Verdict = cc in caused-lucky _ _ _ _ g.F.Field.ops.size _ (case_in g.F.Field.number N g.EF.Algebra.embedding job) _ e _ verdict (record {
         report = figures_of o p (messages_in N proof) (witnesses_in g.F.Field.number proof) (map N c.in-Ok.challenges);
         audited = report-checked (order_of job.order) o _ E job.pow_bits n f _ _ _ _ (length job.table.items) _ _ _ _ _ _ (rw (seed, claim) at c.in-Ok.ensures.ok)
             (length-map _ _ ∙ sym proof.polynomial_evaluations.ok.0 ∙ rounds ∙ c.num_variables.ensures) _
@@ -128,7 +128,7 @@ returns-in-Err-clause-caused g c = λ e is.
           let refused = c.in-Err.ensures.rounds.1 apart.1 in
           let error_is : c.in-Err.error ≡ replay.RoundCountMismatch c.num_variables.result (vec_len proof.polynomial_evaluations) = cc in
           let e_is : e ≡ RoundCountMismatch n (length given.messages) = sym same ∙ told ∙ ap refusal_by error_is ∙ ap (λ k. RoundCountMismatch k (vec_len proof.polynomial_evaluations)) vars ∙ ap (RoundCountMismatch n) (sym ms) in
-          caused-rounds _ _ _ _ _ _ (case_in g.F.Field.number N g.EF.Algebra.embedding job) _ e _ n (length given.messages) e_is (count-rounds n bits given (λ equal. apart.1 (sym ms ∙ equal ∙ sym vars)))
+          caused-rounds _ _ _ _ g.F.Field.ops.size _ (case_in g.F.Field.number N g.EF.Algebra.embedding job) _ e _ n (length given.messages) e_is (count-rounds n bits given (λ equal. apart.1 (sym ms ∙ equal ∙ sym vars)))
           (c.in-Err.ensures.counted (inl apart.1)).0
       | inl rounds ↦ elim (eqb_tells (vec_len proof.pow_witnesses) (witness_count bits c.num_variables.result)) [
         | inr apart ↦
@@ -136,7 +136,7 @@ returns-in-Err-clause-caused g c = λ e is.
             let error_is : c.in-Err.error ≡ replay.PowWitnessCountMismatch (witness_count bits c.num_variables.result) (vec_len proof.pow_witnesses) = cc in
             let e_is : e ≡ PowWitnessCountMismatch (witness_count bits n) (length given.witnesses) =
             sym same ∙ told ∙ ap refusal_by error_is ∙ ap (λ k. PowWitnessCountMismatch (witness_count bits k) (vec_len proof.pow_witnesses)) vars ∙ ap (PowWitnessCountMismatch (witness_count bits n)) (sym ws) in
-            caused-witnesses _ _ _ _ _ _ (case_in g.F.Field.number N g.EF.Algebra.embedding job) _ e _ (witness_count bits n) (length given.witnesses) e_is
+            caused-witnesses _ _ _ _ g.F.Field.ops.size _ (case_in g.F.Field.number N g.EF.Algebra.embedding job) _ e _ (witness_count bits n) (length given.witnesses) e_is
             (count-witnesses n bits given (ms ∙ rounds.1 ∙ vars) (λ equal. apart.1 (sym ws ∙ equal ∙ ap (witness_count bits) (sym vars))))
             (c.in-Err.ensures.counted (inr apart.1)).0
         | inl found ↦ elim c.in-Err.ensures.causes [
@@ -146,12 +146,12 @@ returns-in-Err-clause-caused g c = λ e is.
             | inr last ↦ elim last [
               | inl memory ↦
                   let error_is : c.in-Err.error ≡ replay.NoMemory = cc in
-                  caused-memory _ _ _ _ _ _ (case_in g.F.Field.number N g.EF.Algebra.embedding job) _ e _ (sym same ∙ told ∙ ap refusal_by error_is)
+                  caused-memory _ _ _ _ g.F.Field.ops.size _ (case_in g.F.Field.number N g.EF.Algebra.embedding job) _ e _ (sym same ∙ told ∙ ap refusal_by error_is)
               | inr invalid ↦
                   let named = invalid_is _ invalid in
                   let error_is : c.in-Err.error ≡ replay.InvalidPowWitness named.0 named.1 = cc in
                   let at = c.in-Err.ensures.invalid named.0 named.1 named.2 in
-                  caused-invalid _ _ _ _ _ _ (case_in g.F.Field.number N g.EF.Algebra.embedding job) _ e given named.0 named.1 (sym same ∙ told ∙ ap refusal_by error_is) at.0 (record { claim = N c.verify_rounds.new.claimed_sum; at = rw (seed, claim) at at.1 })
+                  caused-invalid _ _ _ _ g.F.Field.ops.size _ (case_in g.F.Field.number N g.EF.Algebra.embedding job) _ e given named.0 named.1 (sym same ∙ told ∙ ap refusal_by error_is) at.0 (record { claim = N c.verify_rounds.new.claimed_sum; at = rw (seed, claim) at at.1 })
             ]
           ]
         ]
