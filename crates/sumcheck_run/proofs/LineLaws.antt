@@ -1,8 +1,7 @@
 -- Lines of rounds, one after the other.
-use Rattle.std.proofs.Common.{◌≡◌, ℕ, suc, ◌+◌, ◌<◌, List, [], ◌∷◌, ◌++◌, length, get_or, take, map, ap, sym, ◌∙◌, arith, append_assoc}
+use Rattle.std.proofs.Common.{◌≡◌, ℕ, zero, suc, ◌+◌, ◌<◌, ◌≤◌, min, refl, List, [], ◌∷◌, ◌++◌, length, get_or, take, map, ap, sym, ◌∙◌, arith, append_assoc}
 use Rattle.std.specs.Prelude.{codes, decimal}
 use Rattle.std.proofs.lemmas.List.{append-nil, take_more, map-append, length-map, length-take-le}
-use Rattle.sc_definitions.specs.Transcript.{Round}
 use Rattle.sumcheck_run.specs.Lines.{spaced, round_line, round_lines}
 
 -- a colon and two spaced texts
@@ -22,27 +21,44 @@ round_line-pair i a b r =
     ap (λ t. t ++ codes " challenge " ++ decimal r ++ codes "\n") (colon-spaced (codes "round " ++ decimal i) (decimal a) (decimal b))
 
 -- one line more
-round_lines-append : (i : ℕ) (rounds : List Round) (rs : List ℕ) (q : Round) (r : ℕ) → length rounds ≡ length rs →
-    round_lines i (rounds ++ q ∷ []) (rs ++ r ∷ []) ≡ round_lines i rounds rs ++ round_line (i + length rounds) q.values r
-round_lines-append i [] [] q r e = let none : i ≡ i + 0 = omega arith in append-nil (round_line i q.values r) ∙ ap (λ k. round_line k q.values r) none
-round_lines-append i [] (s ∷ rs) q r e = absurd (omega (arith, e))
-round_lines-append i (p ∷ rounds) [] q r e = absurd (omega (arith, e))
-round_lines-append i (p ∷ rounds) (s ∷ rs) q r e =
-    let more : suc i + length rounds ≡ i + suc (length rounds) = omega arith in
-    ap (λ t. round_line i p.values s ++ t) (round_lines-append (suc i) rounds rs q r (omega (arith, e)))
-    ∙ sym (append_assoc (round_line i p.values s) (round_lines (suc i) rounds rs) (round_line (suc i + length rounds) q.values r))
-    ∙ ap (λ k. round_line i p.values s ++ round_lines (suc i) rounds rs ++ round_line k q.values r) more
+round_lines-append : (i : ℕ) (messages : List (List ℕ)) (rs : List ℕ) (m : List ℕ) (r : ℕ) → length messages ≡ length rs →
+    round_lines i (messages ++ m ∷ []) (rs ++ r ∷ []) ≡ round_lines i messages rs ++ round_line (i + length messages) m r
+round_lines-append i [] [] m r e = let none : i ≡ i + 0 = omega arith in append-nil (round_line i m r) ∙ ap (λ k. round_line k m r) none
+round_lines-append i [] (s ∷ rs) m r e = absurd (omega (arith, e))
+round_lines-append i (p ∷ messages) [] m r e = absurd (omega (arith, e))
+round_lines-append i (p ∷ messages) (s ∷ rs) m r e =
+    let more : suc i + length messages ≡ i + suc (length messages) = omega arith in
+    ap (λ t. round_line i p s ++ t) (round_lines-append (suc i) messages rs m r (omega (arith, e)))
+    ∙ sym (append_assoc (round_line i p s) (round_lines (suc i) messages rs) (round_line (suc i + length messages) m r))
+    ∙ ap (λ k. round_line i p s ++ round_lines (suc i) messages rs ++ round_line k m r) more
+
+-- the first k + 1 of some images
+mapped-more : {X Y : Type 0} (f : X → Y) (xs : List X) (k : ℕ) (x : X) → k < length xs → x ≡ get_or xs k x →
+    map f (take (k + 1) xs) ≡ map f (take k xs) ++ f x ∷ []
+mapped-more f xs k x low is = ap (map f) (take_more xs k x low ∙ ap (λ t. take k xs ++ t ∷ []) (sym is)) ∙ map-append f (take k xs) (x ∷ [])
+
+mapped-count : {X Y : Type 0} (f : X → Y) (xs : List X) (k : ℕ) → k < length xs → length (map f (take k xs)) ≡ k
+mapped-count f xs k low = length-map (take k xs) f ∙ length-take-le k xs (omega (arith, low))
 
 -- the lines of the first k + 1 of some rounds
-pub round_lines-more : {X : Type 0} (sent : X → Round) (drawn : X → ℕ) (xs : List X) (k : ℕ) (x : X) → k < length xs → x ≡ get_or xs k x →
-    round_lines 0 (map sent (take (k + 1) xs)) (map drawn (take (k + 1) xs))
-    ≡ round_lines 0 (map sent (take k xs)) (map drawn (take k xs)) ++ round_line k (sent x).values (drawn x)
-round_lines-more sent drawn xs k x low is =
-    let longer = take_more xs k x low ∙ ap (λ t. take k xs ++ t ∷ []) (sym is) in
-    let same : length (map sent (take k xs)) ≡ length (map drawn (take k xs)) = length-map (take k xs) sent ∙ sym (length-map (take k xs) drawn) in
-    let count : 0 + length (map sent (take k xs)) ≡ k = omega (arith, length-map (take k xs) sent, length-take-le k xs (omega arith)) in
-    ap (λ t. round_lines 0 (map sent t) (map drawn t)) longer
-    ∙ ap (λ t. round_lines 0 t (map drawn (take k xs ++ x ∷ []))) (map-append sent (take k xs) (x ∷ []))
-    ∙ ap (round_lines 0 (map sent (take k xs) ++ sent x ∷ [])) (map-append drawn (take k xs) (x ∷ []))
-    ∙ round_lines-append 0 (map sent (take k xs)) (map drawn (take k xs)) (sent x) (drawn x) same
-    ∙ ap (λ n. round_lines 0 (map sent (take k xs)) (map drawn (take k xs)) ++ round_line n (sent x).values (drawn x)) count
+pub round_lines-more : {X Y : Type 0} (sent : X → List ℕ) (drawn : Y → ℕ) (xs : List X) (ys : List Y) (k : ℕ) (x : X) (y : Y) →
+    k < length xs → k < length ys → x ≡ get_or xs k x → y ≡ get_or ys k y →
+    round_lines 0 (map sent (take (k + 1) xs)) (map drawn (take (k + 1) ys))
+    ≡ round_lines 0 (map sent (take k xs)) (map drawn (take k ys)) ++ round_line k (sent x) (drawn y)
+round_lines-more sent drawn xs ys k x y low low' is is' =
+    let count : 0 + length (map sent (take k xs)) ≡ k = omega (arith, mapped-count sent xs k low) in
+    ap (λ t. round_lines 0 t (map drawn (take (k + 1) ys))) (mapped-more sent xs k x low is)
+    ∙ ap (round_lines 0 (map sent (take k xs) ++ sent x ∷ [])) (mapped-more drawn ys k y low' is')
+    ∙ round_lines-append 0 (map sent (take k xs)) (map drawn (take k ys)) (sent x) (drawn y) (mapped-count sent xs k low ∙ sym (mapped-count drawn ys k low'))
+    ∙ ap (λ n. round_lines 0 (map sent (take k xs)) (map drawn (take k ys)) ++ round_line n (sent x) (drawn y)) count
+
+-- there are no more lines than messages and challenges
+pub round_lines-all : {X Y : Type 0} (sent : X → List ℕ) (drawn : Y → ℕ) (i k : ℕ) (xs : List X) (ys : List Y) → min (length xs) (length ys) ≤ k →
+    round_lines i (map sent (take k xs)) (map drawn (take k ys)) ≡ round_lines i (map sent xs) (map drawn ys)
+round_lines-all sent drawn i zero [] ys few = refl
+round_lines-all sent drawn i zero (x ∷ xs) [] few = refl
+round_lines-all sent drawn i zero (x ∷ xs) (y ∷ ys) few = absurd (omega (arith, few))
+round_lines-all sent drawn i (suc k) [] ys few = refl
+round_lines-all sent drawn i (suc k) (x ∷ xs) [] few = refl
+round_lines-all sent drawn i (suc k) (x ∷ xs) (y ∷ ys) few =
+    ap (λ t. round_line i (sent x) (drawn y) ++ t) (round_lines-all sent drawn (suc i) k xs ys (omega (arith, few)))

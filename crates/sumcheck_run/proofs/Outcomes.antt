@@ -1,25 +1,20 @@
 -- How the replies to commands end.
-use Rattle.std.proofs.Common.{◌≡◌, ℕ, List, Bool, true, false, Option, Some, None, length, refl}
+use Rattle.std.proofs.Common.{◌≡◌, ℕ, List, [], Bool, true, false, Option, Some, None, length, refl}
 use Rattle.std.specs.Prelude.{if◌then◌else◌, nat_lt, Result, Ok, Err}
 use Rattle.serde_json.specs.Data.{Data}
 use Rattle.sc_forms.specs.Values.{value_of}
-use Rattle.sc_definitions.specs.declared.false_claim.FalseClaim.{FalseClaim}
 use Rattle.sumcheck_run.specs.declared.command.Command.{Command}
 use Rattle.sumcheck_run.specs.declared.command.Command.TheVariants.{Audit}
 use Rattle.sumcheck_run.specs.declared.job.Job.{Job}
-use Rattle.sumcheck_run.specs.Reply.{Reply, code_of, proof_refused, refused, usage}
+use Rattle.sumcheck_run.specs.Reply.{Reply, code_of, no_witness, proof_refused, refused, usage}
 use Rattle.sumcheck_run.specs.Job.{job_of}
 use Rattle.sumcheck_run.specs.declared.member.Misfit.{Misfit}
-use Rattle.sumcheck_run.specs.declared.job.Mode.{Mode}
-use Rattle.sumcheck_run.specs.declared.job.Mode.TheVariants.{Build, Check}
-use Rattle.sumcheck_run.specs.declared.shape.ShapeFault.{ShapeFault}
-use Rattle.sumcheck_run.specs.declared.shape.ProofFault.{ProofFault}
-use Rattle.sc_definitions.specs.Ring.{Ops}
-use Rattle.sc_definitions.specs.Events.{Rules}
-use Rattle.sc_definitions.specs.declared.events.Event.{Event}
-use Rattle.sc_definitions.specs.Problem.{Problem}
-use Rattle.sc_definitions.specs.Transcript.{Round}
-use Rattle.sumcheck_run.specs.Report.{built, verdict_reply, check_reply, proved, judge_mode, judge_shape, judge}
+use Rattle.sc_definitions.specs.Events.{own_extension}
+use Rattle.sc_audit.specs.declared.error.AuditError.{AuditError}
+use Rattle.sc_audit.specs.declared.error.AuditError.TheVariants.{Unbuilt, JobShape, StrategyUnfit, FalseClaim, MissingSumcheckData, RoundCountMismatch, PowWitnessCountMismatch, InvalidPowWitness, NoWitness, NoMemory}
+use Rattle.sc_audit.specs.Refusals.{refusal_of}
+use Rattle.sc_audit.specs.Figures.{Figures, Finding, holds, refuted, lucky}
+use Rattle.sumcheck_run.specs.Report.{field, case_of, rules_of, report_of, figure_lines, refusal_reply, finding_reply, reply_by, case_reply, judge}
 use Rattle.sumcheck_run.specs.Program.{max_input, too_long, bad_json, job_reply, audit_reply, value_reply, json_reply, reply_of}
 
 -- it is no usage
@@ -34,34 +29,35 @@ proof_refused-answer : (why : List ℕ) → IsAnswer (proof_refused why)
 unfolding proof_refused
 proof_refused-answer why e = cc
 
-built-answer : (o : Option FalseClaim) (text : List ℕ) → IsAnswer (built o text)
-built-answer (Some c) text = refused-answer _
-built-answer None text = λ e. cc
+no_witness-answer : (round : ℕ) → IsAnswer (no_witness round)
+unfolding no_witness
+no_witness-answer round e = cc
 
-verdict-answer : (b : Bool) (o : Option FalseClaim) (text : List ℕ) → IsAnswer (verdict_reply b o text)
-verdict-answer false o text = λ e. cc
-verdict-answer true None text = λ e. cc
-verdict-answer true (Some c) text = refused-answer _
+refusal-answer : (e : AuditError) → IsAnswer (refusal_reply e)
+refusal-answer (Unbuilt form) = refused-answer _
+refusal-answer (JobShape fault) = refused-answer _
+refusal-answer (StrategyUnfit fault) = refused-answer _
+refusal-answer (FalseClaim statement claimed actual) = refused-answer _
+refusal-answer (MissingSumcheckData rounds) = proof_refused-answer _
+refusal-answer (RoundCountMismatch expected actual) = proof_refused-answer _
+refusal-answer (PowWitnessCountMismatch expected actual) = proof_refused-answer _
+refusal-answer (InvalidPowWitness round bits) = proof_refused-answer _
+refusal-answer (NoWitness round) = no_witness-answer round
+refusal-answer NoMemory = refused-answer _
 
-check-answer : (o : Ops) (R : Rules) (h : List Event) (p : Problem) (rounds : List Round) → IsAnswer (check_reply o R h p rounds)
-unfolding check_reply
-check-answer o R h p rounds = verdict-answer _ _ _
+finding-answer : (finding : Finding) (lines : List ℕ) → IsAnswer (finding_reply finding lines)
+finding-answer holds lines = λ e. cc
+finding-answer refuted lines = λ e. cc
+finding-answer lucky lines = refused-answer _
 
-proved-answer : (o : Option ProofFault) (reply : Reply) → IsAnswer reply → IsAnswer (proved o reply)
-proved-answer (Some fault) reply a = proof_refused-answer _
-proved-answer None reply a = a
-
-mode-answer : (job : Job) (mode : Mode) → IsAnswer (judge_mode job mode)
-mode-answer job Build = built-answer _ _
-mode-answer job (Check proof) = proved-answer _ _ (check-answer _ _ _ _ _)
-
-shape-answer : (o : Option ShapeFault) (reply : Reply) → IsAnswer reply → IsAnswer (judge_shape o reply)
-shape-answer (Some fault) reply a = refused-answer _
-shape-answer None reply a = a
+reply-answer : (first : Option AuditError) (report : Figures) → IsAnswer (reply_by first report)
+reply-answer (Some e) report = refusal-answer e
+reply-answer None report = finding-answer report.finding (figure_lines report)
 
 judge-answer : (job : Job) → IsAnswer (judge job)
-unfolding judge
-judge-answer job = shape-answer _ _ (mode-answer job job.mode)
+unfolding judge case_reply
+judge-answer job =
+    reply-answer (refusal_of field (rules_of job).max_bits (case_of job)) (report_of field (rules_of job) own_extension [] (case_of job))
 
 job-answer : (r : Result Job Misfit) → IsAnswer (job_reply r)
 job-answer (Err fault) = refused-answer _

@@ -1,194 +1,171 @@
--- The answer to a job, from what was played on its tables.
-use Rattle.std.proofs.Common.{◌≡◌, ℕ, zero, suc, ◌^◌, ◌<◌, List, [], ◌∷◌, ◌++◌, slice_index, length, map, Bool, Option, None, Some, ◌==◌, ap, sym, ◌∙◌, arith}
+-- The answer to a job, from what an audit answers.
+use Rattle.std.proofs.lemmas.Bool.{eq-eqb}
+use Rattle.std.proofs.Common.{◌≡◌, ◌≢◌, ◌⊎◌, inl, inr, ℕ, zero, suc, List, [], slice_index, length, map, Option, None, Some, true, false, refl, ap, sym, subst, ◌∙◌, arith}
 use Rattle.sc_definitions.specs.declared.events.Event.{Event}
 use Rattle.sc_definitions.specs.declared.false_claim.FalseClaim.{FalseClaim}
-use Rattle.sc_definitions.specs.Ring.{Ops, IsRing, times}
-use Rattle.std.proofs.lemmas.List.{append-nil}
-use Rattle.sc_definitions.proofs.TableLaws.{value-same}
-use Rattle.sc_definitions.specs.Tables.{evaluation, prefix, value, bound_by, entries, rows_of}
-use Rattle.sc_definitions.specs.Rounds.{honest_pair, next_claim, claim_along}
-use Rattle.sc_definitions.specs.Statements.{Statement, first_false_claim, batched_weight, batched_claim}
-use Rattle.sc_definitions.specs.Events.{Rules, own_extension}
-use Rattle.sc_definitions.specs.Transcript.{Round, messages_of, challenges, IsBuilt}
-use Rattle.sc_definitions.specs.Problem.{Problem, weights_of, claim_of, honest_of, residual_of, eval_of, weight_value_of}
-use Rattle.sc_definitions.specs.Played.{IsPlayed}
-use Rattle.sc_definitions.proofs.RingLaws.{element-small}
+use Rattle.sc_definitions.specs.Ring.{Ops}
+use Rattle.sc_definitions.specs.Tables.{evaluation, entries, rows_of}
+use Rattle.sc_definitions.specs.Statements.{Statement}
+use Rattle.sc_table.specs.Strategy.{order_of}
+use Rattle.std.proofs.lemmas.List.{length-map}
+use Rattle.std.specs.Prelude.{Result, Ok, Err}
+use Rattle.sc_definitions.specs.Events.{Rules, Extension, own_extension}
+use Rattle.sc_definitions.specs.Transcript.{Round, messages_of, challenges, IsBuilt, built_rounds}
+use Rattle.sc_definitions.specs.Replays.{round_passes}
+use Rattle.sc_definitions.specs.Problem.{honest_of}
 use Rattle.sc_definitions.proofs.BuiltLaws.{built_rounds-unique}
 use Rattle.sc_definitions.proofs.BuildLaws.{build-residual}
 use Rattle.sc_field.specs.ResiduesLaws.{residues_field}
-use Rattle.sc_definitions.proofs.PlayedLaws.{value-played}
-use Rattle.sumcheck_run.specs.declared.job.Proof.{Proof}
-use Rattle.sumcheck_run.specs.declared.job.Mode.TheVariants.{Build, Check}
-use Rattle.sumcheck_run.specs.declared.shape.ShapeFault.{ShapeFault}
-use Rattle.sumcheck_run.specs.Shape.{shape_fault, proof_fault}
+use Rattle.sc_statements.specs.FalseClaims.{told}
+use Rattle.sc_audit.specs.declared.job.Strategy.{Strategy}
+use Rattle.sc_audit.specs.declared.job.Strategy.TheVariants.{Plain}
+use Rattle.sc_audit.specs.declared.error.AuditError.{AuditError}
+use Rattle.sc_audit.specs.declared.error.AuditError.TheVariants.{Unbuilt, JobShape, StrategyUnfit, FalseClaim as FalseClaimError, MissingSumcheckData, RoundCountMismatch, PowWitnessCountMismatch, InvalidPowWitness, NoWitness, NoMemory}
+use Rattle.sc_audit.specs.declared.error.Form.TheVariants.{Mode, Verdict}
+use Rattle.sc_audit.specs.Cases.{Case, Task, build, check}
+use Rattle.sc_audit.specs.Refusals.{or_later, mode_refusal, shape_refusal, task_refusal, false_refusal, refusal_of}
+use Rattle.sc_audit.specs.Figures.{Figures, finding_by, false_claim_of, is_matched, figures_of}
+use Rattle.sc_audit.specs.Audits.{begun, AreRounds, IsAudited, IsLucky, IsFailing, IsUnground, IsCaused, figures_from}
 use Rattle.sumcheck_run.specs.declared.job.Job.{Job}
-use Rattle.sumcheck_run.specs.Reply.{refused}
-use Rattle.sumcheck_run.specs.Lines.{claim_line, round_lines, residual_line, eval_line, weight_line, holds_line, shape_fault_text}
-use Rattle.sumcheck_run.specs.Report.{field, statement_of, prefix_problem, judge, judge_mode, judge_shape, build_reply, proved, rounds_in, problem_of, rules_of, rounds_of, challenges_of, report_of, build_report, is_matched, verdict_reply, replayed, check_reply, IsMatched}
-use Rattle.sumcheck_run.specs.Played.{IsReplayed}
-
--- ---- tables
+use Rattle.sumcheck_run.specs.declared.job.Mode.TheVariants.{Build}
+use Rattle.sumcheck_run.specs.declared.reply.Outcome.TheVariants.{Holds}
+use Rattle.sumcheck_run.specs.Report.{field, statement_of, problem_of, task_of, case_of, rules_of, refusal_reply, finding_reply, figures_reply, figure_lines, rounds_of, report_of, reply_by, case_reply, judge}
 
 -- the table of elements is that of their numbers
 pub entries-numbers : {X : Type 0} (number : X → ℕ) (xs : List X) (ns : List ℕ) → map number xs ≡ ns → entries number xs ≡ rows_of ns
 unfolding entries rows_of
 entries-numbers number xs ns is = ap (λ ys b. slice_index ys b) is
 
--- an entry is an element's number
-pub entry-below : {X : Type 0} (number : X → ℕ) (size : ℕ) → 0 < size → ((x : X) → number x < size) → (xs : List X) (b : ℕ) → entries number xs b < size
-unfolding entries
-entry-below number size some below [] b = some
-entry-below number size some below (x ∷ xs) zero = below x
-entry-below number size some below (x ∷ xs) (suc b) = entry-below number size some below xs b
+-- the case of elements is that of their numbers
+pub asked-case : {X : Type 0} (number : X → ℕ) (xs : List X) (n : ℕ) (ss : List Statement) (c i : ℕ) (t : Task) (job : Job) →
+    map number xs ≡ job.table → n ≡ job.variables → ss ≡ map statement_of job.claims → c ≡ job.batching → i ≡ 0 → t ≡ task_of job.mode →
+    ◌≡◌ {A = Case} (record {
+      rows = length xs;
+      bits = 0;
+      problem = record { basis = evaluation; order = order_of job.order; variables = n; table = entries number xs; statements = ss; batching = c; initial = i };
+      task = t;
+    }) (case_of job)
+asked-case number xs n ss c i t job is en es ec ei et =
+    let rows : length xs ≡ length job.table = sym (length-map xs number) ∙ ap length is in
+    rw (rows, entries-numbers number xs job.table is, en, es, ec, ei, et) refl
 
--- ---- the report of a build
+-- without a difficulty no round fails
+never-fails : (R : Rules) (E : Extension) (bits : ℕ) (h : List Event) (r : Round) → bits ≡ 0 → round_passes R E bits h r ≡ false → ⊥
+unfolding round_passes
+never-fails R E zero h r plain e = cc
+never-fails R E (suc bits) h r plain e = cc
 
-module _ (o : Ops) (ring : IsRing o) (R : Rules) (h : List Event) (n : ℕ) (f : ℕ → ℕ) (ss : List Statement) (c : ℕ) where
-  -- the batch is the problem's
-  pub weights-batched : (b x : ℕ) → x ≡ batched_weight o c 0 ss b → x ≡ weights_of o (prefix_problem n f ss c) b
-  unfolding weights_of
-  weights-batched b x is = is
+module _ (o : Ops) (R : Rules) (E : Extension) (h : List Event) (c : Case) (plain : c.bits ≡ 0) where
+  -- the rounds of an audit are the case's
+  rounds-are : (task : Task) (rounds : List Round) → length rounds ≡ c.problem.variables → AreRounds o R E (begun E h c) c task rounds →
+      rounds ≡ rounds_of o R E h c task
+  rounds-are (build strategy) rounds count are =
+      let honest = honest_of o c.problem in
+      built_rounds-unique honest R E (begun E h c) [] c.problem.variables rounds count
+      (subst (λ b. IsBuilt honest R E b (begun E h c) [] c.problem.variables rounds) plain are)
+  rounds-are (check None) rounds count are = are
+  rounds-are (check (Some given)) rounds count are = are
 
-  pub claim-batched : (x : ℕ) → x ≡ batched_claim o c 0 ss → x ≡ claim_of o (prefix_problem n f ss c)
-  unfolding claim_of
-  claim-batched x is = is
+  figures-are : (report : Figures) (h' : List Event) → IsAudited o R E h c c.task report h' → report ≡ report_of o R E h c
+  figures-are report h' a = a.figures ∙ ap (figures_from o R E h c) (rounds-are c.task a.rounds a.plays.count a.are)
 
-  -- the played rounds are the ones that the report has
-  rounds-built : (rounds : List Round) → n ≡ length rounds → IsBuilt (honest_pair evaluation prefix o f (weights_of o (prefix_problem n f ss c))) R own_extension 0 h [] n rounds →
-      rounds ≡ rounds_of o R h (prefix_problem n f ss c)
-  unfolding rounds_of honest_of
-  rounds-built rounds count built =
-      built_rounds-unique (honest_pair evaluation prefix o f (weights_of o (prefix_problem n f ss c))) R own_extension h [] n rounds (sym count) built
+  -- a refusal before a round is the answer
+  pub refused-reply : (e : AuditError) → refusal_of o R.max_bits c ≡ Some e → refusal_reply e ≡ case_reply o R E h c
+  unfolding case_reply
+  refused-reply e is = sym (ap (λ first. reply_by first (report_of o R E h c)) is)
 
-  challenges-built : (rounds : List Round) (rs : List ℕ) → rounds ≡ rounds_of o R h (prefix_problem n f ss c) → rs ≡ challenges R own_extension 0 h rounds →
-      rs ≡ challenges_of o R h (prefix_problem n f ss c)
-  unfolding challenges_of
-  challenges-built rounds rs same drawn = drawn ∙ ap (challenges R own_extension 0 h) same
+  -- else the report is
+  pub audited-reply : (report : Figures) (h' : List Event) → refusal_of o R.max_bits c ≡ None → IsAudited o R E h c c.task report h' →
+      figures_reply report ≡ case_reply o R E h c
+  unfolding case_reply
+  audited-reply report h' none a = ap figures_reply (figures-are report h' a) ∙ sym (ap (λ first. reply_by first (report_of o R E h c)) none)
 
-  residual-played : (rounds : List Round) (rs : List ℕ) (x : ℕ) → x ≡ claim_along (next_claim evaluation o) (claim_of o (prefix_problem n f ss c)) (messages_of rounds) rs →
-      x ≡ residual_of o (prefix_problem n f ss c) (messages_of rounds) rs
-  unfolding residual_of
-  residual-played rounds rs x is = is
+  -- where it has no verdict yet, that is refused
+  lucky-reply : (h' : List Event) → refusal_of o R.max_bits c ≡ None → IsLucky o R E h c c.task h' → refusal_reply (Unbuilt Verdict) ≡ case_reply o R E h c
+  lucky-reply h' none l =
+      sym (ap (λ finding. finding_reply finding (figure_lines l.report)) l.lucky) ∙ audited-reply l.report h' none l.audited
 
-  eval-played : (f₁ : ℕ → ℕ) (rs : List ℕ) → f₁ 0 < o.size → ((b : ℕ) → b < 2 ^ 0 → f₁ b ≡ bound_by evaluation prefix o rs 0 f b) →
-      f₁ 0 ≡ eval_of o (prefix_problem n f ss c) rs
-  unfolding eval_of
-  eval-played f₁ rs low at = sym (value-played prefix o ring f f₁ rs at ∙ element-small o ring (f₁ 0) low)
+  -- no witness is missing, and none fails
+  no-failure : (task : Task) (i : ℕ) (h' : List Event) → IsFailing o R E h c task i h' → ⊥
+  no-failure (build strategy) i h' f = f
+  no-failure (check None) i h' f = f
+  no-failure (check (Some given)) i h' f = never-fails R E c.bits f.at.before f.at.round plain f.at.fails
 
-  weight-played : (w₁ : ℕ → ℕ) (rs : List ℕ) → w₁ 0 < o.size → ((b : ℕ) → b < 2 ^ 0 → w₁ b ≡ bound_by evaluation prefix o rs 0 (weights_of o (prefix_problem n f ss c)) b) →
-      w₁ 0 ≡ weight_value_of o (prefix_problem n f ss c) rs
-  unfolding weight_value_of
-  weight-played w₁ rs low at = sym (value-played prefix o ring (weights_of o (prefix_problem n f ss c)) w₁ rs at ∙ element-small o ring (w₁ 0) low)
+  no-missing : (size : ℕ) (task : Task) (i : ℕ) → IsUnground o R E size h c task i → ⊥
+  no-missing size (build strategy) i u = omega (arith, u.positive, plain)
+  no-missing size (check proof) i u = u
 
-  -- the lines of what was played are the report
-  pub report-played : (rounds : List Round) (rs : List ℕ) (claim : ℕ) (f₁ w₁ : ℕ → ℕ) (claim₁ : ℕ) (h₁ : List Event) →
-      claim ≡ claim_of o (prefix_problem n f ss c) → f₁ 0 < o.size → w₁ 0 < o.size →
-      IsPlayed evaluation prefix o R own_extension 0 n f (weights_of o (prefix_problem n f ss c)) claim h rounds rs 0 f₁ w₁ claim₁ h₁ →
-      (claim_line claim ++ round_lines 0 rounds rs ++ residual_line claim₁ ++ eval_line (f₁ 0) ++ weight_line (w₁ 0)) ++ holds_line
-      ≡ build_report o R h (prefix_problem n f ss c)
-  unfolding build_report report_of
-  report-played rounds rs claim f₁ w₁ claim₁ h₁ claim_is low high p =
-      let q = prefix_problem n f ss c in
-      let count : n ≡ length rounds = omega (arith, p.count) in
-      let same : rounds ≡ rounds_of o R h q = rounds-built rounds count p.built in
-      let drawn : rs ≡ challenges_of o R h q = challenges-built rounds rs same p.drawn in
-      let along : claim₁ ≡ claim_along (next_claim evaluation o) (claim_of o q) (messages_of rounds) rs =
-      p.along ∙ ap (λ x. claim_along (next_claim evaluation o) x (messages_of rounds) rs) claim_is in
-      let residual : claim₁ ≡ residual_of o q (messages_of rounds) rs = residual-played rounds rs claim₁ along in
-      let eval : f₁ 0 ≡ eval_of o q rs = eval-played f₁ rs low p.evals in
-      let weight : w₁ 0 ≡ weight_value_of o q rs = weight-played w₁ rs high p.weights in
-      ap (λ x. (claim_line x ++ round_lines 0 rounds rs ++ residual_line claim₁ ++ eval_line (f₁ 0) ++ weight_line (w₁ 0)) ++ holds_line) claim_is
-      ∙ ap (λ x. (claim_line (claim_of o q) ++ round_lines 0 rounds rs ++ residual_line x ++ eval_line (f₁ 0) ++ weight_line (w₁ 0)) ++ holds_line) residual
-      ∙ ap (λ x. (claim_line (claim_of o q) ++ round_lines 0 rounds rs ++ residual_line (residual_of o q (messages_of rounds) rs) ++ eval_line x ++ weight_line (w₁ 0)) ++ holds_line) eval
-      ∙ ap (λ x. (claim_line (claim_of o q) ++ round_lines 0 rounds rs ++ residual_line (residual_of o q (messages_of rounds) rs) ++ eval_line (eval_of o q rs) ++ weight_line x) ++ holds_line) weight
-      ∙ ap (λ t. report_of o q t rs ++ holds_line) same
-      ∙ ap (λ t. report_of o q (rounds_of o R h q) t ++ holds_line) drawn
+  -- an answer without a report
+  pub caused-reply : (size : ℕ) (e : AuditError) (h' : List Event) → e ≢ NoMemory → refusal_of o R.max_bits c ≡ None →
+      IsCaused (refusal_of o R.max_bits c) o R E size h c c.task e h' → refusal_reply e ≡ case_reply o R E h c
+  caused-reply size (Unbuilt Mode) h' some none cause = refused-reply (Unbuilt Mode) cause.0
+  caused-reply size (Unbuilt Verdict) h' some none cause = lucky-reply h' none cause
+  caused-reply size (JobShape fault) h' some none cause = refused-reply (JobShape fault) cause.0
+  caused-reply size (StrategyUnfit fault) h' some none cause = refused-reply (StrategyUnfit fault) cause.0
+  caused-reply size (FalseClaimError i claimed actual) h' some none cause = refused-reply (FalseClaimError i claimed actual) cause.0
+  caused-reply size (MissingSumcheckData n) h' some none cause = refused-reply (MissingSumcheckData n) cause.0
+  caused-reply size (RoundCountMismatch n k) h' some none cause = refused-reply (RoundCountMismatch n k) cause.0
+  caused-reply size (PowWitnessCountMismatch n k) h' some none cause = refused-reply (PowWitnessCountMismatch n k) cause.0
+  caused-reply size (InvalidPowWitness i bits) h' some none cause = absurd (no-failure c.task i h' cause.1)
+  caused-reply size (NoWitness i) h' some none cause = absurd (no-missing size c.task i cause.0)
+  caused-reply size NoMemory h' some none cause = absurd (some refl)
 
-  -- the values at a point of as many coordinates
-  pub eval-at : (zs : List ℕ) (x : ℕ) → x ≡ value o f zs → x ≡ eval_of o (prefix_problem n f ss c) zs
-  unfolding eval_of
-  eval-at zs x is = is ∙ ap (value o f) (sym (append-nil zs))
+  -- the same of a result that is refused wherever there is a refusal
+  told-by : {T : Type 0} (result : Result T AuditError) (size : ℕ) (first : Option AuditError) (e : AuditError) (h' : List Event) → refusal_of o R.max_bits c ≡ first →
+      e ≢ NoMemory → result ≡ Err e → ((e' : AuditError) → first ≡ Some e' → (result ≡ Err e') ⊎ (result ≡ Err NoMemory)) →
+      IsCaused (refusal_of o R.max_bits c) o R E size h c c.task e h' → refusal_reply e ≡ case_reply o R E h c
+  told-by result size None e h' first some is told cause = caused-reply size e h' some first cause
+  told-by result size (Some e') e h' first some is told cause = elim (told e' refl) [
+    | inl t ↦ (let same : e ≡ e' = cc (is, t) in ap refusal_reply same ∙ refused-reply e' first)
+    | inr t ↦ (let same : e ≡ NoMemory = cc (is, t) in absurd (some same))
+  ]
 
-  pub weight-at : (zs : List ℕ) (w₁ : ℕ → ℕ) (x : ℕ) → length zs ≡ n → ((b : ℕ) → b < 2 ^ n → w₁ b ≡ batched_weight o c 0 ss b) → x ≡ value o w₁ zs →
-      x ≡ weight_value_of o (prefix_problem n f ss c) zs
-  unfolding weight_value_of
-  weight-at zs w₁ x size same is =
-      let power : 2 ^ length zs ≡ 2 ^ n = ap (λ k. 2 ^ k) size in
-      is ∙ value-same o w₁ (weights_of o (prefix_problem n f ss c)) zs (λ b low. weights-batched b (w₁ b) (same b (omega (arith, low, power))))
-      ∙ ap (value o (weights_of o (prefix_problem n f ss c))) (sym (append-nil zs))
+  pub told-reply : {T : Type 0} (result : Result T AuditError) (size : ℕ) (e : AuditError) (h' : List Event) → e ≢ NoMemory → result ≡ Err e →
+      ((e' : AuditError) → refusal_of o R.max_bits c ≡ Some e' → (result ≡ Err e') ⊎ (result ≡ Err NoMemory)) →
+      IsCaused (refusal_of o R.max_bits c) o R E size h c c.task e h' → refusal_reply e ≡ case_reply o R E h c
+  told-reply result size e h' some is told cause = told-by result size (refusal_of o R.max_bits c) e h' refl some is told cause
 
-  -- the lines of rounds that were replayed are their report
-  pub report-replayed : (rounds : List Round) (rs : List ℕ) (claim claim₁ x y : ℕ) (h₁ : List Event) → claim ≡ claim_of o (prefix_problem n f ss c) →
-      IsReplayed o R claim h rounds rs claim₁ h₁ → x ≡ eval_of o (prefix_problem n f ss c) rs → y ≡ weight_value_of o (prefix_problem n f ss c) rs →
-      claim_line claim ++ round_lines 0 rounds rs ++ residual_line claim₁ ++ eval_line x ++ weight_line y
-      ≡ report_of o (prefix_problem n f ss c) rounds (replayed R h rounds)
-  unfolding report_of
-  report-replayed rounds rs claim claim₁ x y h₁ claim_is p eval weight =
-      let q = prefix_problem n f ss c in
-      let residual : claim₁ ≡ residual_of o q (messages_of rounds) rs =
-      residual-played rounds rs claim₁ (p.along ∙ ap (λ t. claim_along (next_claim evaluation o) t (messages_of rounds) rs) claim_is) in
-      ap (λ t. claim_line t ++ round_lines 0 rounds rs ++ residual_line claim₁ ++ eval_line x ++ weight_line y) claim_is
-      ∙ ap (λ t. claim_line (claim_of o q) ++ round_lines 0 rounds rs ++ residual_line t ++ eval_line x ++ weight_line y) residual
-      ∙ ap (λ t. claim_line (claim_of o q) ++ round_lines 0 rounds rs ++ residual_line (residual_of o q (messages_of rounds) rs) ++ eval_line t ++ weight_line y) eval
-      ∙ ap (λ t. claim_line (claim_of o q) ++ round_lines 0 rounds rs ++ residual_line (residual_of o q (messages_of rounds) rs) ++ eval_line (eval_of o q rs) ++ weight_line t) weight
-      ∙ ap (report_of o q rounds) p.drawn
+-- where there is a report there was no refusal
+pub unrefused : {T : Type 0} (x : T) (result : Result T AuditError) (first : Option AuditError) → result ≡ Ok x →
+    ((e : AuditError) → first ≡ Some e → (result ≡ Err e) ⊎ (result ≡ Err NoMemory)) → first ≡ None
+unrefused x result None is told = refl
+unrefused x result (Some e) is told = elim (told e refl) [ inl t ↦ cc (is, t) | inr t ↦ cc (is, t) ]
 
-  -- the reply to rounds that were replayed
-  pub reply-replayed : (rounds : List Round) (rs : List ℕ) (claim claim₁ x y : ℕ) (h₁ : List Event) (text : List ℕ) (b : Bool) (found : Option FalseClaim) →
-      claim ≡ claim_of o (prefix_problem n f ss c) → IsReplayed o R claim h rounds rs claim₁ h₁ →
-      x ≡ eval_of o (prefix_problem n f ss c) rs → y ≡ weight_value_of o (prefix_problem n f ss c) rs →
-      text ≡ claim_line claim ++ round_lines 0 rounds rs ++ residual_line claim₁ ++ eval_line x ++ weight_line y →
-      b ≡ (claim₁ == times o x y) → found ≡ first_false_claim o n f 0 ss →
-      verdict_reply b found text ≡ check_reply o R h (prefix_problem n f ss c) rounds
-  unfolding check_reply
-  reply-replayed rounds rs claim claim₁ x y h₁ text b found claim_is p eval weight text_is matched found_is =
-      let q = prefix_problem n f ss c in
-      let residual : claim₁ ≡ residual_of o q (messages_of rounds) rs =
-      residual-played rounds rs claim₁ (p.along ∙ ap (λ t. claim_along (next_claim evaluation o) t (messages_of rounds) rs) claim_is) in
-      let told : b ≡ is_matched o q rounds (replayed R h rounds) =
-      matched ∙ ap (λ t. t == times o x y) residual ∙ ap (λ t. residual_of o q (messages_of rounds) rs == times o t y) eval
-      ∙ ap (λ t. residual_of o q (messages_of rounds) rs == times o (eval_of o q rs) t) weight ∙ ap (is_matched o q rounds) p.drawn in
-      ap (λ t. verdict_reply t found text) told
-      ∙ ap (λ t. verdict_reply (is_matched o q rounds (replayed R h rounds)) t text) found_is
-      ∙ ap (verdict_reply (is_matched o q rounds (replayed R h rounds)) (first_false_claim o n f 0 ss))
-      (text_is ∙ report-replayed rounds rs claim claim₁ x y h₁ claim_is p eval weight)
-
--- ---- the answer
-
-pub judged-shape : (job : Job) (len : ℕ) (fault : ShapeFault) → len ≡ length job.table → shape_fault len job.variables ≡ Some fault →
-    judge job ≡ refused (shape_fault_text fault)
+-- the answer to the case that a job is, under its challenger, is the job's
+pub judged : (job : Job) (R : Rules) (h : List Event) (c : Case) → R ≡ rules_of job → h ≡ [] → c ≡ case_of job → case_reply field R own_extension h c ≡ judge job
 unfolding judge
-judged-shape job len fault size is =
-    let reply = judge_mode job job.mode in
-    ap (λ t. judge_shape t reply) (ap (λ k. shape_fault k job.variables) (sym size) ∙ is)
+judged job R h c rules start case = cc (rules, start, case)
 
-judged-mode : (job : Job) (len : ℕ) → len ≡ length job.table → shape_fault len job.variables ≡ None → judge job ≡ judge_mode job job.mode
-unfolding judge
-judged-mode job len size is =
-    let reply = judge_mode job job.mode in
-    ap (λ t. judge_shape t reply) (ap (λ k. shape_fault k job.variables) (sym size) ∙ is)
+-- ---- a build
 
-pub judged-build : (job : Job) (len : ℕ) (R : Rules) (h : List Event) (p : Problem) (batching : ℕ) → len ≡ length job.table → shape_fault len job.variables ≡ None →
-    job.mode ≡ Build → R ≡ rules_of job → h ≡ [] → batching ≡ job.batching →
-    p ≡ prefix_problem job.variables (rows_of job.table) (map statement_of job.claims) batching → build_reply field R h p ≡ judge job
-judged-build job len R h p batching size fits mode rules start same is =
-    ap (λ t. build_reply field t h p) rules ∙ ap (λ t. build_reply field (rules_of job) t p) start
-    ∙ ap (build_reply field (rules_of job) []) (is ∙ ap (prefix_problem job.variables (rows_of job.table) (map statement_of job.claims)) same)
-    ∙ sym (judged-mode job len size fits ∙ ap (judge_mode job) mode)
+told-none : (found : Option FalseClaim) → false_refusal (told found) ≡ None → found ≡ None
+told-none None e = refl
+told-none (Some c) e = cc
 
-pub judged-check : (job : Job) (len n : ℕ) (R : Rules) (h : List Event) (p : Problem) (proof : Option Proof) (batching : ℕ) → len ≡ length job.table →
-    shape_fault len job.variables ≡ None → job.mode ≡ Check proof → R ≡ rules_of job → h ≡ [] → batching ≡ job.batching → n ≡ job.variables →
-    p ≡ prefix_problem job.variables (rows_of job.table) (map statement_of job.claims) batching →
-    proved (proof_fault n proof) (check_reply field R h p (rounds_in proof)) ≡ judge job
-judged-check job len n R h p proof batching size fits mode rules start same arity is =
-    ap (λ t. proved (proof_fault t proof) (check_reply field R h p (rounds_in proof))) arity
-    ∙ ap (λ t. proved (proof_fault job.variables proof) (check_reply field t h p (rounds_in proof))) rules
-    ∙ ap (λ t. proved (proof_fault job.variables proof) (check_reply field (rules_of job) t p (rounds_in proof))) start
-    ∙ ap (λ t. proved (proof_fault job.variables proof) (check_reply field (rules_of job) [] t (rounds_in proof)))
-    (is ∙ ap (prefix_problem job.variables (rows_of job.table) (map statement_of job.claims)) same)
-    ∙ sym (judged-mode job len size fits ∙ ap (judge_mode job) mode)
+or_later-none : (first later : Option AuditError) → or_later first later ≡ None → later ≡ None
+or_later-none None later e = e
+or_later-none (Some x) later e = cc
 
--- true statements leave the product of the two values
-pub matched : (job : Job) → IsMatched job
-unfolding IsMatched rounds_of challenges_of
-matched job none = build-residual field residues_field.ring (problem_of job) (rules_of job) own_extension [] tt none
+-- the statements of a build that is not refused are true
+all-true : (o : Ops) (max_bits : ℕ) (c : Case) (strategy : Strategy) → c.task ≡ build strategy → refusal_of o max_bits c ≡ None → false_claim_of o c.problem ≡ None
+all-true o max_bits c strategy task none =
+    told-none _ (sym (ap (task_refusal o c.problem c.bits) task)
+    ∙ or_later-none (shape_refusal max_bits c) _ (or_later-none (mode_refusal c.task) _ none))
+
+-- so it holds
+pub built_holds : (job : Job) → job.mode ≡ Build → refusal_of field (rules_of job).max_bits (case_of job) ≡ None → (judge job).outcome ≡ Holds
+unfolding judge case_reply figures_of
+built_holds job mode none =
+    let p = problem_of job in
+    let R = rules_of job in
+    let c = case_of job in
+    let start = begun own_extension [] c in
+    let rounds = built_rounds (honest_of field p) R own_extension start [] p.variables in
+    let lines = figure_lines (figures_from field R own_extension [] c rounds) in
+    let true_all : false_claim_of field p ≡ None = all-true field R.max_bits c Plain (ap task_of mode) none in
+    let matched : is_matched field p (messages_of rounds) (challenges R own_extension 0 start rounds) ≡ true =
+    eq-eqb _ _ (build-residual field residues_field.ring p R own_extension start tt true_all) in
+    ap (λ first. (reply_by first (report_of field R own_extension [] c)).outcome) none
+    ∙ ap (λ task. (figures_reply (figures_from field R own_extension [] c (rounds_of field R own_extension [] c task))).outcome) (ap task_of mode)
+    ∙ ap (λ b. (finding_reply (finding_by b (false_claim_of field p)) lines).outcome) matched
+    ∙ ap (λ found. (finding_reply (finding_by true found) lines).outcome) true_all

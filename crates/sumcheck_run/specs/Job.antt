@@ -1,8 +1,10 @@
 -- The job that a value describes, or why it describes none that is built.
-use Rattle.std.specs.Prelude.{ℕ, ◌<◌, ◌≤◌, List, length, All, ⊤, codes, nat_le, if◌then◌else◌, Option, Some, None, is_some, option_map, option_and_then, flat_map, Result, Ok, Err}
+use Rattle.std.specs.Prelude.{ℕ, ◌<◌, ◌≤◌, List, length, All, ⊤, bytes_eq, codes, nat_le, if◌then◌else◌, Option, Some, None, is_some, option_map, option_and_then, flat_map, Result, Ok, Err}
 use Rattle.serde_json.specs.Data.{Data}
-use Rattle.serde_json.specs.Find.{get, as_null}
+use Rattle.serde_json.specs.Find.{get, as_null, as_str}
 use Rattle.sc_forms.specs.Forms.{at_most_form, below_form, either_form, first_other_form, is_object, list_form, list_of_length_form, literal_form, member_form, no_form, pair_form}
+use Rattle.sc_table.specs.declared.strategy.VariableOrder.{VariableOrder}
+use Rattle.sc_table.specs.declared.strategy.VariableOrder.TheVariants.{Prefix, Suffix}
 use Rattle.sumcheck_run.specs.Members.{needed, unless_misfit}
 use Rattle.sumcheck_run.specs.Statements.{EqualityFits}
 use Rattle.sumcheck_run.specs.declared.member.Member.TheVariants.{Whole, Field, Challenger, Order, Bits, Table, Variables, Groups, Batching, Mode as ModeMember}
@@ -33,6 +35,14 @@ script_form d =
     with_member d (codes "draws") (list_form element_form) (λ draws.
     with_member d (codes "witnesses") (list_form (list_form element_form)) (λ witnesses.
     Some (record { draws = draws; witnesses = witnesses })))
+
+-- the order of this name
+abbrev pub order_named : List ℕ → Option VariableOrder
+order_named name = if bytes_eq name (codes "prefix") then Some Prefix else (if bytes_eq name (codes "suffix") then Some Suffix else None)
+
+-- which variable a round binds
+abbrev pub order_form : Data → Option VariableOrder
+order_form d = option_and_then order_named (as_str d)
 
 -- a claim: a point of as many coordinates as the job has variables, and the value there
 abbrev pub claim_form : ℕ → Data → Option EqualityClaim
@@ -102,43 +112,43 @@ abbrev pub members_of : Data → Result Job Misfit
 members_of d =
     unless_misfit (needed (literal_form (codes "65537")) (either_form (literal_form (codes "257x2")) (literal_form (codes "16"))) Field d) (λ _.
     unless_misfit (needed script_form (literal_form (codes "hash")) Challenger d) (λ script.
-    unless_misfit (needed (literal_form (codes "prefix")) (literal_form (codes "suffix")) Order d) (λ _.
+    unless_misfit (needed order_form no_form Order d) (λ order.
     unless_misfit (needed (at_most_form 0) (at_most_form 65535) Bits d) (λ _.
     unless_misfit (needed (list_form element_form) no_form Table d) (λ table.
     unless_misfit (needed (at_most_form 64) no_form Variables d) (λ variables.
     unless_misfit (needed_groups variables d) (λ claims.
     unless_misfit (needed element_form no_form Batching d) (λ batching.
     unless_misfit (needed mode_form later_build_form ModeMember d) (λ mode.
-    Ok (record { script = script; table = table; variables = variables; claims = claims; batching = batching; mode = mode }))))))))))
+    Ok (record { script = script; order = order; table = table; variables = variables; claims = claims; batching = batching; mode = mode }))))))))))
 
--- the job that a value describes: one over the integers modulo 65537 under a scripted challenger, in prefix order, with
+-- the job that a value describes: one over the integers modulo 65537 under a scripted challenger, in either order, with
 -- no difficulty and equality statements alone; else its first member that is not of its form
 abbrev pub job_of : Data → Result Job Misfit
 job_of d = if is_object d then members_of d else Err (Bad Whole)
 
 -- ---- what the numbers of a job that was read have
 
--- each number is an element's
-abbrev pub AreElements : List ℕ → Type 0
-AreElements ns = All (λ n. n < field_size) ns
+-- each number is that of an element of a field of so many
+abbrev pub AreElements : ℕ → List ℕ → Type 0
+AreElements size ns = All (λ n. n < size) ns
 
-pub record ScriptFits (s : Script) : Type 0 where
-  pub draws : AreElements s.draws
-  pub witnesses : All AreElements s.witnesses
+pub record ScriptFits (size : ℕ) (s : Script) : Type 0 where
+  pub draws : AreElements size s.draws
+  pub witnesses : All (AreElements size) s.witnesses
 
-pub record ProofFits (p : Proof) : Type 0 where
-  pub rounds : All (λ pair. (pair.0 < field_size) × (pair.1 < field_size)) p.rounds
-  pub witnesses : AreElements p.witnesses
+pub record ProofFits (size : ℕ) (p : Proof) : Type 0 where
+  pub rounds : All (λ pair. (pair.0 < size) × (pair.1 < size)) p.rounds
+  pub witnesses : AreElements size p.witnesses
 
-abbrev pub ModeFits : Mode → Type 0
-ModeFits Build = ⊤
-ModeFits (Check None) = ⊤
-ModeFits (Check (Some proof)) = ProofFits proof
+abbrev pub ModeFits : ℕ → Mode → Type 0
+ModeFits size Build = ⊤
+ModeFits size (Check None) = ⊤
+ModeFits size (Check (Some proof)) = ProofFits size proof
 
-pub record JobFits (job : Job) : Type 0 where
-  pub script : ScriptFits job.script
-  pub table : AreElements job.table
+pub record JobFits (size : ℕ) (job : Job) : Type 0 where
+  pub script : ScriptFits size job.script
+  pub table : AreElements size job.table
   pub few : job.variables ≤ 64
-  pub claims : All (EqualityFits field_size job.variables) job.claims
-  pub batching : job.batching < field_size
-  pub mode : ModeFits job.mode
+  pub claims : All (EqualityFits size job.variables) job.claims
+  pub batching : job.batching < size
+  pub mode : ModeFits size job.mode

@@ -2,10 +2,7 @@ pub mod Reply
 pub mod Members
 pub mod Job
 pub mod Lines
-pub mod Shape
 pub mod Statements
-pub mod Played
 pub mod Report
-pub mod Instance
 pub mod Program
 pub mod Run

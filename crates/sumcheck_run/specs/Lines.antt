@@ -1,11 +1,11 @@
--- The lines of a report, of the numbers in them. Each ends with a line feed.
+-- The lines of a report, and the texts of refusals, of the numbers in them. Each line ends with a line feed.
 use Rattle.std.specs.Prelude.{ℕ, suc, List, [], ◌∷◌, ◌++◌, codes, decimal}
-use Rattle.sc_definitions.specs.declared.false_claim.FalseClaim.{FalseClaim}
-use Rattle.sc_definitions.specs.Transcript.{Round}
-use Rattle.sumcheck_run.specs.declared.shape.ShapeFault.{ShapeFault}
-use Rattle.sumcheck_run.specs.declared.shape.ShapeFault.TheVariants.{TableLength, Arity}
-use Rattle.sumcheck_run.specs.declared.shape.ProofFault.{ProofFault}
-use Rattle.sumcheck_run.specs.declared.shape.ProofFault.TheVariants.{MissingSumcheckData, RoundCountMismatch, PowWitnessCountMismatch}
+use Rattle.sc_audit.specs.declared.error.Form.{Form}
+use Rattle.sc_audit.specs.declared.error.Form.TheVariants.{Mode, Verdict}
+use Rattle.sc_audit.specs.declared.error.ShapeFault.{ShapeFault}
+use Rattle.sc_audit.specs.declared.error.ShapeFault.TheVariants.{TableLength, Difficulty, Arity}
+use Rattle.sc_audit.specs.declared.error.FitFault.{FitFault}
+use Rattle.sc_audit.specs.declared.error.FitFault.TheVariants.{Variables, Select, Selector}
 
 -- numbers, a space before each
 unfoldable pub spaced : List ℕ → List ℕ
@@ -20,11 +20,11 @@ unfoldable pub round_line : ℕ → List ℕ → ℕ → List ℕ
 round_line i values challenge =
     codes "round " ++ decimal i ++ codes ":" ++ spaced values ++ codes " challenge " ++ decimal challenge ++ codes "\n"
 
--- a line for each round, numbered from i on, with its challenge
-abbrev pub round_lines : ℕ → List Round → List ℕ → List ℕ
+-- a line for the values of each round and its challenge, numbered from i on
+abbrev pub round_lines : ℕ → List (List ℕ) → List ℕ → List ℕ
 round_lines i [] challenges = []
-round_lines i (round ∷ rounds) [] = []
-round_lines i (round ∷ rounds) (r ∷ challenges) = round_line i round.values r ++ round_lines (suc i) rounds challenges
+round_lines i (values ∷ messages) [] = []
+round_lines i (values ∷ messages) (r ∷ challenges) = round_line i values r ++ round_lines (suc i) messages challenges
 
 unfoldable pub residual_line : ℕ → List ℕ
 residual_line x = codes "residual " ++ decimal x ++ codes "\n"
@@ -41,17 +41,40 @@ holds_line = codes "verdict holds\n"
 unfoldable pub refuted_line : List ℕ
 refuted_line = codes "verdict refuted\n"
 
--- what a false statement is refused with
-unfoldable pub false_claim_text : FalseClaim → List ℕ
-false_claim_text c = codes "false-claim " ++ decimal c.statement ++ codes " claimed " ++ decimal c.claimed ++ codes " true " ++ decimal c.actual
+-- what is not built yet
+unfoldable pub unbuilt_text : Form → List ℕ
+unbuilt_text Mode = codes "unbuilt mode"
+unbuilt_text Verdict = codes "unbuilt verdict"
 
--- what a job of a wrong shape is refused with
+-- a job of a wrong shape
 unfoldable pub shape_fault_text : ShapeFault → List ℕ
 shape_fault_text (TableLength len) = codes "job-shape table-length " ++ decimal len
+shape_fault_text (Difficulty bits bound) = codes "job-shape difficulty " ++ decimal bits ++ codes " bound " ++ decimal bound
 shape_fault_text (Arity expected actual) = codes "job-shape variables " ++ decimal actual ++ codes " expected " ++ decimal expected
 
--- what a proof of a wrong shape is refused with
-unfoldable pub proof_fault_text : ProofFault → List ℕ
-proof_fault_text (MissingSumcheckData expected_rounds) = codes "missing " ++ decimal expected_rounds
-proof_fault_text (RoundCountMismatch expected actual) = codes "rounds expected " ++ decimal expected ++ codes " actual " ++ decimal actual
-proof_fault_text (PowWitnessCountMismatch expected actual) = codes "witnesses expected " ++ decimal expected ++ codes " actual " ++ decimal actual
+-- a strategy that does not fit the job
+unfoldable pub fit_fault_text : FitFault → List ℕ
+fit_fault_text (Variables variables bound) = codes "strategy-unfit variables " ++ decimal variables ++ codes " bound " ++ decimal bound
+fit_fault_text (Select statement) = codes "strategy-unfit select " ++ decimal statement
+fit_fault_text (Selector statement) = codes "strategy-unfit selector " ++ decimal statement
+
+-- a false statement: its number, its claimed and its true value
+unfoldable pub false_claim_text : ℕ → ℕ → ℕ → List ℕ
+false_claim_text statement claimed actual =
+    codes "false-claim " ++ decimal statement ++ codes " claimed " ++ decimal claimed ++ codes " true " ++ decimal actual
+
+-- no proof of so many rounds
+unfoldable pub missing_text : ℕ → List ℕ
+missing_text rounds = codes "missing " ++ decimal rounds
+
+-- a proof of another number of rounds
+unfoldable pub rounds_text : ℕ → ℕ → List ℕ
+rounds_text expected actual = codes "rounds expected " ++ decimal expected ++ codes " actual " ++ decimal actual
+
+-- a proof of another number of witnesses
+unfoldable pub witnesses_text : ℕ → ℕ → List ℕ
+witnesses_text expected actual = codes "witnesses expected " ++ decimal expected ++ codes " actual " ++ decimal actual
+
+-- a proof whose witness fails the test of so many bits
+unfoldable pub witness_text : ℕ → ℕ → List ℕ
+witness_text round bits = codes "witness round " ++ decimal round ++ codes " bits " ++ decimal bits

@@ -1,26 +1,35 @@
 -- What a job is answered.
-use Rattle.std.specs.Prelude.{◌≡◌, ℕ, List, [], ◌∷◌, ◌++◌, ◌==◌, codes, length, map, Bool, true, false, Option, Some, None}
-use Rattle.sc_definitions.specs.Ring.{Ops, times}
+use Rattle.std.specs.Prelude.{ℕ, List, [], ◌∷◌, ◌++◌, length, map, Option, Some, None}
+use Rattle.std.specs.Option.{option_map}
+use Rattle.sc_definitions.specs.Ring.{Ops}
 use Rattle.sc_definitions.specs.Residues.{residues}
-use Rattle.sc_definitions.specs.Tables.{evaluation, prefix, rows_of}
+use Rattle.sc_definitions.specs.Tables.{evaluation, rows_of}
 use Rattle.sc_definitions.specs.declared.events.Event.{Event}
-use Rattle.sc_definitions.specs.declared.false_claim.FalseClaim.{FalseClaim}
-use Rattle.sc_definitions.specs.Statements.{equality, Statement, claims, first_false_claim}
-use Rattle.sc_definitions.specs.Events.{Rules, own_extension}
+use Rattle.sc_definitions.specs.Statements.{equality, Statement, claims}
+use Rattle.sc_definitions.specs.Events.{Rules, Extension, own_extension}
 use Rattle.sc_definitions.specs.Scripted.{scripted_rules}
-use Rattle.sc_definitions.specs.Transcript.{Round, round_of, messages_of, challenges, built_rounds}
-use Rattle.sc_definitions.specs.Problem.{Problem, honest_of, claim_of, residual_of, eval_of, weight_value_of}
+use Rattle.sc_definitions.specs.Transcript.{Round, built_rounds}
+use Rattle.sc_definitions.specs.Replays.{given_rounds}
+use Rattle.sc_definitions.specs.Problem.{Problem, honest_of}
+use Rattle.sc_table.specs.Strategy.{order_of}
+use Rattle.sc_audit.specs.declared.job.Strategy.TheVariants.{Plain}
+use Rattle.sc_audit.specs.declared.error.AuditError.{AuditError}
+use Rattle.sc_audit.specs.declared.error.AuditError.TheVariants.{Unbuilt, JobShape, StrategyUnfit, FalseClaim, MissingSumcheckData, RoundCountMismatch, PowWitnessCountMismatch, InvalidPowWitness, NoWitness, NoMemory}
+use Rattle.sc_audit.specs.declared.error.Form.TheVariants.{Verdict}
+use Rattle.sc_audit.specs.Cases.{Case, Given, Task, build, check}
+use Rattle.sc_audit.specs.Refusals.{refusal_of}
+use Rattle.sc_audit.specs.Figures.{Figures, Finding, holds, refuted, lucky}
+use Rattle.sc_audit.specs.Audits.{begun, figures_from}
 use Rattle.sumcheck_run.specs.declared.reply.Outcome.TheVariants.{Holds, Refuted}
 use Rattle.sumcheck_run.specs.declared.job.Job.{Job}
 use Rattle.sumcheck_run.specs.declared.job.EqualityClaim.{EqualityClaim}
 use Rattle.sumcheck_run.specs.declared.job.Proof.{Proof}
 use Rattle.sumcheck_run.specs.declared.job.Mode.{Mode}
 use Rattle.sumcheck_run.specs.declared.job.Mode.TheVariants.{Build, Check}
-use Rattle.sumcheck_run.specs.declared.shape.ShapeFault.{ShapeFault}
-use Rattle.sumcheck_run.specs.declared.shape.ProofFault.{ProofFault}
-use Rattle.sumcheck_run.specs.Shape.{shape_fault, proof_fault}
-use Rattle.sumcheck_run.specs.Reply.{Reply, proof_refused, refused}
-use Rattle.sumcheck_run.specs.Lines.{claim_line, round_lines, residual_line, eval_line, weight_line, holds_line, refuted_line, false_claim_text, shape_fault_text, proof_fault_text}
+use Rattle.sumcheck_run.specs.Reply.{Reply, no_witness, proof_refused, refused}
+use Rattle.sumcheck_run.specs.Lines.{claim_line, round_lines, residual_line, eval_line, weight_line, holds_line, refuted_line, unbuilt_text, shape_fault_text, fit_fault_text, false_claim_text, missing_text, rounds_text, witnesses_text, witness_text}
+
+-- ---- the case that a job is
 
 -- the field of the jobs: the integers modulo 65537
 abbrev pub field : Ops
@@ -30,105 +39,89 @@ field = residues 65537
 abbrev pub statement_of : EqualityClaim → Statement
 statement_of c = claims (equality c.point) c.value
 
--- a table of values in prefix order, with statements batched from the power 0 on
-abbrev pub prefix_problem : ℕ → (ℕ → ℕ) → List Statement → ℕ → Problem
-prefix_problem variables table statements batching = record {
+-- the job's problem: a table of values, with its statements batched from the power 0 on
+abbrev pub problem_of : Job → Problem
+problem_of job = record {
   basis = evaluation;
-  order = prefix;
-  variables = variables;
-  table = table;
-  statements = statements;
-  batching = batching;
+  order = order_of job.order;
+  variables = job.variables;
+  table = rows_of job.table;
+  statements = map statement_of job.claims;
+  batching = job.batching;
   initial = 0;
 }
 
--- the job's problem
-abbrev pub problem_of : Job → Problem
-problem_of job = prefix_problem job.variables (rows_of job.table) (map statement_of job.claims) job.batching
+-- the two values of a round
+abbrev pub values_of : ℕ × ℕ → List ℕ
+values_of pair = pair.0 ∷ pair.1 ∷ []
+
+abbrev pub given_of : Proof → Given
+given_of proof = record { messages = map values_of proof.rounds; witnesses = proof.witnesses }
+
+abbrev pub task_of : Mode → Task
+task_of Build = build Plain
+task_of (Check proof) = check (option_map given_of proof)
+
+-- the job's case: its rounds have no difficulty
+abbrev pub case_of : Job → Case
+case_of job = record {
+  rows = length job.table;
+  bits = 0;
+  problem = problem_of job;
+  task = task_of job.mode;
+}
 
 -- what the job's challenger answers
 abbrev pub rules_of : Job → Rules
 rules_of job = scripted_rules job.script.draws job.script.witnesses
 
--- the rounds that are built of a problem, from a history on, with a field as its own extension and no difficulty
-unfoldable pub rounds_of : Ops → Rules → List Event → Problem → List Round
-rounds_of o R h p = built_rounds (honest_of o p) R own_extension h [] p.variables
+-- ---- the reply to a case
 
--- their challenges, in drawing order
-unfoldable pub challenges_of : Ops → Rules → List Event → Problem → List ℕ
-challenges_of o R h p = challenges R own_extension 0 h (rounds_of o R h p)
+-- the lines of a report up to the verdict
+unfoldable pub figure_lines : Figures → List ℕ
+figure_lines r =
+    claim_line r.claim ++ round_lines 0 r.messages r.challenges ++ residual_line r.residual ++ eval_line r.eval ++ weight_line r.weight
 
--- the report of rounds and their challenges, up to the verdict
-unfoldable pub report_of : Ops → Problem → List Round → List ℕ → List ℕ
-report_of o p rounds rs =
-    claim_line (claim_of o p) ++ round_lines 0 rounds rs
-    ++ residual_line (residual_of o p (messages_of rounds) rs) ++ eval_line (eval_of o p rs) ++ weight_line (weight_value_of o p rs)
+-- A refusal. Want of memory is a status of its own, and has no text.
+abbrev pub refusal_reply : AuditError → Reply
+refusal_reply (Unbuilt form) = refused (unbuilt_text form)
+refusal_reply (JobShape fault) = refused (shape_fault_text fault)
+refusal_reply (StrategyUnfit fault) = refused (fit_fault_text fault)
+refusal_reply (FalseClaim statement claimed actual) = refused (false_claim_text statement claimed actual)
+refusal_reply (MissingSumcheckData rounds) = proof_refused (missing_text rounds)
+refusal_reply (RoundCountMismatch expected actual) = proof_refused (rounds_text expected actual)
+refusal_reply (PowWitnessCountMismatch expected actual) = proof_refused (witnesses_text expected actual)
+refusal_reply (InvalidPowWitness round bits) = proof_refused (witness_text round bits)
+refusal_reply (NoWitness round) = no_witness round
+refusal_reply NoMemory = refused []
 
--- the first false statement of a problem, if one is
-abbrev pub false_claim_of : Ops → Problem → Option FalseClaim
-false_claim_of o p = first_false_claim o p.variables p.table 0 p.statements
+-- a report's lines with what the rounds say of the statements; what is said of lucky ones comes later
+abbrev pub finding_reply : Finding → List ℕ → Reply
+finding_reply holds lines = record { outcome = Holds; text = lines ++ holds_line }
+finding_reply refuted lines = record { outcome = Refuted; text = lines ++ refuted_line }
+finding_reply lucky lines = refusal_reply (Unbuilt Verdict)
 
--- the report of a build, whose statements are true
-unfoldable pub build_report : Ops → Rules → List Event → Problem → List ℕ
-build_report o R h p = report_of o p (rounds_of o R h p) (challenges_of o R h p) ++ holds_line
+abbrev pub figures_reply : Figures → Reply
+figures_reply r = finding_reply r.finding (figure_lines r)
 
-abbrev pub built : Option FalseClaim → List ℕ → Reply
-built (Some c) text = refused (false_claim_text c)
-built None text = record { outcome = Holds; text = text }
+-- The rounds of a case without a difficulty that is played from a history on: those that an honest prover builds, or those of the proof.
+abbrev pub rounds_of : Ops → Rules → Extension → List Event → Case → Task → List Round
+rounds_of o R E h c (build strategy) = built_rounds (honest_of o c.problem) R E (begun E h c) [] c.problem.variables
+rounds_of o R E h c (check None) = []
+rounds_of o R E h c (check (Some given)) = given_rounds given.messages given.witnesses
 
--- a problem with a false statement is refused; another is built, and its statements hold
-abbrev pub build_reply : Ops → Rules → List Event → Problem → Reply
-build_reply o R h p = built (false_claim_of o p) (build_report o R h p)
+-- the report's figures
+abbrev pub report_of : Ops → Rules → Extension → List Event → Case → Figures
+report_of o R E h c = figures_from o R E h c (rounds_of o R E h c c.task)
 
--- a report that is refuted, or else holds where no statement is false. What is said where one is comes later.
-abbrev pub verdict_reply : Bool → Option FalseClaim → List ℕ → Reply
-verdict_reply false c lines = record { outcome = Refuted; text = lines ++ refuted_line }
-verdict_reply true None lines = record { outcome = Holds; text = lines ++ holds_line }
-verdict_reply true (Some c) lines = refused (codes "unbuilt verdict")
+abbrev pub reply_by : Option AuditError → Figures → Reply
+reply_by (Some e) report = refusal_reply e
+reply_by None report = figures_reply report
 
--- whether what rounds leave of the claim is the product of the table's and the weights' values at their challenges
-abbrev pub is_matched : Ops → Problem → List Round → List ℕ → Bool
-is_matched o p rounds rs = residual_of o p (messages_of rounds) rs == times o (eval_of o p rs) (weight_value_of o p rs)
+-- what a case without a difficulty is answered: its first refusal before a round is played, or else its report
+unfoldable pub case_reply : Ops → Rules → Extension → List Event → Case → Reply
+case_reply o R E h c = reply_by (refusal_of o R.max_bits c) (report_of o R E h c)
 
--- the challenges of rounds that are handed in
-abbrev pub replayed : Rules → List Event → List Round → List ℕ
-replayed R h rounds = challenges R own_extension 0 h rounds
-
--- the report of rounds that are handed in
-unfoldable pub check_reply : Ops → Rules → List Event → Problem → List Round → Reply
-check_reply o R h p rounds =
-    verdict_reply (is_matched o p rounds (replayed R h rounds)) (false_claim_of o p) (report_of o p rounds (replayed R h rounds))
-
--- the pairs of values of a proof's rounds
-abbrev pub pairs_in : Option Proof → List (ℕ × ℕ)
-pairs_in None = []
-pairs_in (Some proof) = proof.rounds
-
--- the rounds of a proof
-abbrev pub rounds_in : Option Proof → List Round
-rounds_in proof = map (λ pair. round_of (pair.0 ∷ pair.1 ∷ []) 0) (pairs_in proof)
-
-abbrev pub proved : Option ProofFault → Reply → Reply
-proved (Some fault) reply = proof_refused (proof_fault_text fault)
-proved None reply = reply
-
-abbrev pub judge_mode : Job → Mode → Reply
-judge_mode job Build = build_reply field (rules_of job) [] (problem_of job)
-judge_mode job (Check proof) = proved (proof_fault job.variables proof) (check_reply field (rules_of job) [] (problem_of job) (rounds_in proof))
-
-abbrev pub judge_shape : Option ShapeFault → Reply → Reply
-judge_shape (Some fault) reply = refused (shape_fault_text fault)
-judge_shape None reply = reply
-
--- the shape first, then the statements of a build, or the proof's shape
+-- what a job is answered, over the integers modulo 65537 and under its own challenger
 unfoldable pub judge : Job → Reply
-judge job = judge_shape (shape_fault (length job.table) job.variables) (judge_mode job job.mode)
-
--- where every statement is true, what is left of the claim is the product of the table's and the weights' values
-unfoldable pub IsMatched : Job → Type 0
-IsMatched job =
-    let p = problem_of job in
-    let rounds = rounds_of field (rules_of job) [] p in
-    let rs = challenges_of field (rules_of job) [] p in
-    false_claim_of field p ≡ None →
-    residual_of field p (messages_of rounds) rs ≡ times field (eval_of field p rs) (weight_value_of field p rs)
+judge job = case_reply field (rules_of job) own_extension [] (case_of job)

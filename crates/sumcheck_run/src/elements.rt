@@ -1,13 +1,10 @@
 //! Numbers as elements of a field.
-ghost use Rattle.std.specs.Prelude.{◌≡◌, ◌<◌, ◌^◌, All, IfOk, length, map};
-ghost use Rattle.sc_definitions.specs.Tables.{rows_of};
-ghost use Rattle.sumcheck_run.specs.Played.{round_sent};
-ghost use Rattle.sumcheck_run.specs.Report.{pairs_in, rounds_in};
-ghost use Rattle.sc_table.specs.Polys.{variables_of, table_of};
+ghost use Rattle.std.specs.Prelude.{◌≡◌, ◌<◌, All, IfOk, map};
+ghost use Rattle.sc_rounds.specs.Data.{pair_of};
+ghost use Rattle.sumcheck_run.specs.Report.{values_of};
 
-use crate::job::Proof;
 use sc_field::{Field, NoMemory};
-use sc_table::{Poly, RoundMessage, Row};
+use sc_table::{RoundMessage, Row};
 use std::alloc::Global;
 
 /// The elements with these numbers, which are below the field's size.
@@ -37,33 +34,16 @@ pub(crate) fn element_lists<F: Field>(
     Ok(found)
 }
 
-/// The table of 2^variables elements with these numbers.
-pub(crate) fn table<F: Field>(
-    alloc: Global,
-    numbers: &[u64],
-    variables: usize,
-) -> Result<Poly<F>, NoMemory>
-    requires fits { All (λ n. n < F.ops.size) numbers.now }
-    requires rows { length numbers.now ≡ 2 ^ variables }
-    ensures variables { IfOk result (λ p. variables_of p ≡ variables) }
-    ensures table { IfOk result (λ p. table_of F.number p ≡ rows_of numbers.now) }
-{
-    Ok(Poly::new(elements(alloc, numbers)?))
-}
-
-/// The messages of a proof's rounds; none of no proof.
+/// The messages of the two values with these numbers.
 pub(crate) fn messages<F: Field>(
     alloc: Global,
-    proof: Option<Proof>,
+    pairs: &[(u64, u64)],
 ) -> Result<Vec<RoundMessage<F>>, NoMemory>
-    requires { All (λ pair. (pair.0 < F.ops.size) × (pair.1 < F.ops.size)) (pairs_in proof) }
-    ensures { IfOk result (λ v. map (round_sent F.number) v.items ≡ rounds_in proof) }
+    requires { All (λ pair. (pair.0 < F.ops.size) × (pair.1 < F.ops.size)) pairs.now }
+    ensures { IfOk result (λ v. map (pair_of F.number) v.items ≡ map values_of pairs.now) }
 {
-    let Some(proof) = proof else {
-        return Ok(Vec::new(alloc));
-    };
-    let mut found = Vec::with_capacity(alloc, proof.rounds.len())?;
-    for pair in proof.rounds.as_slice() {
+    let mut found = Vec::with_capacity(alloc, pairs.len())?;
+    for pair in pairs {
         found.push(RoundMessage {
             c_a: F::element(pair.0),
             c_inf: F::element(pair.1),

@@ -1,5 +1,5 @@
 //! What a job says.
-use sc_table::Row;
+use sc_table::{Row, VariableOrder};
 
 /// A scripted challenger: its draws, and for each test the witnesses that pass, all by their numbers.
 #[derive(Drop)]
@@ -42,6 +42,8 @@ pub enum Mode {
 pub struct Job {
     /// What the challenger answers.
     pub script: Script,
+    /// Which variable a round binds.
+    pub order: VariableOrder,
     /// The table, row 0 first.
     pub table: Row<u64>,
     /// How many coordinates the points of the claims have, at most 64.

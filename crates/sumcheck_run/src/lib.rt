@@ -4,18 +4,17 @@
 //! answers and writes, and its contract speaks of that function alone.
 #![tactic(auto)]
 
+mod asked;
 mod command;
 mod elements;
-mod instance;
 mod job;
 mod lines;
 mod member;
 mod program;
 mod reading;
+mod refusals;
 mod reply;
 mod report;
-mod rounds;
-mod shape;
 mod statements;
 
 pub use command::{Command, needs_input, read_command};
@@ -26,7 +25,6 @@ pub use reading::read_job;
 pub use reply::{Answer, Outcome};
 pub use report::judge_job;
 pub use sc_streams::{Failed, MemSink, MemSource, PlainSource, Sink, Source, StdSink, StdSource};
-pub use shape::{ProofFault, ShapeFault};
 
 #[cfg(test)]
 mod tests;

@@ -1,11 +1,10 @@
-//! The lines of a report, of the numbers in them.
+//! The lines of a report, and the texts of refusals, of the numbers in them.
 ghost use Rattle.std.specs.Prelude.{◌≡◌, ◌++◌, [], ◌∷◌, OnOk, IfOk, string_bytes};
-ghost use Rattle.sumcheck_run.specs.Lines.{claim_line, eval_line, false_claim_text, holds_line, proof_fault_text, refuted_line, residual_line, round_line, shape_fault_text, spaced, weight_line};
+ghost use Rattle.sumcheck_run.specs.Lines.{claim_line, eval_line, false_claim_text, fit_fault_text, holds_line, missing_text, refuted_line, residual_line, round_line, rounds_text, shape_fault_text, spaced, unbuilt_text, weight_line, witness_text, witnesses_text};
 ghost use Rattle.sumcheck_run.specs.Members.{misfit_text};
 
 use crate::member::Misfit;
-use crate::shape::{ProofFault, ShapeFault};
-use sc_definitions::FalseClaim;
+use sc_audit::{FitFault, Form, ShapeFault};
 use std::alloc::{AllocError, Global};
 
 #[tactic(auto, unfolding(crate::specs::Lines::claim_line))]
@@ -57,18 +56,6 @@ pub(crate) fn push_holds(text: &mut String) -> Result<(), AllocError>
     text.push_str("verdict holds\n")
 }
 
-#[tactic(auto, unfolding(crate::specs::Lines::false_claim_text))]
-pub(crate) fn false_claim_text(alloc: Global, fault: FalseClaim) -> Result<String, AllocError>
-    ensures { IfOk result (λ s. string_bytes s ≡ false_claim_text fault) }
-{
-    let FalseClaim {
-        statement,
-        claimed,
-        actual,
-    } = fault;
-    format!(in alloc; "false-claim {statement} claimed {claimed} true {actual}")
-}
-
 #[tactic(auto, unfolding(crate::specs::Lines::refuted_line))]
 pub(crate) fn push_refuted(text: &mut String) -> Result<(), AllocError>
     ensures { OnOk result (string_bytes text.new ≡ string_bytes text.old ++ refuted_line) }
@@ -92,31 +79,90 @@ pub(crate) fn misfit_text(alloc: Global, fault: Misfit) -> Result<String, AllocE
     }
 }
 
+#[tactic(auto, unfolding(crate::specs::Lines::unbuilt_text))]
+pub(crate) fn unbuilt_text(alloc: Global, form: Form) -> Result<String, AllocError>
+    ensures { IfOk result (λ s. string_bytes s ≡ unbuilt_text form) }
+{
+    match form {
+        Form::Mode => String::from_str(alloc, "unbuilt mode"),
+        Form::Verdict => String::from_str(alloc, "unbuilt verdict"),
+    }
+}
+
 #[tactic(auto, unfolding(crate::specs::Lines::shape_fault_text))]
 pub(crate) fn shape_fault_text(alloc: Global, fault: ShapeFault) -> Result<String, AllocError>
     ensures { IfOk result (λ s. string_bytes s ≡ shape_fault_text fault) }
 {
     match fault {
         ShapeFault::TableLength { len } => format!(in alloc; "job-shape table-length {len}"),
+        ShapeFault::Difficulty { bits, bound } => {
+            format!(in alloc; "job-shape difficulty {bits} bound {bound}")
+        }
         ShapeFault::Arity { expected, actual } => {
             format!(in alloc; "job-shape variables {actual} expected {expected}")
         }
     }
 }
 
-#[tactic(auto, unfolding(crate::specs::Lines::proof_fault_text))]
-pub(crate) fn proof_fault_text(alloc: Global, fault: ProofFault) -> Result<String, AllocError>
-    ensures { IfOk result (λ s. string_bytes s ≡ proof_fault_text fault) }
+#[tactic(auto, unfolding(crate::specs::Lines::fit_fault_text))]
+pub(crate) fn fit_fault_text(alloc: Global, fault: FitFault) -> Result<String, AllocError>
+    ensures { IfOk result (λ s. string_bytes s ≡ fit_fault_text fault) }
 {
     match fault {
-        ProofFault::MissingSumcheckData { expected_rounds } => {
-            format!(in alloc; "missing {expected_rounds}")
+        FitFault::Variables { variables, bound } => {
+            format!(in alloc; "strategy-unfit variables {variables} bound {bound}")
         }
-        ProofFault::RoundCountMismatch { expected, actual } => {
-            format!(in alloc; "rounds expected {expected} actual {actual}")
-        }
-        ProofFault::PowWitnessCountMismatch { expected, actual } => {
-            format!(in alloc; "witnesses expected {expected} actual {actual}")
+        FitFault::Select { statement } => format!(in alloc; "strategy-unfit select {statement}"),
+        FitFault::Selector { statement } => {
+            format!(in alloc; "strategy-unfit selector {statement}")
         }
     }
+}
+
+#[tactic(auto, unfolding(crate::specs::Lines::false_claim_text))]
+pub(crate) fn false_claim_text(
+    alloc: Global,
+    statement: usize,
+    claimed: u64,
+    actual: u64,
+) -> Result<String, AllocError>
+    ensures { IfOk result (λ s. string_bytes s ≡ false_claim_text statement claimed actual) }
+{
+    format!(in alloc; "false-claim {statement} claimed {claimed} true {actual}")
+}
+
+#[tactic(auto, unfolding(crate::specs::Lines::missing_text))]
+pub(crate) fn missing_text(alloc: Global, rounds: usize) -> Result<String, AllocError>
+    ensures { IfOk result (λ s. string_bytes s ≡ missing_text rounds) }
+{
+    format!(in alloc; "missing {rounds}")
+}
+
+#[tactic(auto, unfolding(crate::specs::Lines::rounds_text))]
+pub(crate) fn rounds_text(
+    alloc: Global,
+    expected: usize,
+    actual: usize,
+) -> Result<String, AllocError>
+    ensures { IfOk result (λ s. string_bytes s ≡ rounds_text expected actual) }
+{
+    format!(in alloc; "rounds expected {expected} actual {actual}")
+}
+
+#[tactic(auto, unfolding(crate::specs::Lines::witnesses_text))]
+pub(crate) fn witnesses_text(
+    alloc: Global,
+    expected: usize,
+    actual: usize,
+) -> Result<String, AllocError>
+    ensures { IfOk result (λ s. string_bytes s ≡ witnesses_text expected actual) }
+{
+    format!(in alloc; "witnesses expected {expected} actual {actual}")
+}
+
+#[tactic(auto, unfolding(crate::specs::Lines::witness_text))]
+pub(crate) fn witness_text(alloc: Global, round: usize, bits: usize) -> Result<String, AllocError>
+    ensures { IfOk result (λ s. string_bytes s ≡ witness_text round bits) }
+{
+    format!(in alloc; "witness round {round} bits {bits}")
 }

@@ -23,8 +23,8 @@ const MAX_INPUT: usize = 67_108_864;
 /// The status that the program ends with.
 #[derive(Clone, Copy, Debug, PartialEq, Eq)]
 pub struct Status {
-    /// 0 a report that holds; 1 another report; 2 usage; 3 a refused job; 4 a refused proof; 6 a read fault; 7 a write fault;
-    /// 8 want of memory.
+    /// 0 a report that holds; 1 another report; 2 usage; 3 a refused job; 4 a refused proof; 5 a build without a witness;
+    /// 6 a read fault; 7 a write fault; 8 want of memory.
     pub code: u8,
 }
 

@@ -2,7 +2,7 @@
 ghost use Rattle.std.specs.Prelude.{◌≡◌, ◌<◌, ◌≤◌, All, Option, Some, None, Ok, Err, IfOk, IsErrOf, length, flat_map};
 ghost use Rattle.serde_json.specs.View.{view};
 ghost use Rattle.sc_forms.specs.Forms.{either_form, literal_form};
-ghost use Rattle.sumcheck_run.specs.Job.{JobFits, ProofFits, ModeFits, ScriptFits, check_form, claim_form, field_size, group_form, groups_form, job_of, later_build_form, later_group_form, mode_form, most_statements, needed_groups, proof_form, script_form};
+ghost use Rattle.sumcheck_run.specs.Job.{JobFits, ProofFits, ModeFits, ScriptFits, check_form, claim_form, field_size, group_form, groups_form, job_of, later_build_form, later_group_form, mode_form, most_statements, needed_groups, order_form, proof_form, script_form};
 ghost use Rattle.sumcheck_run.specs.Statements.{EqualityFits};
 
 use crate::job::{EqualityClaim, Job, Mode, Proof, Script};
@@ -11,7 +11,7 @@ use sc_forms::{
     AtMost, Below, Either, FirstOther, Form, ListOf, ListOfLength, Literal, Misread, NoForm,
     PairOf, is_object, member,
 };
-use sc_table::Row;
+use sc_table::{Row, VariableOrder};
 use serde_json::Value;
 use std::alloc::Global;
 
@@ -38,13 +38,31 @@ impl Form for ScriptForm {
 
     ghost reads = { λ _. script_form };
 
-    ghost fits = { λ _ script. ScriptFits script };
+    ghost fits = { λ _ script. ScriptFits field_size script };
 
     fn read(&self, alloc: Global, value: &Value) -> Result<Script, Misread> {
         let list = ListOf { item: ELEMENT };
         let draws = member(alloc, &list, value, "draws")?;
         let witnesses = member(alloc, &ListOf { item: list }, value, "witnesses")?;
         Ok(Script { draws, witnesses })
+    }
+}
+
+// Which variable a round binds, by its name.
+#[derive(Clone, Copy)]
+struct OrderForm;
+
+impl Form for OrderForm {
+    type Out = VariableOrder;
+
+    ghost reads = { λ _. order_form };
+
+    fn read(&self, _alloc: Global, value: &Value) -> Result<VariableOrder, Misread> {
+        match value.as_str() {
+            Some(name) if name == "prefix" => Ok(VariableOrder::Prefix),
+            Some(name) if name == "suffix" => Ok(VariableOrder::Suffix),
+            _ => Err(Misread::NotOfForm),
+        }
     }
 }
 
@@ -143,7 +161,7 @@ impl Form for ProofForm {
 
     ghost reads = { λ _. proof_form };
 
-    ghost fits = { λ _ proof. ProofFits proof };
+    ghost fits = { λ _ proof. ProofFits field_size proof };
 
     fn read(&self, alloc: Global, value: &Value) -> Result<Proof, Misread> {
         let pairs = ListOf {
@@ -166,7 +184,7 @@ impl Form for CheckForm {
 
     ghost reads = { λ _. check_form };
 
-    ghost fits = { λ _ proof. ModeFits (Check proof) };
+    ghost fits = { λ _ proof. ModeFits field_size (Check proof) };
 
     fn read(&self, alloc: Global, value: &Value) -> Result<Option<Proof>, Misread> {
         if value.is_null() {
@@ -184,7 +202,7 @@ impl Form for ModeForm {
 
     ghost reads = { λ _. mode_form };
 
-    ghost fits = { λ _ mode. ModeFits mode };
+    ghost fits = { λ _ mode. ModeFits field_size mode };
 
     fn read(&self, alloc: Global, value: &Value) -> Result<Mode, Misread> {
         match (value.get("build"), value.get("check")) {
@@ -244,7 +262,7 @@ pub fn read_job(alloc: Global, value: &Value) -> Result<Job, Unread>
     ensures job { IfOk result (λ job. job_of (view value.now) ≡ Ok job) }
     ensures misfit { (fault : Misfit) → result ≡ Err (Unread.Misfit fault)
         → job_of (view value.now) ≡ Err fault }
-    ensures fits { IfOk result (λ job. JobFits job) }
+    ensures fits { IfOk result (λ job. JobFits field_size job) }
 {
     if !is_object(value) {
         return Err(Unread::Misfit(Misfit::Bad(Member::Whole)));
@@ -267,13 +285,7 @@ pub fn read_job(alloc: Global, value: &Value) -> Result<Job, Unread>
         value,
         Member::Challenger,
     )?;
-    need(
-        alloc,
-        &Literal { text: "prefix" },
-        &Literal { text: "suffix" },
-        value,
-        Member::Order,
-    )?;
+    let order = need(alloc, &OrderForm, &NoForm, value, Member::Order)?;
     need(
         alloc,
         &AtMost { most: 0 },
@@ -297,6 +309,7 @@ pub fn read_job(alloc: Global, value: &Value) -> Result<Job, Unread>
     let mode = need(alloc, &ModeForm, &LaterBuildForm, value, Member::Mode)?;
     Ok(Job {
         script,
+        order,
         table,
         variables,
         claims,

@@ -1,6 +1,6 @@
 //! What a command line and an input are answered.
 ghost use Rattle.std.specs.Prelude.{◌≡◌, ◌≤◌, ◌++◌, codes, string_bytes, IfOk};
-ghost use Rattle.sumcheck_run.specs.Reply.{Reply, code_of, proof_refused, refused, usage};
+ghost use Rattle.sumcheck_run.specs.Reply.{Reply, code_of, no_witness, proof_refused, refused, usage};
 
 use sc_field::NoMemory;
 use std::alloc::Global;
@@ -19,6 +19,8 @@ pub enum Outcome {
     JobRefused,
     /// The proof is refused.
     ProofRefused,
+    /// A build finds no witness.
+    NoWitness,
 }
 
 impl Outcome {
@@ -33,6 +35,7 @@ impl Outcome {
             Outcome::Usage => 2,
             Outcome::JobRefused => 3,
             Outcome::ProofRefused => 4,
+            Outcome::NoWitness => 5,
         }
     }
 }
@@ -77,6 +80,15 @@ impl Answer {
     {
         let text = format!(in alloc; "proof refused {why}\n")?;
         Ok(Answer::new(Outcome::ProofRefused, text))
+    }
+
+    /// A build that finds no witness in this round, in one line.
+    #[tactic(auto, unfolding(crate::specs::Reply::no_witness))]
+    pub fn no_witness(alloc: Global, round: usize) -> Result<Self, NoMemory>
+        ensures { IfOk result (λ a. a ≡ no_witness round) }
+    {
+        let text = format!(in alloc; "no witness round {round}\n")?;
+        Ok(Answer::new(Outcome::NoWitness, text))
     }
 
     /// The answer to words that are no command.

@@ -2,7 +2,10 @@
 mod jobs;
 
 use crate::{MemSink, MemSource, PlainSource, Source, StdSink, StdSource, run};
-use jobs::{CHANGES, CHECKS, CUBE, FIRST, FIRST_TEXT, LUCKY, LUCKY_BATCH, NO_VARIABLE, ROWS, SAME};
+use jobs::{
+    CHANGES, CHECKS, CUBE, FIRST, FIRST_TEXT, LUCKY, LUCKY_BATCH, NO_VARIABLE, ROWS, SAME,
+    SUFFIX_MODES, SUFFIX_TEXT,
+};
 use std::alloc::{AllocError, Global};
 use std::io::{self, Error, ErrorKind, Read, Write};
 use std::test::Fail;
@@ -65,6 +68,19 @@ fn the_first_job_with_a_proof(rt: HostRuntime) -> Result<(), Fail> {
     let alloc = rt.alloc();
     for (mode, code, text) in CHECKS.iter() {
         let input = FIRST.replace(alloc, r#"{"build":"plain"}"#, *mode)?;
+        let (status, sink) = audit(alloc, input.as_bytes())?;
+        assert_eq!(rt; status, *code, "{mode}");
+        assert_eq!(rt; sink.bytes(), text.as_bytes(), "{mode}");
+    }
+    Ok(())
+}
+
+#[test]
+fn the_first_job_in_suffix_order(rt: HostRuntime) -> Result<(), Fail> {
+    let alloc = rt.alloc();
+    let suffix = FIRST.replace(alloc, r#""prefix""#, r#""suffix""#)?;
+    for (mode, code, text) in SUFFIX_MODES.iter() {
+        let input = suffix.replace(alloc, r#"{"build":"plain"}"#, *mode)?;
         let (status, sink) = audit(alloc, input.as_bytes())?;
         assert_eq!(rt; status, *code, "{mode}");
         assert_eq!(rt; sink.bytes(), text.as_bytes(), "{mode}");
@@ -136,10 +152,15 @@ fn a_change_of_the_first_job_that_says_the_same(rt: HostRuntime) -> Result<(), F
 #[test]
 fn the_last_of_two_members_counts_where_it_is_refused(rt: HostRuntime) -> Result<(), Fail> {
     let alloc = rt.alloc();
-    let input = FIRST.replace(alloc, r#""prefix""#, r#""prefix","order":"suffix""#)?;
-    let (code, sink) = audit(alloc, input.as_bytes())?;
-    assert_eq!(rt; code, 3);
-    assert_eq!(rt; sink.bytes(), b"refused unbuilt order\n".as_slice());
+    for (orders, code, text) in [
+        (r#""prefix","order":"suffix""#, 0, SUFFIX_TEXT),
+        (r#""prefix","order":"infix""#, 3, "refused bad-job order\n"),
+    ] {
+        let input = FIRST.replace(alloc, r#""prefix""#, orders)?;
+        let (status, sink) = audit(alloc, input.as_bytes())?;
+        assert_eq!(rt; status, code, "{orders}");
+        assert_eq!(rt; sink.bytes(), text.as_bytes(), "{orders}");
+    }
     Ok(())
 }
 
@@ -187,6 +208,24 @@ fn three_variables_and_points_outside_the_cube(rt: HostRuntime) -> Result<(), Fa
         ("0", 3, "refused false-claim 2 claimed 0 true 51\n"),
     ] {
         let input = CUBE.replace(alloc, "VALUE", value)?;
+        let (status, sink) = audit(alloc, input.as_bytes())?;
+        assert_eq!(rt; status, code, "{value}");
+        assert_eq!(rt; sink.bytes(), text.as_bytes(), "{value}");
+    }
+    Ok(())
+}
+
+#[test]
+fn three_variables_in_suffix_order(rt: HostRuntime) -> Result<(), Fail> {
+    let alloc = rt.alloc();
+    let text =
+        "claim 2563\nround 0: 2744 5758 challenge 10\nround 1: 18872 63330 challenge 20\nround 2: 50204 19120 challenge 65536\nresidual 55828\neval 65158\nweight 53804\nverdict holds\n";
+    let suffix = CUBE.replace(alloc, r#""prefix""#, r#""suffix""#)?;
+    for (value, code, text) in [
+        ("51", 0, text),
+        ("0", 3, "refused false-claim 2 claimed 0 true 51\n"),
+    ] {
+        let input = suffix.replace(alloc, "VALUE", value)?;
         let (status, sink) = audit(alloc, input.as_bytes())?;
         assert_eq!(rt; status, code, "{value}");
         assert_eq!(rt; sink.bytes(), text.as_bytes(), "{value}");

@@ -6,6 +6,10 @@ pub(super) const FIRST: &str =
 pub(super) const FIRST_TEXT: &str =
     "claim 2\nround 0: 2 65535 challenge 3\nround 1: 0 65535 challenge 4\nresidual 65449\neval 11\nweight 65529\nverdict holds\n";
 
+// The report on the first job in suffix order.
+pub(super) const SUFFIX_TEXT: &str =
+    "claim 2\nround 0: 0 1 challenge 3\nround 1: 12 65531 challenge 4\nresidual 65429\neval 12\nweight 65528\nverdict holds\n";
+
 // A table of one variable, with an equality at (0) that is claimed 5 and is 1.
 pub(super) const FALSE: &str =
     r#"{"field":"65537","challenger":{"draws":[2],"witnesses":[]},"order":"prefix","bits":0,"table":[1,2],"variables":1,"groups":[{"kind":"eq","claims":[{"point":[0],"value":5}]}],"batching":1,"mode":{"build":"plain"}}"#;
@@ -83,7 +87,7 @@ pub(super) const ROWS: [(&str, &str, u8, &str); 16] = [
 ];
 
 // What stands in the first job, what in its place is refused, and by what text.
-pub(super) const CHANGES: [(&str, &str, &str); 67] = [
+pub(super) const CHANGES: [(&str, &str, &str); 73] = [
     // a member that is missing
     (r#""field":"65537","#, "", "bad-job field"),
     (
@@ -128,8 +132,13 @@ pub(super) const CHANGES: [(&str, &str, &str); 67] = [
         r#""script""#,
         "bad-job challenger",
     ),
-    (r#""prefix""#, r#""suffix""#, "unbuilt order"),
     (r#""prefix""#, r#""infix""#, "bad-job order"),
+    (r#""prefix""#, r#""Suffix""#, "bad-job order"),
+    (r#""prefix""#, r#""suffix ""#, "bad-job order"),
+    (r#""prefix""#, r#""""#, "bad-job order"),
+    (r#""prefix""#, "1", "bad-job order"),
+    (r#""prefix""#, "null", "bad-job order"),
+    (r#""prefix""#, r#"["suffix"]"#, "bad-job order"),
     (r#""bits":0"#, r#""bits":1"#, "unbuilt bits"),
     (r#""bits":0"#, r#""bits":65535"#, "unbuilt bits"),
     (r#""bits":0"#, r#""bits":65536"#, "bad-job bits"),
@@ -223,12 +232,17 @@ pub(super) const CHANGES: [(&str, &str, &str); 67] = [
     (
         r#""order":"prefix","bits":0"#,
         r#""bits":65536,"order":"suffix""#,
-        "unbuilt order",
+        "bad-job bits",
+    ),
+    (
+        r#""order":"prefix","bits":0"#,
+        r#""bits":65536,"order":"infix""#,
+        "bad-job order",
     ),
 ];
 
 // What stands for the build in the first job, with the status and the text.
-pub(super) const CHECKS: [(&str, u8, &str); 7] = [
+pub(super) const CHECKS: [(&str, u8, &str); 8] = [
     (
         r#"{"check":{"rounds":[[2,65535],[0,65535]],"witnesses":[]}}"#,
         0,
@@ -257,6 +271,55 @@ pub(super) const CHECKS: [(&str, u8, &str); 7] = [
     ),
     (
         r#"{"check":{"rounds":[[2,65535],[0,65535]],"witnesses":[9]}}"#,
+        4,
+        "proof refused witnesses expected 0 actual 1\n",
+    ),
+    // the rounds of suffix order
+    (
+        r#"{"check":{"rounds":[[0,1],[12,65531]],"witnesses":[]}}"#,
+        1,
+        "claim 2\nround 0: 0 1 challenge 3\nround 1: 12 65531 challenge 4\nresidual 65429\neval 11\nweight 65529\nverdict refuted\n",
+    ),
+];
+
+// The same in suffix order.
+pub(super) const SUFFIX_MODES: [(&str, u8, &str); 9] = [
+    (r#"{"build":"plain"}"#, 0, SUFFIX_TEXT),
+    (
+        r#"{"check":{"rounds":[[0,1],[12,65531]],"witnesses":[]}}"#,
+        0,
+        SUFFIX_TEXT,
+    ),
+    // one value changed by one
+    (
+        r#"{"check":{"rounds":[[0,2],[12,65531]],"witnesses":[]}}"#,
+        1,
+        "claim 2\nround 0: 0 2 challenge 3\nround 1: 12 65531 challenge 4\nresidual 65453\neval 12\nweight 65528\nverdict refuted\n",
+    ),
+    (
+        r#"{"check":{"rounds":[[1,1],[12,65531]],"witnesses":[]}}"#,
+        1,
+        "claim 2\nround 0: 1 1 challenge 3\nround 1: 12 65531 challenge 4\nresidual 65409\neval 12\nweight 65528\nverdict refuted\n",
+    ),
+    (
+        r#"{"check":{"rounds":[[0,1],[12,65530]],"witnesses":[]}}"#,
+        1,
+        "claim 2\nround 0: 0 1 challenge 3\nround 1: 12 65530 challenge 4\nresidual 65417\neval 12\nweight 65528\nverdict refuted\n",
+    ),
+    // the rounds of prefix order
+    (
+        r#"{"check":{"rounds":[[2,65535],[0,65535]],"witnesses":[]}}"#,
+        1,
+        "claim 2\nround 0: 2 65535 challenge 3\nround 1: 0 65535 challenge 4\nresidual 65449\neval 12\nweight 65528\nverdict refuted\n",
+    ),
+    (r#"{"check":null}"#, 4, "proof refused missing 2\n"),
+    (
+        r#"{"check":{"rounds":[[0,1]],"witnesses":[]}}"#,
+        4,
+        "proof refused rounds expected 2 actual 1\n",
+    ),
+    (
+        r#"{"check":{"rounds":[[0,1],[12,65531]],"witnesses":[9]}}"#,
         4,
         "proof refused witnesses expected 0 actual 1\n",
     ),

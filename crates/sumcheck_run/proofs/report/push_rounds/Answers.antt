@@ -1,19 +1,32 @@
-use Rattle.std.proofs.Common.{◌≡◌, ◌++◌, [], ◌∷◌, sym, ◌∙◌, ap, append_assoc, string_bytes}
-use Rattle.sumcheck_run.specs.Lines.{round_line}
-use Rattle.sumcheck_run.specs.Played.{drawn_of, sent_of}
-use Rattle.sumcheck_run.proofs.LineLaws.{round_lines-more}
+use Rattle.std.proofs.Common.{◌≡◌, ◌++◌, [], ◌∷◌, ◌+◌, ◌<◌, length, map, take, sym, ◌∙◌, ap, append_assoc, string_bytes, arith}
+use Rattle.sc_rounds.specs.Data.{pair_of}
+use Rattle.sumcheck_run.specs.Lines.{round_line, round_lines}
+use Rattle.sumcheck_run.proofs.LineLaws.{round_lines-more, round_lines-all}
 use Rattle.sumcheck_run.proofs.report.push_rounds.Goals as goal
 
 pub loop-i-preserved : goal.loop-i-preserved
 loop-i-preserved g c =
     let number = g.F.Field.number in
     let i = c.loop-i.i in
-    let x = c.index-rounds-i.result in
-    let line : round_line i (c.index.result ∷ c.index-in-loop-i.result ∷ []) c.index-challenge.result
-    ≡ round_line i (number x.message.c_a ∷ number x.message.c_inf ∷ []) (number x.challenge) =
+    let m = c.index-messages-i.result in
+    let r = c.index-challenges-i.result in
+    let start = string_bytes c.args.text.now in
+    let done = round_lines 0 (map (pair_of number) (take i c.args.messages.now)) (map number (take i c.args.challenges.now)) in
+    let more = round_line i (pair_of number m) (number r) in
+    let low : i < length c.args.messages.now = omega (arith, c.loop-i-test.true, c.min-i-end.ensures) in
+    let low' : i < length c.args.challenges.now = omega (arith, c.loop-i-test.true, c.min-i-end.ensures) in
+    let line : round_line i (c.index.result ∷ c.index-in-loop-i.result ∷ []) c.index-challenge.result ≡ more =
     cc (c.index.ensures, c.index-in-loop-i.ensures, c.index-challenge.ensures) in
-    c.in_ok-push_round.ensures
-    ∙ ap (λ t. string_bytes c.loop-i.text ++ t) line
-    ∙ ap (λ t. t ++ round_line i (number x.message.c_a ∷ number x.message.c_inf ∷ []) (number x.challenge)) c.loop-i.invariant
-    ∙ append_assoc (string_bytes c.args.text.now) _ _
-    ∙ ap (λ t. string_bytes c.args.text.now ++ t) (sym (round_lines-more (sent_of number) (drawn_of number) c.args.rounds.now i x c.loop-i-test.true c.index-rounds-i.is))
+    let pushed : string_bytes c.push_round.new.text ≡ string_bytes c.loop-i.text ++ more =
+    c.in_ok-push_round.ensures ∙ ap (λ t. string_bytes c.loop-i.text ++ t) line in
+    let before : string_bytes c.push_round.new.text ≡ (start ++ done) ++ more = pushed ∙ ap (λ t. t ++ more) c.loop-i.invariant in
+    let lines : round_lines 0 (map (pair_of number) (take (i + 1) c.args.messages.now)) (map number (take (i + 1) c.args.challenges.now)) ≡ done ++ more =
+    round_lines-more (pair_of number) number c.args.messages.now c.args.challenges.now i m r low low' c.index-messages-i.is c.index-challenges-i.is in
+    before ∙ append_assoc start done more ∙ ap (λ t. start ++ t) (sym lines)
+
+pub returns : goal.returns
+returns g c =
+    let number = g.F.Field.number in
+    c.loop-i.invariant
+    ∙ ap (λ t. string_bytes c.args.text.now ++ t)
+    (round_lines-all (pair_of number) number 0 c.loop-i.i c.args.messages.now c.args.challenges.now (omega (arith, c.loop-i-test.false, c.min-i-end.ensures)))

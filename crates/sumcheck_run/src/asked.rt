@@ -1,0 +1,52 @@
+//! The audit that a job asks for.
+ghost use Rattle.std.specs.Prelude.{◌≡◌, IfOk};
+ghost use Rattle.sc_audit.specs.Cases.{case_in, given_in, task_in};
+ghost use Rattle.sumcheck_run.specs.Job.{JobFits, ModeFits, ProofFits};
+ghost use Rattle.sumcheck_run.specs.Report.{case_of, given_of, task_of};
+
+use crate::elements::{elements, messages};
+use crate::job::{Job, Mode, Proof};
+use crate::statements::constraint_of;
+use sc_audit::{Job as AuditJob, Mode as AuditMode, Strategy};
+use sc_field::{Field, NoMemory};
+use sc_rounds::SumcheckData;
+use std::alloc::Global;
+
+/// The audit of the elements that a job names by their numbers. Its rounds have no difficulty.
+pub(crate) fn audit_job<F: Field>(alloc: Global, job: &Job) -> Result<AuditJob<F, F>, NoMemory>
+    requires { JobFits F.ops.size job.now }
+    ensures { IfOk result (λ asked. case_in F.number F.number (λ x. x) asked ≡ case_of job.now) }
+{
+    let variables = job.variables as usize;
+    let batching = F::element(job.batching);
+    Ok(AuditJob {
+        table: elements(alloc, job.table.as_slice())?,
+        constraint: constraint_of(alloc, job.claims.as_slice(), variables, batching)?,
+        order: job.order,
+        pow_bits: 0,
+        mode: audit_mode(alloc, &job.mode)?,
+    })
+}
+
+// What is done with it.
+fn audit_mode<F: Field>(alloc: Global, mode: &Mode) -> Result<AuditMode<F, F>, NoMemory>
+    requires { ModeFits F.ops.size mode.now }
+    ensures { IfOk result (λ asked. task_in F.number F.number asked ≡ task_of mode.now) }
+{
+    match mode {
+        Mode::Build => Ok(AuditMode::Build(Strategy::Plain)),
+        Mode::Check(None) => Ok(AuditMode::Check(None)),
+        Mode::Check(Some(proof)) => Ok(AuditMode::Check(Some(proof_data(alloc, proof)?))),
+    }
+}
+
+// The data of a proof.
+fn proof_data<F: Field>(alloc: Global, proof: &Proof) -> Result<SumcheckData<F, F>, NoMemory>
+    requires { ProofFits F.ops.size proof.now }
+    ensures { IfOk result (λ d. given_in F.number F.number d ≡ given_of proof.now) }
+{
+    Ok(SumcheckData {
+        polynomial_evaluations: messages(alloc, proof.rounds.as_slice())?,
+        pow_witnesses: elements(alloc, proof.witnesses.as_slice())?,
+    })
+}
