@@ -2,3 +2,4 @@ pub mod Cases
 pub mod Refusals
 pub mod Figures
 pub mod Audits
+pub mod Seventeen

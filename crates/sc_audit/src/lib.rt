@@ -17,3 +17,6 @@ pub use error::{AuditError, FitFault, Form, ShapeFault};
 pub use job::{Job, Mode, Strategy};
 pub use report::{Report, Verdict};
 pub use sc_svo::{Grid, Grids};
+
+#[cfg(test)]
+mod tests;

@@ -1,0 +1,370 @@
+//! Whole audits, with figures from a script that is no part of this.
+ghost use Rattle.std.specs.Prelude.{◌≡◌, IfOk, length};
+ghost use Rattle.sc_statements.specs.EqStatements.{eq_arity};
+
+mod refusals;
+mod reports;
+mod seventeen;
+
+use crate::{AuditError, Job, Mode, Report, Strategy, Verdict, audit};
+use sc_challenger::{Challenger, Event, ScriptedChallenger};
+use sc_definitions::Event::{Draw, Word};
+use sc_field::{Field, NoMemory};
+use sc_rounds::SumcheckData;
+use sc_statements::{Constraint, EqStatement, Statements};
+use sc_table::{Point, RoundMessage, VariableOrder};
+use std::alloc::Global;
+use std::process::Abort;
+
+// A point, and the value that is claimed there.
+type Claim = (&'static [u64], u64);
+
+// The two values that a round sends.
+type Pair = (u64, u64);
+
+// What is done: rounds are built, or those of a proof, and its witnesses, are checked.
+#[derive(Clone, Copy)]
+enum Task {
+    Build(Strategy),
+    CheckNone,
+    Check(&'static [Pair], &'static [u64]),
+}
+
+// A report.
+#[derive(Clone, Copy)]
+struct Figures {
+    claim: u64,
+    rounds: &'static [Pair],
+    witnesses: &'static [u64],
+    challenges: &'static [u64],
+    residual: u64,
+    eval: u64,
+    weight: u64,
+    holds: bool,
+}
+
+// A job, with two groups of claims, and what the challenger draws and passes; what is answered, and what it appends to the history: the words of a
+// seed, each a hexadecimal digit, and events behind them.
+#[derive(Clone, Copy)]
+struct Case {
+    name: &'static str,
+    table: &'static [u64],
+    variables: usize,
+    claims: &'static [Claim],
+    further: &'static [Claim],
+    batching: u64,
+    order: VariableOrder,
+    pow_bits: usize,
+    task: Task,
+    draws: &'static [u64],
+    good: &'static [&'static [u64]],
+    answer: Result<Figures, AuditError>,
+    seed: &'static [&'static str],
+    events: &'static [Event],
+}
+
+// ---- The bytes of seeds, over a field as its own extension and in the basis of values; each digit is a word.
+
+// version 1, and the protocol's name behind its length
+const HEAD: &str = "01000000000000001570332d73756d636865636b2d717561647261746963";
+
+// a message of values of one part, fixed, two of them, and its label behind the label's length
+const VALUES: &str = "010000000000000001010000000000000002000000000000000a726f756e645f706f6c79";
+
+// a witness of one part, fixed, one bit
+const WITNESS: &str = "0300000000000000010100000000000000010000000000000009726f756e645f706f77";
+
+// a challenge of one part, one value
+const CHALLENGE: &str =
+    "020000000000000001000000000000000001000000000000000f726f756e645f6368616c6c656e6765";
+
+// a label of one byte, the basis
+const BASIS: &str = "000000000000000100";
+
+// the seeds of one round and of two, without a test and with one, have their number of steps behind the head
+const ONE_ROUND: [&str; 5] = [HEAD, "0000000000000002", VALUES, CHALLENGE, BASIS];
+
+const TWO_ROUNDS: [&str; 7] = [
+    HEAD,
+    "0000000000000004",
+    VALUES,
+    CHALLENGE,
+    VALUES,
+    CHALLENGE,
+    BASIS,
+];
+
+const TWO_TESTED_ROUNDS: [&str; 9] = [
+    HEAD,
+    "0000000000000006",
+    VALUES,
+    WITNESS,
+    CHALLENGE,
+    VALUES,
+    WITNESS,
+    CHALLENGE,
+    BASIS,
+];
+
+// The rounds of a table of two variables over the integers modulo 17, with two true claims.
+const PREFIX: Case = Case {
+    name: "prefix order",
+    table: &[3, 14, 15, 9],
+    variables: 2,
+    claims: &[(&[2, 5], 14), (&[11, 3], 15)],
+    further: &[],
+    batching: 4,
+    order: VariableOrder::Prefix,
+    pow_bits: 0,
+    task: Task::Build(Strategy::Plain),
+    draws: &[8, 12],
+    good: &[],
+    answer: Ok(Figures {
+        claim: 6,
+        rounds: &[(15, 7), (5, 11)],
+        witnesses: &[],
+        challenges: &[8, 12],
+        residual: 7,
+        eval: 10,
+        weight: 16,
+        holds: true,
+    }),
+    seed: &TWO_ROUNDS,
+    events: &[Word(15), Word(7), Draw, Word(5), Word(11), Draw],
+};
+
+// The element of this number.
+fn of<F: Field>(number: u64) -> F {
+    F::element(number % F::size())
+}
+
+// The elements of these numbers.
+fn elements<F: Field>(alloc: Global, numbers: &[u64]) -> Result<Vec<F>, NoMemory>
+    ensures { IfOk result (λ v. length v.items ≡ length numbers.now) }
+{
+    let elements = numbers.iter().map(|number| of(*number)).collect(alloc)?;
+    Ok(elements)
+}
+
+// The statements of these claims. One on another number of variables is left out.
+fn statements<F: Field>(
+    alloc: Global,
+    variables: usize,
+    claims: &[Claim],
+) -> Result<EqStatement<F>, NoMemory>
+    ensures { IfOk result (λ s. eq_arity s ≡ variables) }
+{
+    let mut statements = EqStatement::initialize(alloc, variables);
+    for (coords, value) in claims {
+        let point = Point::new(elements(alloc, *coords)?);
+        if point.num_variables() == variables {
+            statements.add_evaluated_constraint(point, of(*value))?;
+        }
+    }
+    Ok(statements)
+}
+
+// The proof of these rounds and witnesses.
+fn proof<F: Field>(
+    alloc: Global,
+    rounds: &[Pair],
+    witnesses: &[u64],
+) -> Result<SumcheckData<F, F>, NoMemory> {
+    let messages = rounds
+        .iter()
+        .map(|pair| RoundMessage {
+            c_a: of(pair.0),
+            c_inf: of(pair.1),
+        })
+        .collect(alloc)?;
+    Ok(SumcheckData {
+        polynomial_evaluations: messages,
+        pow_witnesses: elements(alloc, witnesses)?,
+    })
+}
+
+// A case's mode.
+fn mode<F: Field>(alloc: Global, task: Task) -> Result<Mode<F, F>, NoMemory> {
+    match task {
+        Task::Build(strategy) => Ok(Mode::Build(strategy)),
+        Task::CheckNone => Ok(Mode::Check(None)),
+        Task::Check(rounds, witnesses) => Ok(Mode::Check(Some(proof(alloc, rounds, witnesses)?))),
+    }
+}
+
+// A case's job.
+fn job<F: Field>(alloc: Global, case: &Case) -> Result<Job<F, F>, NoMemory> {
+    let first = statements(alloc, case.variables, case.claims)?;
+    let second = statements(alloc, case.variables, case.further)?;
+    let groups = vec![in alloc; Statements::Eq(first), Statements::Eq(second)]?;
+    Ok(Job {
+        table: elements(alloc, case.table)?,
+        constraint: Constraint::new(of(case.batching), case.variables, groups),
+        order: case.order,
+        pow_bits: case.pow_bits,
+        mode: mode(alloc, case.task)?,
+    })
+}
+
+// A case's challenger, with no history.
+fn challenger<F: Field>(alloc: Global, case: &Case) -> Result<ScriptedChallenger<F>, NoMemory> {
+    let mut good = Vec::new(alloc);
+    for list in case.good {
+        good.push(elements(alloc, *list)?)?;
+    }
+    Ok(ScriptedChallenger::new(alloc, elements(alloc, case.draws)?, good))
+}
+
+// Whether elements have these numbers.
+fn have_numbers<F: Field>(elements: &[F], numbers: &[u64]) -> bool {
+    elements.len() == numbers.len()
+        && elements
+            .iter()
+            .zip(numbers)
+            .all(|(element, number)| element.index() == *number)
+}
+
+// Whether messages are these pairs.
+fn are_pairs<F: Field>(messages: &[RoundMessage<F>], pairs: &[Pair]) -> bool {
+    messages.len() == pairs.len()
+        && messages.iter().zip(pairs).all(|(message, pair)| message.c_a.index() == pair.0
+            && message.c_inf.index() == pair.1)
+}
+
+// The first part of a report that is not as wanted, if there is one.
+fn wrong_figure<F: Field>(report: &Report<F, F>, wanted: &Figures) -> Option<&'static str> {
+    let parts = [
+        ("claim", report.claim.index() == wanted.claim),
+        (
+            "rounds",
+            are_pairs(report.rounds.polynomial_evaluations(), wanted.rounds),
+        ),
+        (
+            "witnesses",
+            have_numbers(&report.rounds.pow_witnesses, wanted.witnesses),
+        ),
+        (
+            "challenges",
+            have_numbers(report.challenges.as_slice(), wanted.challenges),
+        ),
+        ("residual", report.residual.index() == wanted.residual),
+        ("eval", report.eval.index() == wanted.eval),
+        ("weight", report.weight.index() == wanted.weight),
+        ("grids", report.grids.rounds.len() == 0),
+        ("verdict", is_verdict(&report.verdict, wanted.holds)),
+    ];
+    for (name, is_right) in parts {
+        if !is_right {
+            return Some(name);
+        }
+    }
+    None
+}
+
+// Whether a verdict is that the statements hold, or else that the rounds are refused.
+fn is_verdict<F>(verdict: &Verdict<F>, holds: bool) -> bool {
+    match verdict {
+        Verdict::Holds => holds,
+        Verdict::Refuted => !holds,
+        _ => false,
+    }
+}
+
+// The first part of an answer that is not as wanted, if there is one.
+fn wrong_part<F: Field>(
+    answer: &Result<Report<F, F>, AuditError>,
+    wanted: &Result<Figures, AuditError>,
+) -> Option<&'static str> {
+    match (answer, wanted) {
+        (Ok(report), Ok(figures)) => wrong_figure(report, figures),
+        (Err(error), Err(refusal)) => {
+            if error == refusal {
+                None
+            } else {
+                Some("refusal")
+            }
+        }
+        (Ok(_), Err(_)) => Some("report"),
+        (Err(_), Ok(_)) => Some("no report"),
+    }
+}
+
+// The history that a case leaves of the past.
+fn history(alloc: Global, past: &[Event], case: &Case) -> Result<Vec<Event>, NoMemory> {
+    let mut events = Vec::from_slice(alloc, past)?;
+    for digits in case.seed {
+        for digit in digits.chars() {
+            events.push(Word(digit.to_digit(16).unwrap_or(16) as u64))?;
+        }
+    }
+    for event in case.events {
+        events.push(*event)?;
+    }
+    Ok(events)
+}
+
+// Audits a job. What it was answered, and what the challenger's history then is, are compared with a case's: the first part that is not as wanted, if
+// there is one.
+fn wrong_in<F: Field>(
+    alloc: Global,
+    case: &Case,
+    job: &Job<F, F>,
+    challenger: &mut ScriptedChallenger<F>,
+    past: &[Event],
+) -> Result<Option<&'static str>, NoMemory> {
+    let answer = audit::<F, F, F, ScriptedChallenger<F>>(alloc, job, challenger);
+    let wanted = history(alloc, past, case)?;
+    if challenger.events() != wanted.as_slice() {
+        return Ok(Some("history"));
+    }
+    Ok(wrong_part(&answer, &case.answer))
+}
+
+static PAST: [Event; 3] = [Word(3), Word(16), Draw];
+
+// Observes two words and draws.
+fn begin<F: Field>(challenger: &mut ScriptedChallenger<F>) -> Result<(), NoMemory> {
+    challenger.observe(of(3))?;
+    challenger.observe(of(16))?;
+    challenger.sample()?;
+    Ok(())
+}
+
+// The first part of a case that is not as wanted, if there is one, from a challenger with no history.
+fn wrong_alone<F: Field>(alloc: Global, case: &Case) -> Result<Option<&'static str>, NoMemory> {
+    let mut challenger = challenger::<F>(alloc, case)?;
+    let job = job(alloc, case)?;
+    wrong_in(alloc, case, &job, &mut challenger, &[])
+}
+
+// The same from a challenger with a past.
+fn wrong_behind<F: Field>(alloc: Global, case: &Case) -> Result<Option<&'static str>, NoMemory> {
+    let mut challenger = challenger::<F>(alloc, case)?;
+    begin(&mut challenger)?;
+    let job = job(alloc, case)?;
+    wrong_in(alloc, case, &job, &mut challenger, &PAST)
+}
+
+// Asserts that each of these cases is as wanted, each with a challenger of its own that has no history.
+fn assert_alone<F: Field, A: Abort>(rt: &A, alloc: Global, cases: &[Case]) -> Result<(), NoMemory> {
+    for case in cases {
+        let name = case.name;
+        let wrong = wrong_alone::<F>(alloc, case)?;
+        assert_eq!(rt; wrong, None, "{name}");
+    }
+    Ok(())
+}
+
+// The same with challengers that have a past.
+fn assert_behind<F: Field, A: Abort>(
+    rt: &A,
+    alloc: Global,
+    cases: &[Case],
+) -> Result<(), NoMemory> {
+    for case in cases {
+        let name = case.name;
+        let wrong = wrong_behind::<F>(alloc, case)?;
+        assert_eq!(rt; wrong, None, "{name}");
+    }
+    Ok(())
+}
