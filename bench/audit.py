@@ -1,9 +1,9 @@
 #!/usr/bin/env python3
 """Measures `audit` on a job with one equality claim, for one program or for several side by side.
 
-usage: bench/audit.py [--variables N] [--repeats N] [--check] PROGRAM [PROGRAM ..]
+usage: bench/audit.py [--variables N] [--repeats N] [--suffix] [--check] PROGRAM [PROGRAM ..]
 
-The job is built, or with --check the rounds that the first program builds are handed in as a proof.
+The job is built in prefix order, or with --suffix in suffix order; with --check the rounds that the first program builds are handed in as a proof.
 
 Each PROGRAM is a command line, to which the word `audit` is appended; the job comes on standard input. The programs run
 one after the other in each repeat, and the medians of wall time, processor time and peak memory are shown, with their
@@ -22,23 +22,23 @@ def value_at(table, point):
     return table[0]
 
 
-def job(variables, mode):
+def job(variables, mode, order):
     rng = random.Random(variables)
     table = [rng.randrange(10000, P) for _ in range(1 << variables)]
     point = [rng.randrange(P) for _ in range(variables)]
     return json.dumps({
         "field": "65537",
         "challenger": {"draws": [rng.randrange(P) for _ in range(variables)], "witnesses": []},
-        "order": "prefix", "bits": 0, "table": table, "variables": variables,
+        "order": order, "bits": 0, "table": table, "variables": variables,
         "groups": [{"kind": "eq", "claims": [{"point": point, "value": value_at(table, point)}]}],
         "batching": 40503, "mode": mode,
     }, separators=(",", ":"))
 
 
-def proof(command, variables, folder):
+def proof(command, variables, order, folder):
     path, out = os.path.join(folder, "build.json"), os.path.join(folder, "built")
     with open(path, "w") as f:
-        f.write(job(variables, {"build": "plain"}))
+        f.write(job(variables, {"build": "plain"}, order))
     run(command, path, out)
     with open(out) as f:
         rounds = [[int(x) for x in line.split()[2:4]] for line in f if line.startswith("round ")]
@@ -61,19 +61,21 @@ def main():
     arguments = argparse.ArgumentParser(description=__doc__, formatter_class=argparse.RawDescriptionHelpFormatter)
     arguments.add_argument("--variables", type=int, default=20)
     arguments.add_argument("--repeats", type=int, default=7)
+    arguments.add_argument("--suffix", action="store_true")
     arguments.add_argument("--check", action="store_true")
     arguments.add_argument("programs", nargs="+")
     given = arguments.parse_args()
     for program in given.programs:
         if not program or shutil.which(shlex.split(program)[0]) is None:
             sys.exit(f"no such program: {program}")
+    order = "suffix" if given.suffix else "prefix"
     with tempfile.TemporaryDirectory() as folder:
         path = os.path.join(folder, "job.json")
         mode = {"build": "plain"}
         if given.check:
-            mode = proof(shlex.split(given.programs[0]), given.variables, folder)
+            mode = proof(shlex.split(given.programs[0]), given.variables, order, folder)
         with open(path, "w") as f:
-            f.write(job(given.variables, mode))
+            f.write(job(given.variables, mode, order))
         print(f"2^{given.variables} entries, {os.path.getsize(path)} bytes, {given.repeats} repeats, load {os.getloadavg()[0]:.2f}")
         samples = [[] for _ in given.programs]
         answers = set()
