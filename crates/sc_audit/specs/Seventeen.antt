@@ -1,5 +1,5 @@
 -- The integers modulo 17 are a field. This serves the tests alone.
-use Rattle.std.proofs.Common.{◌≡◌, ℕ, zero, suc, ◌+◌, ◌-◌, ◌*◌, ◌%◌, ◌<◌, ◌≤◌, Bool, true, false, ◌&&◌, eqb, List, [], ◌∷◌, get_or, sym, ◌∙◌, ap, refl, subst, arith, ⊎_elim, ltb, ltb-true, eqb-true}
+use Rattle.std.proofs.Common.{◌≡◌, ℕ, zero, suc, ◌+◌, ◌-◌, ◌*◌, ◌%◌, ◌<◌, ◌≤◌, Bool, true, false, ◌&&◌, eqb, [], ◌∷◌, get_or, sym, ◌∙◌, ap, refl, subst, arith, ⊎_elim, ltb, ltb-true, eqb-true}
 use Rattle.std.proofs.Math.Nat.{mod-lt, mod-add-mod, add-mod-mod, mul_comm, mul_assoc}
 use Rattle.std.proofs.lemmas.Nat.{mul-mod_first, mul-mod_second, mul-mod}
 use Rattle.std.proofs.lemmas.Bool.{cases_lt}

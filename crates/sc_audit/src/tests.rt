@@ -8,7 +8,7 @@ mod seventeen;
 
 use crate::{AuditError, Job, Mode, Report, Strategy, Verdict, audit};
 use sc_challenger::{Challenger, Event, ScriptedChallenger};
-use sc_definitions::Event::{Draw, Word};
+use sc_definitions::Event::{Draw, Test, Word};
 use sc_field::{Field, NoMemory};
 use sc_rounds::SumcheckData;
 use sc_statements::{Constraint, EqStatement, Statements};
@@ -30,7 +30,7 @@ enum Task {
     Check(&'static [Pair], &'static [u64]),
 }
 
-// A report.
+// The figures of a report; its grids are empty.
 #[derive(Clone, Copy)]
 struct Figures {
     claim: u64,
@@ -43,12 +43,13 @@ struct Figures {
     holds: bool,
 }
 
-// A job, with two groups of claims, and what the challenger draws and passes; what is answered, and what it appends to the history: the words of a
-// seed, each a hexadecimal digit, and events behind them.
+// A job, whose table is filled up to `rows` rows with zeros and whose claims are two groups; a challenger, by its draws, the witnesses that pass and its
+// history; and what is answered, and appended to the history: the words of a seed, each a hexadecimal digit, and events behind them.
 #[derive(Clone, Copy)]
 struct Case {
     name: &'static str,
     table: &'static [u64],
+    rows: usize,
     variables: usize,
     claims: &'static [Claim],
     further: &'static [Claim],
@@ -58,6 +59,7 @@ struct Case {
     task: Task,
     draws: &'static [u64],
     good: &'static [&'static [u64]],
+    past: &'static [Event],
     answer: Result<Figures, AuditError>,
     seed: &'static [&'static str],
     events: &'static [Event],
@@ -110,6 +112,7 @@ const TWO_TESTED_ROUNDS: [&str; 9] = [
 const PREFIX: Case = Case {
     name: "prefix order",
     table: &[3, 14, 15, 9],
+    rows: 0,
     variables: 2,
     claims: &[(&[2, 5], 14), (&[11, 3], 15)],
     further: &[],
@@ -119,6 +122,7 @@ const PREFIX: Case = Case {
     task: Task::Build(Strategy::Plain),
     draws: &[8, 12],
     good: &[],
+    past: &[],
     answer: Ok(Figures {
         claim: 6,
         rounds: &[(15, 7), (5, 11)],
@@ -192,27 +196,63 @@ fn mode<F: Field>(alloc: Global, task: Task) -> Result<Mode<F, F>, NoMemory> {
     }
 }
 
-// A case's job.
-fn job<F: Field>(alloc: Global, case: &Case) -> Result<Job<F, F>, NoMemory> {
+// A case's table.
+fn table<F: Field>(alloc: Global, case: &Case) -> Result<Vec<F>, NoMemory> {
+    let mut table: Vec<F> = elements(alloc, case.table)?;
+    if table.len() < case.rows {
+        table.resize(case.rows, F::ZERO)?;
+    }
+    Ok(table)
+}
+
+// A case's statements.
+fn constraint<F: Field>(alloc: Global, case: &Case) -> Result<Constraint<F, F>, NoMemory> {
     let first = statements(alloc, case.variables, case.claims)?;
     let second = statements(alloc, case.variables, case.further)?;
     let groups = vec![in alloc; Statements::Eq(first), Statements::Eq(second)]?;
+    Ok(Constraint::new(of(case.batching), case.variables, groups))
+}
+
+// A case's job.
+fn job<F: Field>(alloc: Global, case: &Case) -> Result<Job<F, F>, NoMemory> {
     Ok(Job {
-        table: elements(alloc, case.table)?,
-        constraint: Constraint::new(of(case.batching), case.variables, groups),
+        table: table(alloc, case)?,
+        constraint: constraint(alloc, case)?,
         order: case.order,
         pow_bits: case.pow_bits,
         mode: mode(alloc, case.task)?,
     })
 }
 
-// A case's challenger, with no history.
-fn challenger<F: Field>(alloc: Global, case: &Case) -> Result<ScriptedChallenger<F>, NoMemory> {
-    let mut good = Vec::new(alloc);
-    for list in case.good {
-        good.push(elements(alloc, *list)?)?;
+// Observes and draws as a history without a test says.
+fn play<F: Field>(challenger: &mut ScriptedChallenger<F>, past: &[Event]) -> Result<(), NoMemory> {
+    for event in past {
+        match event {
+            Word(number) => challenger.observe(of(*number))?,
+            Draw => {
+                challenger.sample()?;
+            }
+            Test(_) => {}
+        }
     }
-    Ok(ScriptedChallenger::new(alloc, elements(alloc, case.draws)?, good))
+    Ok(())
+}
+
+// Lists of the elements of these numbers.
+fn lists<F: Field>(alloc: Global, numbers: &[&[u64]]) -> Result<Vec<Vec<F>>, NoMemory> {
+    let mut lists = Vec::new(alloc);
+    for list in numbers {
+        lists.push(elements(alloc, *list)?)?;
+    }
+    Ok(lists)
+}
+
+// A case's challenger.
+fn challenger<F: Field>(alloc: Global, case: &Case) -> Result<ScriptedChallenger<F>, NoMemory> {
+    let good = lists(alloc, case.good)?;
+    let mut challenger = ScriptedChallenger::new(alloc, elements(alloc, case.draws)?, good);
+    play(&mut challenger, case.past)?;
+    Ok(challenger)
 }
 
 // Whether elements have these numbers.
@@ -231,7 +271,7 @@ fn are_pairs<F: Field>(messages: &[RoundMessage<F>], pairs: &[Pair]) -> bool {
             && message.c_inf.index() == pair.1)
 }
 
-// The first part of a report that is not as wanted, if there is one.
+// The first figure of a report that is not as wanted, if there is one.
 fn wrong_figure<F: Field>(report: &Report<F, F>, wanted: &Figures) -> Option<&'static str> {
     let parts = [
         ("claim", report.claim.index() == wanted.claim),
@@ -289,13 +329,30 @@ fn wrong_part<F: Field>(
     }
 }
 
-// The history that a case leaves of the past.
-fn history(alloc: Global, past: &[Event], case: &Case) -> Result<Vec<Event>, NoMemory> {
-    let mut events = Vec::from_slice(alloc, past)?;
+// The first part of an audit's answer that is not as a case says, if there is one.
+fn wrong_answer<F: Field>(
+    alloc: Global,
+    case: &Case,
+    job: &Job<F, F>,
+    challenger: &mut ScriptedChallenger<F>,
+) -> Option<&'static str> {
+    let answer = audit::<F, F, F, ScriptedChallenger<F>>(alloc, job, challenger);
+    wrong_part(&answer, &case.answer)
+}
+
+// Appends a word for each hexadecimal digit.
+fn push_digits(events: &mut Vec<Event>, digits: &str) -> Result<(), NoMemory> {
+    for digit in digits.chars() {
+        events.push(Word(digit.to_digit(16).unwrap_or(16) as u64))?;
+    }
+    Ok(())
+}
+
+// The history that a case ends with.
+fn history(alloc: Global, case: &Case) -> Result<Vec<Event>, NoMemory> {
+    let mut events = Vec::from_slice(alloc, case.past)?;
     for digits in case.seed {
-        for digit in digits.chars() {
-            events.push(Word(digit.to_digit(16).unwrap_or(16) as u64))?;
-        }
+        push_digits(&mut events, *digits)?;
     }
     for event in case.events {
         events.push(*event)?;
@@ -303,67 +360,45 @@ fn history(alloc: Global, past: &[Event], case: &Case) -> Result<Vec<Event>, NoM
     Ok(events)
 }
 
-// Audits a job. What it was answered, and what the challenger's history then is, are compared with a case's: the first part that is not as wanted, if
-// there is one.
+// What is wrong with these events if a case does not end with them.
+fn wrong_history(
+    alloc: Global,
+    case: &Case,
+    events: &[Event],
+) -> Result<Option<&'static str>, NoMemory> {
+    let wanted = history(alloc, case)?;
+    if events == wanted.as_slice() {
+        Ok(None)
+    } else {
+        Ok(Some("history"))
+    }
+}
+
+// The first part of an audit's answer and of the history that it leaves that is not as a case says, if there is one.
 fn wrong_in<F: Field>(
     alloc: Global,
     case: &Case,
     job: &Job<F, F>,
     challenger: &mut ScriptedChallenger<F>,
-    past: &[Event],
 ) -> Result<Option<&'static str>, NoMemory> {
-    let answer = audit::<F, F, F, ScriptedChallenger<F>>(alloc, job, challenger);
-    let wanted = history(alloc, past, case)?;
-    if challenger.events() != wanted.as_slice() {
-        return Ok(Some("history"));
+    match wrong_answer(alloc, case, job, challenger) {
+        Some(part) => Ok(Some(part)),
+        None => wrong_history(alloc, case, challenger.events()),
     }
-    Ok(wrong_part(&answer, &case.answer))
 }
 
-static PAST: [Event; 3] = [Word(3), Word(16), Draw];
-
-// Observes two words and draws.
-fn begin<F: Field>(challenger: &mut ScriptedChallenger<F>) -> Result<(), NoMemory> {
-    challenger.observe(of(3))?;
-    challenger.observe(of(16))?;
-    challenger.sample()?;
-    Ok(())
-}
-
-// The first part of a case that is not as wanted, if there is one, from a challenger with no history.
-fn wrong_alone<F: Field>(alloc: Global, case: &Case) -> Result<Option<&'static str>, NoMemory> {
+// The same of the case's own job and challenger.
+fn wrong_at<F: Field>(alloc: Global, case: &Case) -> Result<Option<&'static str>, NoMemory> {
     let mut challenger = challenger::<F>(alloc, case)?;
     let job = job(alloc, case)?;
-    wrong_in(alloc, case, &job, &mut challenger, &[])
+    wrong_in(alloc, case, &job, &mut challenger)
 }
 
-// The same from a challenger with a past.
-fn wrong_behind<F: Field>(alloc: Global, case: &Case) -> Result<Option<&'static str>, NoMemory> {
-    let mut challenger = challenger::<F>(alloc, case)?;
-    begin(&mut challenger)?;
-    let job = job(alloc, case)?;
-    wrong_in(alloc, case, &job, &mut challenger, &PAST)
-}
-
-// Asserts that each of these cases is as wanted, each with a challenger of its own that has no history.
-fn assert_alone<F: Field, A: Abort>(rt: &A, alloc: Global, cases: &[Case]) -> Result<(), NoMemory> {
+// Asserts that each of these cases is answered as it says.
+fn assert_all<F: Field, A: Abort>(rt: &A, alloc: Global, cases: &[Case]) -> Result<(), NoMemory> {
     for case in cases {
         let name = case.name;
-        let wrong = wrong_alone::<F>(alloc, case)?;
-        assert_eq!(rt; wrong, None, "{name}");
-    }
-    Ok(())
-}
-
-// The same with challengers that have a past.
-fn assert_behind<F: Field, A: Abort>(
-    rt: &A,
-    alloc: Global,
-    cases: &[Case],
-) -> Result<(), NoMemory> {
-    for case in cases {
-        let name = case.name;
-        let wrong = wrong_behind::<F>(alloc, case)?;
+        let wrong = wrong_at::<F>(alloc, case)?;
         assert_eq!(rt; wrong, None, "{name}");
     }
     Ok(())

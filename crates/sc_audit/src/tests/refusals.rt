@@ -1,16 +1,17 @@
 //! What is refused before a round is played, each behind a history.
 use super::seventeen::F17;
-use super::{Case, PAST, PREFIX, Task, assert_behind, begin, challenger, job, wrong_in};
+use super::{Case, PREFIX, Task, assert_all};
 use crate::{AuditError, Form, ShapeFault, Strategy};
-use sc_field::{Field, NoMemory};
+use sc_definitions::Event::{Draw, Word};
+use sc_field::NoMemory;
 use std::alloc::Global;
-use std::test::Fail;
 
 // Nothing is appended to the history, which has a draw.
 const REFUSED: Case = Case {
     name: "a strategy on a representation",
     task: Task::Build(Strategy::Represented),
     draws: &[13, 8, 12],
+    past: &[Word(3), Word(16), Draw],
     answer: Err(AuditError::Unbuilt(Form::Mode)),
     seed: &[],
     events: &[],
@@ -160,21 +161,22 @@ static REFUSALS: [Case; 17] = [
 ];
 
 #[test]
-fn a_refusal_leaves_the_history_as_it_was(rt: HostRuntime) -> Result<(), Fail> {
-    assert_behind::<F17, HostRuntime>(&rt, rt.alloc(), &REFUSALS)?;
-    Ok(())
+fn a_refusal_leaves_the_history_as_it_was(rt: HostRuntime) -> Result<(), NoMemory> {
+    assert_all::<F17, HostRuntime>(&rt, rt.alloc(), &REFUSALS)
 }
 
-// The faults of a shape, each mended in the next row: the table, the difficulty, how many variables the statements are on, and what is told. Of the last
-// row the shape fits.
-static SHAPES: [(&[u64], usize, usize, Option<ShapeFault>); 4] = [
+// The faults of a shape, each mended in the next row: a name, the table, the difficulty, how many variables the statements are on, and what is told. Of
+// the last row the shape fits.
+static SHAPES: [(&str, &[u64], usize, usize, Option<ShapeFault>); 4] = [
     (
+        "all faults",
         &[3, 14, 15],
         17,
         1,
         Some(ShapeFault::TableLength { len: 3 }),
     ),
     (
+        "all faults but of the table's length",
         &[3, 14, 15, 9],
         17,
         1,
@@ -184,6 +186,7 @@ static SHAPES: [(&[u64], usize, usize, Option<ShapeFault>); 4] = [
         }),
     ),
     (
+        "a fault of the number of variables and a later one",
         &[3, 14, 15, 9],
         1,
         1,
@@ -192,7 +195,7 @@ static SHAPES: [(&[u64], usize, usize, Option<ShapeFault>); 4] = [
             actual: 1,
         }),
     ),
-    (&[3, 14, 15, 9], 1, 2, None),
+    ("a later fault alone", &[3, 14, 15, 9], 1, 2, None),
 ];
 
 // What is done at fault, and what is told of it where the shape fits.
@@ -235,7 +238,6 @@ static FAULTS: [(Task, AuditError); 6] = [
 
 // Claims on one variable and on two, of which those are left that are on as many as the case says; all are false, and no witness passes.
 static FALSE_EITHER_WAY: Case = Case {
-    name: "several faults",
     claims: &[(&[2], 5), (&[2, 5], 9)],
     ..REFUSED
 };
@@ -252,9 +254,10 @@ fn first(fault: AuditError, shape_fault: Option<ShapeFault>) -> AuditError {
 // Each shape with each fault.
 fn of_several_faults(alloc: Global) -> Result<Vec<Case>, NoMemory> {
     let mut cases = Vec::new(alloc);
-    for (table, pow_bits, variables, shape_fault) in &SHAPES {
+    for (name, table, pow_bits, variables, shape_fault) in &SHAPES {
         for (task, fault) in &FAULTS {
             cases.push(Case {
+                name: *name,
                 table: *table,
                 pow_bits: *pow_bits,
                 variables: *variables,
@@ -268,31 +271,37 @@ fn of_several_faults(alloc: Global) -> Result<Vec<Case>, NoMemory> {
 }
 
 #[test]
-fn the_first_fault_is_told(rt: HostRuntime) -> Result<(), Fail> {
+fn the_first_fault_is_told(rt: HostRuntime) -> Result<(), NoMemory> {
     let cases = of_several_faults(rt.alloc())?;
-    assert_behind::<F17, HostRuntime>(&rt, rt.alloc(), &cases)?;
-    Ok(())
+    assert_all::<F17, HostRuntime>(&rt, rt.alloc(), &cases)
 }
 
-// A table twice as long as the longest that fits.
-static TOO_LONG: Case = Case {
-    name: "a table of 2^25 rows",
-    answer: Err(AuditError::JobShape(ShapeFault::TableLength { len: 33554432 })),
-    ..BUILD
-};
-
-// The first part of that case that is not as wanted, if there is one.
-fn wrong_in_too_long(alloc: Global) -> Result<Option<&'static str>, NoMemory> {
-    let mut challenger = challenger::<F17>(alloc, &TOO_LONG)?;
-    begin(&mut challenger)?;
-    let mut job = job::<F17>(alloc, &TOO_LONG)?;
-    job.table.resize(1 << 25, F17::ZERO)?;
-    wrong_in(alloc, &TOO_LONG, &job, &mut challenger, &PAST)
-}
+// Tables of the greatest length, of the next one and of the next power of two.
+static LONG: [Case; 3] = [
+    Case {
+        name: "2^24 rows",
+        rows: 16777216,
+        answer: Err(AuditError::JobShape(ShapeFault::Arity {
+            expected: 24,
+            actual: 2,
+        })),
+        ..BUILD
+    },
+    Case {
+        name: "2^24 rows and one",
+        rows: 16777217,
+        answer: Err(AuditError::JobShape(ShapeFault::TableLength { len: 16777217 })),
+        ..BUILD
+    },
+    Case {
+        name: "2^25 rows",
+        rows: 33554432,
+        answer: Err(AuditError::JobShape(ShapeFault::TableLength { len: 33554432 })),
+        ..BUILD
+    },
+];
 
 #[test]
-fn a_table_of_two_to_the_25_rows_is_refused(rt: HostRuntime) -> Result<(), Fail> {
-    let wrong = wrong_in_too_long(rt.alloc())?;
-    assert_eq!(rt; wrong, None);
-    Ok(())
+fn a_table_of_more_than_two_to_the_24_rows_is_refused(rt: HostRuntime) -> Result<(), NoMemory> {
+    assert_all::<F17, HostRuntime>(&rt, rt.alloc(), &LONG)
 }

@@ -1,17 +1,16 @@
 //! Rounds that are built or checked.
 use super::seventeen::F17;
 use super::{
-    Case, Figures, ONE_ROUND, PREFIX, TWO_TESTED_ROUNDS, Task, assert_alone, assert_behind,
-    challenger, job, wrong_in,
+    Case, Figures, ONE_ROUND, PREFIX, TWO_TESTED_ROUNDS, Task, assert_all, challenger, job,
+    wrong_in,
 };
-use crate::{AuditError, Form, Mode, Strategy, audit};
+use crate::{AuditError, Form, Job, Mode, Strategy, audit};
 use sc_challenger::ScriptedChallenger;
 use sc_definitions::Event::{Draw, Test, Word};
-use sc_field::{F65537, Field};
+use sc_field::{F65537, Field, NoMemory};
 use sc_table::VariableOrder;
 use std::alloc::Global;
 use std::process::Abort;
-use std::test::Fail;
 
 // In suffix order, with the claims in two groups.
 const SUFFIX: Case = Case {
@@ -245,8 +244,13 @@ const POINT: Case = Case {
     ..PREFIX
 };
 
-static POINTS: [Case; 6] = [
+static POINTS: [Case; 7] = [
     POINT,
+    Case {
+        name: "no proof behind a history",
+        past: &[Word(3), Word(16), Draw],
+        ..POINT
+    },
     Case {
         name: "a proof of no rounds",
         task: Task::Check(&[], &[]),
@@ -279,6 +283,7 @@ static POINTS: [Case; 6] = [
     },
     Case {
         name: "a proof of one round",
+        past: &[Word(3), Word(16), Draw],
         task: Task::Check(&[(5, 1)], &[]),
         answer: Err(AuditError::RoundCountMismatch {
             expected: 0,
@@ -367,11 +372,13 @@ static BEHIND: [Case; 2] = [
     Case {
         name: "rounds that are built",
         draws: &[13, 8, 12],
+        past: &[Word(3), Word(16), Draw],
         ..PREFIX
     },
     Case {
         name: "a witness that fails",
         draws: &[13, 8, 12],
+        past: &[Word(3), Word(16), Draw],
         ..FAILS_SECOND
     },
 ];
@@ -391,27 +398,28 @@ static WITNESSES: [Case; 4] = [TESTED, TURNED, HANDED_IN, OTHER_WITNESS];
 static FAILS: [Case; 2] = [FAILS_SECOND, FAILS_FIRST];
 
 #[test]
-fn honest_rounds_are_built_in_either_order(rt: HostRuntime) -> Result<(), Fail> {
-    assert_alone::<F17, HostRuntime>(&rt, rt.alloc(), &HONEST)?;
-    assert_alone::<F65537, HostRuntime>(&rt, rt.alloc(), &LARGE_HONEST)?;
-    Ok(())
+fn honest_rounds_are_built_in_either_order(rt: HostRuntime) -> Result<(), NoMemory> {
+    assert_all::<F17, HostRuntime>(&rt, rt.alloc(), &HONEST)?;
+    assert_all::<F65537, HostRuntime>(&rt, rt.alloc(), &LARGE_HONEST)
 }
 
-// Builds the rounds of a case, and audits them as a proof: the first part that is not as in the case, if there is one.
-fn wrong_again<F: Field>(alloc: Global, case: &Case) -> Result<Option<&'static str>, AuditError> {
-    let mut builder = challenger::<F>(alloc, case)?;
+// A case's job with the rounds that it builds as a proof.
+fn checking_job<F: Field>(alloc: Global, case: &Case) -> Result<Job<F, F>, AuditError> {
+    let mut challenger = challenger::<F>(alloc, case)?;
     let mut job = job::<F>(alloc, case)?;
-    let report = audit::<F, F, F, ScriptedChallenger<F>>(alloc, &job, &mut builder)?;
+    let report = audit::<F, F, F, ScriptedChallenger<F>>(alloc, &job, &mut challenger)?;
     job.mode = Mode::Check(Some(report.rounds));
-    let mut checker = challenger::<F>(alloc, case)?;
-    let wrong = wrong_in(alloc, case, &job, &mut checker, &[])?;
-    if builder.events() != checker.events() {
-        return Ok(Some("another history"));
-    }
-    Ok(wrong)
+    Ok(job)
 }
 
-// Asserts that the rounds of each of these builds are as in the case when they are checked.
+// The first part of what an audit of this proof answers and leaves that is not as the case says, if there is one.
+fn wrong_again<F: Field>(alloc: Global, case: &Case) -> Result<Option<&'static str>, AuditError> {
+    let job = checking_job::<F>(alloc, case)?;
+    let mut challenger = challenger::<F>(alloc, case)?;
+    Ok(wrong_in(alloc, case, &job, &mut challenger)?)
+}
+
+// Asserts that each of these builds has its report and its history again where its rounds are checked.
 fn assert_again<F: Field, A: Abort>(
     rt: &A,
     alloc: Global,
@@ -426,45 +434,37 @@ fn assert_again<F: Field, A: Abort>(
 }
 
 #[test]
-fn rounds_that_were_built_hold_when_they_are_checked(rt: HostRuntime) -> Result<(), Fail> {
+fn rounds_that_were_built_hold_when_they_are_checked(rt: HostRuntime) -> Result<(), AuditError> {
     assert_again::<F17, HostRuntime>(&rt, rt.alloc(), &BUILT)?;
-    assert_again::<F65537, HostRuntime>(&rt, rt.alloc(), &LARGE_HONEST)?;
-    Ok(())
+    assert_again::<F65537, HostRuntime>(&rt, rt.alloc(), &LARGE_HONEST)
 }
 
 #[test]
-fn altered_rounds_are_refuted(rt: HostRuntime) -> Result<(), Fail> {
-    assert_alone::<F17, HostRuntime>(&rt, rt.alloc(), &ALTERED)?;
-    Ok(())
+fn altered_rounds_are_refuted(rt: HostRuntime) -> Result<(), NoMemory> {
+    assert_all::<F17, HostRuntime>(&rt, rt.alloc(), &ALTERED)
 }
 
 #[test]
-fn a_lucky_challenge_has_no_verdict_yet(rt: HostRuntime) -> Result<(), Fail> {
-    assert_alone::<F65537, HostRuntime>(&rt, rt.alloc(), &LUCKY)?;
-    Ok(())
+fn a_lucky_challenge_has_no_verdict_yet(rt: HostRuntime) -> Result<(), NoMemory> {
+    assert_all::<F65537, HostRuntime>(&rt, rt.alloc(), &LUCKY)
 }
 
 #[test]
-fn no_rounds_need_no_proof_and_no_seed(rt: HostRuntime) -> Result<(), Fail> {
-    assert_alone::<F17, HostRuntime>(&rt, rt.alloc(), &POINTS)?;
-    assert_behind::<F17, HostRuntime>(&rt, rt.alloc(), &POINTS)?;
-    Ok(())
+fn no_rounds_need_no_proof_and_no_seed(rt: HostRuntime) -> Result<(), NoMemory> {
+    assert_all::<F17, HostRuntime>(&rt, rt.alloc(), &POINTS)
 }
 
 #[test]
-fn a_positive_difficulty_takes_a_witness_each_round(rt: HostRuntime) -> Result<(), Fail> {
-    assert_alone::<F17, HostRuntime>(&rt, rt.alloc(), &WITNESSES)?;
-    Ok(())
+fn a_positive_difficulty_takes_a_witness_each_round(rt: HostRuntime) -> Result<(), NoMemory> {
+    assert_all::<F17, HostRuntime>(&rt, rt.alloc(), &WITNESSES)
 }
 
 #[test]
-fn the_history_ends_with_the_test_that_fails(rt: HostRuntime) -> Result<(), Fail> {
-    assert_alone::<F17, HostRuntime>(&rt, rt.alloc(), &FAILS)?;
-    Ok(())
+fn the_history_ends_with_the_test_that_fails(rt: HostRuntime) -> Result<(), NoMemory> {
+    assert_all::<F17, HostRuntime>(&rt, rt.alloc(), &FAILS)
 }
 
 #[test]
-fn everything_comes_behind_the_history_that_there_was(rt: HostRuntime) -> Result<(), Fail> {
-    assert_behind::<F17, HostRuntime>(&rt, rt.alloc(), &BEHIND)?;
-    Ok(())
+fn everything_comes_behind_the_history_that_there_was(rt: HostRuntime) -> Result<(), NoMemory> {
+    assert_all::<F17, HostRuntime>(&rt, rt.alloc(), &BEHIND)
 }
