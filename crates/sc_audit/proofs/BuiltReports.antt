@@ -8,7 +8,7 @@ use Rattle.sc_definitions.specs.Rounds.{honest_pair, next_claim, claim_along}
 use Rattle.sc_definitions.specs.Statements.{Statement}
 use Rattle.sc_definitions.specs.Events.{Rules, Extension}
 use Rattle.sc_definitions.specs.Transcript.{Round, sent, messages_of, rounds_events, challenges, IsBuilt}
-use Rattle.sc_definitions.specs.Replays.{Replays, given_rounds}
+use Rattle.sc_definitions.specs.Replays.{Replays, ReplaysSome, given_rounds}
 use Rattle.sc_definitions.specs.Problem.{Problem, weights_of, claim_of, honest_of, residual_of, eval_of, weight_value_of}
 use Rattle.sc_definitions.proofs.RingLaws.{element-small}
 use Rattle.std.proofs.Math.Nat.{pow-suc}
@@ -26,7 +26,7 @@ use Rattle.sc_rounds.proofs.InStep.{given_played}
 use Rattle.sc_audit.specs.declared.job.Strategy.{Strategy}
 use Rattle.sc_audit.specs.Cases.{Case, Task, build}
 use Rattle.sc_audit.specs.Figures.{Figures, Finding, holds, finding_by, false_claim_of, is_matched, figures_of}
-use Rattle.sc_audit.specs.Audits.{begun, Plays, IsAudited, FindsNone}
+use Rattle.sc_audit.specs.Audits.{begun, Plays, IsAudited, IsBrokenOff, FindsNone}
 use Rattle.sc_audit.proofs.FigureLaws.{stated, figures-are}
 use Rattle.sc_audit.proofs.SameTables.{Agree, played-same}
 
@@ -110,6 +110,32 @@ module _ (order : Order) (o : Ops) (ring : IsRing o) (R : Rules) (E : Extension)
             q.appended q.found q.played.drawn claim_is (residual-left rounds _ residual moved.claim)
             (xe ∙ eval-left f' rs low' q.played.evals ∙ ap (eval_of o p) q.played.drawn) (ye ∙ weight-left w' rs high' q.played.weights ∙ ap (weight_value_of o p) q.played.drawn)
             (finding-built (begun E h k) rounds none count q.played.built);
+      }
+
+  -- a replay of them that was broken off
+  pub broken-built : (h : List Event) (rows : ℕ) (task : Task) (strategy : Strategy) (rs : List ℕ) (left : ℕ) (f' w' : ℕ → ℕ) (claim' : ℕ) (h' hv : List Event) (ms : List (List ℕ)) (ws : List ℕ)
+      (residual : ℕ) →
+      PlaysBatch order o R E bits n f (weights_of o (stated order n f ss c i)) (claim_of o (stated order n f ss c i))
+      (begun E h (record { rows = rows; bits = bits; problem = stated order n f ss c i; task = task })) rs left f' w' claim' h' [] [] ms ws →
+      left ≡ 0 →
+      ReplaysSome (next_claim evaluation o) R E bits (begun E h (record { rows = rows; bits = bits; problem = stated order n f ss c i; task = task }))
+      (claim_of o (stated order n f ss c i)) (given_rounds ms ws) hv residual →
+      IsBrokenOff o R E h (record { rows = rows; bits = bits; problem = stated order n f ss c i; task = task }) (build strategy) hv
+  broken-built h rows task strategy rs left f' w' claim' h' hv ms ws residual batch none_left some =
+      let p = stated order n f ss c i in
+      let k : Case = record { rows = rows; bits = bits; problem = p; task = task } in
+      let q : PlaysBatch order o R E bits n f (weights_of o p) (claim_of o p) (begun E h k) rs 0 f' w' claim' h' [] [] ms ws = rw (← none_left) batch in
+      let rounds = q.rounds in
+      let given : given_rounds ms ws ≡ rounds =
+      ap (λ t. given_rounds t ws) q.appended ∙ ap (given_rounds (messages_of rounds)) q.found ∙ given_played _ R E bits (begun E h k) [] n rounds q.played.built in
+      let moved : ReplaysSome (next_claim evaluation o) R E bits (begun E h k) (claim_of o p) rounds hv residual = rw (← given) some in
+      record {
+        rounds = rounds;
+        are = built-honest (begun E h k) rounds q.played.built;
+        count = omega (arith, q.played.count);
+        played = moved.count;
+        passes = moved.replays.passes;
+        history = moved.replays.history;
       }
 
 -- rounds that are built stop where none passes

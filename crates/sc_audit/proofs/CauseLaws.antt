@@ -1,5 +1,5 @@
 -- What a refusal is caused by.
-use Rattle.std.proofs.Common.{◌≡◌, ℕ, zero, suc, true, false, List, [], ◌∷◌, ◌++◌, take, Option, Some, None, Result, Ok, Err, OnErr, sym, ◌∙◌, ap, subst, append_assoc}
+use Rattle.std.proofs.Common.{◌≡◌, ℕ, zero, suc, true, false, List, [], ◌∷◌, ◌++◌, take, Option, Some, None, Result, Ok, Err, OnErr, ◌⊎◌, refl, sym, ◌∙◌, ap, subst, append_assoc}
 use Rattle.std.proofs.lemmas.List.{append-nil}
 use Rattle.std.specs.List.{slice_get}
 use Rattle.sc_definitions.specs.declared.events.Event.{Event}
@@ -12,19 +12,36 @@ use Rattle.sc_audit.specs.declared.error.AuditError.TheVariants.{Unbuilt, JobSha
 use Rattle.sc_audit.specs.declared.error.Form.TheVariants.{Mode, Verdict}
 use Rattle.sc_audit.specs.Cases.{Case, Task, Given, build, check}
 use Rattle.sc_audit.specs.Refusals.{or_later, mode_refusal, shape_refusal, task_refusal, refusal_of}
-use Rattle.sc_audit.specs.Audits.{begun, IsLucky, FailsAt, IsFailing, IsCaused, PassesAll, IsValid, MayMeet}
+use Rattle.sc_audit.specs.Audits.{begun, IsLucky, IsBrokenOff, FailsAt, IsFailing, IsUnground, IsCaused, PassesAll, IsValid, MayMeet, IsUngroundResult}
 
 -- what holds of a refusal
 pub on_err : {T E : Type 0} {P : Type 0} (r : Result T E) (e : E) → r ≡ Err e → OnErr r P → P
 on_err (Ok x) e is p = cc
 on_err (Err x) e is p = p
 
+-- no witness was found in a round that has a number
+pub unground_is : {T : Type 0} (r : Result T AuditError) → IsUngroundResult r → (i : ℕ) × (r ≡ Err (NoWitness i))
+unground_is (Ok x) p = absurd p
+unground_is (Err (Unbuilt form)) p = absurd p
+unground_is (Err (JobShape fault)) p = absurd p
+unground_is (Err (StrategyUnfit fault)) p = absurd p
+unground_is (Err (FalseClaim i a b)) p = absurd p
+unground_is (Err (MissingSumcheckData n)) p = absurd p
+unground_is (Err (RoundCountMismatch n m)) p = absurd p
+unground_is (Err (PowWitnessCountMismatch n m)) p = absurd p
+unground_is (Err (InvalidPowWitness i d)) p = absurd p
+unground_is (Err (NoWitness i)) p = (i, refl)
+unground_is (Err NoMemory) p = absurd p
+
 module _ (first : Option AuditError) (o : Ops) (R : Rules) (E : Extension) (size : ℕ) (h : List Event) (k : Case) (h' : List Event) (e : AuditError) where
-  pub caused-memory : (task : Task) → e ≡ NoMemory → IsCaused first o R E size h k task e h'
-  caused-memory task is = subst (λ t. IsCaused first o R E size h k task t h') (sym is) tt
+  pub caused-memory : (task : Task) → e ≡ NoMemory → (h' ≡ h) ⊎ IsBrokenOff o R E h k task h' → IsCaused first o R E size h k task e h'
+  caused-memory task is left = subst (λ t. IsCaused first o R E size h k task t h') (sym is) left
 
   pub caused-lucky : (task : Task) → e ≡ Unbuilt Verdict → IsLucky o R E h k task h' → IsCaused first o R E size h k task e h'
   caused-lucky task is found = subst (λ t. IsCaused first o R E size h k task t h') (sym is) found
+
+  pub caused-unground : (task : Task) (i : ℕ) → e ≡ NoWitness i → IsUnground o R E size h k task i → h' ≡ h → IsCaused first o R E size h k task e h'
+  caused-unground task i is found kept = subst (λ t. IsCaused first o R E size h k task t h') (sym is) (found, kept)
 
   pub caused-rounds : (task : Task) (n m : ℕ) → e ≡ RoundCountMismatch n m → first ≡ Some (RoundCountMismatch n m) → h' ≡ h → IsCaused first o R E size h k task e h'
   caused-rounds task n m is found kept = subst (λ t. IsCaused first o R E size h k task t h') (sym is) (found, kept)

@@ -1,5 +1,5 @@
 -- What a case is answered, and what the answer leaves of the challenger's history.
-use Rattle.std.specs.Prelude.{◌≡◌, ◌<◌, ℕ, suc, ◌+◌, List, [], ◌++◌, length, Option, Some, None, Result, Ok, Err}
+use Rattle.std.specs.Prelude.{◌≡◌, ◌⊎◌, ◌<◌, ℕ, suc, ◌+◌, List, [], ◌++◌, length, take, Option, Some, None, Result, Ok, Err}
 use Rattle.sc_definitions.specs.declared.events.Event.{Event}
 use Rattle.sc_definitions.specs.Ring.{Ops}
 use Rattle.sc_definitions.specs.Rounds.{next_claim}
@@ -64,6 +64,15 @@ IsFailing o R E h c (build strategy) i h' = ⊥
 IsFailing o R E h c (check None) i h' = ⊥
 IsFailing o R E h c (check (Some given)) i h' = FailsAt o R E h c given i h'
 
+-- A play of a case from h on was broken off: some of its rounds were played whole, from the first on, or all of them, and the history ends there.
+pub record IsBrokenOff (o : Ops) (R : Rules) (E : Extension) (h : List Event) (c : Case) (task : Task) (h' : List Event) : Type 0 where
+  pub rounds : List Round
+  pub are : AreRounds o R E (begun E h c) c task rounds
+  pub count : length rounds ≡ c.problem.variables
+  pub played : ℕ
+  pub passes : AllPass R E c.bits (begun E h c) (take played rounds)
+  pub history : h' ≡ begun E h c ++ rounds_events E c.bits (take played rounds)
+
 -- Rounds that are built from h on stop at round i: the difficulty is positive, and behind what an honest prover sends no element passes. The base
 -- field has so many.
 pub record FindsNone (o : Ops) (R : Rules) (E : Extension) (size : ℕ) (h : List Event) (c : Case) (i : ℕ) : Type 0 where
@@ -94,7 +103,7 @@ IsCaused first o R E size h c task (RoundCountMismatch n k) h' = (first ≡ Some
 IsCaused first o R E size h c task (PowWitnessCountMismatch n k) h' = (first ≡ Some (PowWitnessCountMismatch n k)) × (h' ≡ h)
 IsCaused first o R E size h c task (InvalidPowWitness i bits) h' = (bits ≡ c.bits) × IsFailing o R E h c task i h'
 IsCaused first o R E size h c task (NoWitness i) h' = IsUnground o R E size h c task i × (h' ≡ h)
-IsCaused first o R E size h c task NoMemory h' = Unit {0}
+IsCaused first o R E size h c task NoMemory h' = (h' ≡ h) ⊎ IsBrokenOff o R E h c task h'
 
 -- the witnesses of a proof pass
 abbrev pub PassesAll : Rules → Extension → List Event → Case → Task → Type 0

@@ -27,7 +27,8 @@ use std::alloc::Global;
 ///
 /// The transcript is that of the rounds that the report shows, behind their seed. A build plays on a copy of the challenger, and its rounds are then
 /// replayed on the challenger itself, as those of a proof are. A refusal before that leaves the challenger's history as it was, and so does
-/// [`AuditError::NoWitness`]. After [`AuditError::InvalidPowWitness`] the history ends with the test that failed.
+/// [`AuditError::NoWitness`]. After [`AuditError::InvalidPowWitness`] the history ends with the test that failed. After [`AuditError::NoMemory`] it is
+/// as it was, or the seed and some of the rounds, from the first on, stand behind it, each of these rounds whole.
 pub fn audit<F: Field, EF: ExtensionField<F>, R: IntoTranscriptField<EF>, C: Challenger<F>>(
     alloc: Global,
     job: &Job<F, EF>,

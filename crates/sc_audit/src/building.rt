@@ -10,7 +10,7 @@ ghost use Rattle.sc_rounds.specs.Products.{variables_in, order_in, evals_in, wei
 ghost use Rattle.sc_audit.specs.Cases.{case_in, given_in, problem_in, task_in, build, check};
 ghost use Rattle.sc_audit.specs.Refusals.{refusal_of, task_refusal, count_refusal, mode_refusal};
 ghost use Rattle.sc_audit.specs.Figures.{figures_in, finding_in, false_claim_of, lucky};
-ghost use Rattle.sc_audit.specs.Audits.{FindsNone, IsAudited, IsCaused, IsUngroundResult, IsValid, MayMeet, refusal_by};
+ghost use Rattle.sc_audit.specs.Audits.{FindsNone, IsAudited, IsBrokenOff, IsCaused, IsUngroundResult, IsValid, MayMeet, refusal_by};
 
 use crate::common::{refusal, table_of_job};
 use crate::error::AuditError;
@@ -93,6 +93,8 @@ fn play<F: Field, EF: ExtensionField<F>, C: Challenger<F>>(
     ensures causes { OnErr result ((result ≡ Err AuditError.NoMemory) ⊎ IsUngroundResult result) }
     ensures no_witness { (i : ℕ) → result ≡ Err (AuditError.NoWitness i)
         → FindsNone EF.ops (C.rules challenger.old) EF.extension F.ops.size (C.history challenger.old) (case_in F.number EF.number EF.embedding job.now) i × (C.history challenger.new ≡ C.history challenger.old) }
+    ensures no_memory { (strategy : Strategy) → result ≡ Err AuditError.NoMemory → (C.history challenger.new ≡ C.history challenger.old)
+        ⊎ IsBrokenOff EF.ops (C.rules challenger.old) EF.extension (C.history challenger.old) (case_in F.number EF.number EF.embedding job.now) (build strategy) (C.history challenger.new) }
 {
     let mut prover = prover_of(alloc, job)?;
     let claim = prover.claimed_sum();

@@ -1,11 +1,13 @@
-use Rattle.std.proofs.Common.{◌≡◌, Some, None, Err, sym, ◌∙◌, ap, inl}
+use Rattle.std.proofs.Common.{◌≡◌, Some, None, Err, sym, ◌∙◌, ap, inl, inr}
 use Rattle.std.proofs.lemmas.Option.{same_Some}
 use Rattle.sc_definitions.specs.Statements.{first_false_claim}
 use Rattle.sc_statements.specs.Constraints.{constraint_arity, constraint_statements}
 use Rattle.sc_statements.specs.FalseClaims.{told}
-use Rattle.sc_audit.specs.Cases.{problem_in}
+use Rattle.sc_audit.specs.declared.error.AuditError.TheVariants.{NoWitness, NoMemory}
+use Rattle.sc_audit.specs.Cases.{build, case_in, problem_in}
 use Rattle.sc_audit.specs.Refusals.{false_refusal}
 use Rattle.sc_audit.specs.Figures.{false_claim_of}
+use Rattle.sc_audit.proofs.CauseLaws.{on_err, unground_is, caused-memory, caused-unground}
 use Rattle.sc_audit.proofs.building.build.Goals as goal
 
 pub returns-in-Some-clause-refused : goal.returns-in-Some-clause-refused
@@ -25,3 +27,16 @@ returns-clause-refused g c = λ strategy e is.
     ap (λ t. told (first_false_claim g.EF.Field.ops (constraint_arity job.constraint) (λ b. g.EF.Algebra.embedding (t b)) 0 (constraint_statements N job.constraint))) (sym c.in_ok-table.ensures.table)
     ∙ sym c.first_false.ensures.found ∙ c.in_default.is in
     let clash = sym (ap false_refusal found) ∙ is in cc
+
+-- what the play refuses
+pub returns-clause-caused : goal.returns-clause-caused
+returns-clause-caused g c = λ strategy e is.
+    let k = case_in g.F.Field.number g.EF.Field.number g.EF.Algebra.embedding c.args.job.now in
+    elim (on_err c.play.result e is c.play.ensures.causes) [
+      | inl memory ↦ (let none : e ≡ NoMemory = cc in caused-memory _ _ _ _ g.F.Field.ops.size _ k _ e (build strategy) none (c.play.ensures.no_memory strategy memory))
+      | inr unground ↦
+          let named = unground_is _ unground in
+          let found = c.play.ensures.no_witness named.0 named.1 in
+          let same : e ≡ NoWitness named.0 = cc in
+          caused-unground _ _ _ _ g.F.Field.ops.size _ k _ e (build strategy) named.0 same found.0 found.1
+    ]

@@ -14,7 +14,8 @@ use Rattle.sc_rounds.proofs.InStep.{invalid_is, message_count, found_count, none
 use Rattle.sc_audit.specs.Cases.{build}
 use Rattle.sc_audit.specs.Audits.{refusal_by}
 use Rattle.sc_audit.proofs.FigureLaws.{stated}
-use Rattle.sc_audit.proofs.BuiltReports.{played-case, report-built, unground-built, finds_none_is}
+use Rattle.sc_audit.proofs.CheckedReports.{all-some}
+use Rattle.sc_audit.proofs.BuiltReports.{played-case, report-built, broken-built, unground-built, finds_none_is}
 use Rattle.sc_audit.proofs.building.play.Goals as goal
 
 pub returns-clause-report : goal.returns-clause-report
@@ -107,4 +108,77 @@ returns-in-Err-clause-no_witness g c = λ i e.
                 c.new-rounds.ensures.messages c.new-rounds.ensures.witnesses (omega (arith, same, some, stopped.1, c.in_ok-prover.ensures.variables)) fails,
             refl,
           )
+    ]
+
+-- the whole replay is done
+pub returns-in_err-weights-clause-no_memory : goal.returns-in_err-weights-clause-no_memory
+returns-in_err-weights-clause-no_memory g c = λ strategy _.
+    let N = g.EF.Field.number in
+    let o = g.EF.Field.ops in
+    let ring = g.met.EF.Field.is_field.ring in
+    let E = g.EF.ExtensionField.extension in
+    let job = c.args.job.now in
+    let n = constraint_arity job.constraint in
+    let bits = job.pow_bits in
+    let H = g.C.Challenger.history c.args.challenger.now in
+    let p = stated (order_of job.order) n (λ b. g.EF.Algebra.embedding (entries g.F.Field.number job.table.items b)) (constraint_statements N job.constraint) (constraint_challenge N job.constraint) (constraint_power job.constraint) in
+    let poly = c.in_ok-prover.prover.poly in
+    let degree = sym g.met.EF.ExtensionField.degree_is in
+    let count = c.num_variables-variables.ensures in
+    let seed : words (quadratic_seed g.EF.ExtensionField.DEGREE evaluation bits c.num_variables-variables.result) ≡ words (quadratic_seed E.degree evaluation bits n) =
+    ap (λ d. words (quadratic_seed d evaluation bits c.num_variables-variables.result)) degree ∙ ap (λ k. words (quadratic_seed E.degree evaluation bits k)) count in
+    let batch = played-case (order_of job.order) (order_in poly) o ring _ _ E bits n _ _ _ _ _ _ _ _ _ _ _ _ _ _ _ _ _ _ _
+    c.in_ok-prover.ensures.order c.in_ok-copied.ensures.rules c.in_ok-prover.ensures.variables c.in_ok-prover.ensures.evals c.in_ok-prover.ensures.weights c.in_ok-prover.ensures.claim
+    (ap (λ t. t ++ words (quadratic_seed g.EF.ExtensionField.DEGREE evaluation bits c.num_variables-variables.result)) c.in_ok-copied.ensures.history ∙ ap (λ t. H ++ t) seed)
+    c.new-rounds.ensures.messages c.new-rounds.ensures.witnesses c.in-Ok.ensures.batch in
+    let claim : N c.claimed_sum-claim.result ≡ claim_of o p = c.claimed_sum-claim.ensures.number ∙ c.in_ok-prover.ensures.claim in
+    let end = c.compute_sumcheck_polynomials.new.self.poly in
+    let none_left : variables_in end ≡ 0 = omega (arith, c.in-Ok.ensures.fewer, count, c.in_ok-prover.ensures.variables) in
+    inr (broken-built (order_of job.order) o ring _ E bits n _ _ _ _ H (length job.table.items) _ strategy _ (variables_in end) _ _ _ _ _ _ _ _ batch none_left (all-some _ _ E bits _ _ _ _ _ _ (rw (seed, claim) at c.in_default.ensures.ok)))
+
+-- some of it is
+pub returns-in-Err-verify_rounds-clause-no_memory : goal.returns-in-Err-verify_rounds-clause-no_memory
+returns-in-Err-verify_rounds-clause-no_memory g c = λ strategy _.
+    let N = g.EF.Field.number in
+    let o = g.EF.Field.ops in
+    let ring = g.met.EF.Field.is_field.ring in
+    let E = g.EF.ExtensionField.extension in
+    let job = c.args.job.now in
+    let n = constraint_arity job.constraint in
+    let bits = job.pow_bits in
+    let H = g.C.Challenger.history c.args.challenger.now in
+    let p = stated (order_of job.order) n (λ b. g.EF.Algebra.embedding (entries g.F.Field.number job.table.items b)) (constraint_statements N job.constraint) (constraint_challenge N job.constraint) (constraint_power job.constraint) in
+    let poly = c.in_ok-prover.prover.poly in
+    let degree = sym g.met.EF.ExtensionField.degree_is in
+    let count = c.num_variables-variables.ensures in
+    let seed : words (quadratic_seed g.EF.ExtensionField.DEGREE evaluation bits c.num_variables-variables.result) ≡ words (quadratic_seed E.degree evaluation bits n) =
+    ap (λ d. words (quadratic_seed d evaluation bits c.num_variables-variables.result)) degree ∙ ap (λ k. words (quadratic_seed E.degree evaluation bits k)) count in
+    let batch = played-case (order_of job.order) (order_in poly) o ring _ _ E bits n _ _ _ _ _ _ _ _ _ _ _ _ _ _ _ _ _ _ _
+    c.in_ok-prover.ensures.order c.in_ok-copied.ensures.rules c.in_ok-prover.ensures.variables c.in_ok-prover.ensures.evals c.in_ok-prover.ensures.weights c.in_ok-prover.ensures.claim
+    (ap (λ t. t ++ words (quadratic_seed g.EF.ExtensionField.DEGREE evaluation bits c.num_variables-variables.result)) c.in_ok-copied.ensures.history ∙ ap (λ t. H ++ t) seed)
+    c.new-rounds.ensures.messages c.new-rounds.ensures.witnesses c.in-Ok.ensures.batch in
+    let claim : N c.claimed_sum-claim.result ≡ claim_of o p = c.claimed_sum-claim.ensures.number ∙ c.in_ok-prover.ensures.claim in
+    let end = c.compute_sumcheck_polynomials.new.self.poly in
+    let none_left : variables_in end ≡ 0 = omega (arith, c.in-Ok.ensures.fewer, count, c.in_ok-prover.ensures.variables) in
+    let D = g.EF.ExtensionField.DEGREE in
+    let same_history = ap (λ t. t ++ words (quadratic_seed D evaluation bits c.num_variables-variables.result)) (sym c.in_ok-copied.ensures.history) in
+    let kept = c.compute_sumcheck_polynomials.new.sumcheck_data in
+    let played = c.in-Ok.ensures.batch in
+    let rounds = message_count _ _ _ _ _ _ _ _ _ _ _ _ _ _ _ _ _ _ _ _ _ _ _ c.new-rounds.ensures.messages c.new-rounds.ensures.witnesses (sym c.in_ok-copied.ensures.rules) same_history c.claimed_sum-claim.ensures.number played c.num_variables-variables.result c.in-Ok.ensures.fewer in
+    let found = found_count _ _ _ _ _ _ _ _ _ _ _ _ _ _ _ _ _ _ _ _ _ _ _ c.new-rounds.ensures.messages c.new-rounds.ensures.witnesses (sym c.in_ok-copied.ensures.rules) same_history c.claimed_sum-claim.ensures.number played c.num_variables-variables.result c.in-Ok.ensures.fewer in
+    elim c.in-Err-verify_rounds.ensures.causes [
+      | inl other ↦ absurd (other (kept.polynomial_evaluations.ok.0 ∙ sym (length-map _ _) ∙ rounds))
+      | inr more ↦ elim more [
+        | inl other ↦ absurd (other (kept.pow_witnesses.ok.0 ∙ sym (length-map _ _) ∙ found))
+        | inr last ↦ elim last [
+          | inl memory ↦ elim (c.in-Err-verify_rounds.ensures.no_memory memory) [
+            | inl untouched ↦ inl untouched.0
+            | inr some ↦ inr (broken-built (order_of job.order) o ring _ E bits n _ _ _ _ H (length job.table.items) _ strategy _ (variables_in end) _ _ _ _ _ _ _ _ batch none_left (rw (seed, claim) at some))
+          ]
+          | inr invalid ↦
+              let named = invalid_is _ invalid in
+              absurd (none_invalid _ _ _ _ _ _ _ _ _ _ _ _ _ _ _ _ _ _ _ _ _ _ _ c.new-rounds.ensures.messages c.new-rounds.ensures.witnesses (sym c.in_ok-copied.ensures.rules) same_history c.claimed_sum-claim.ensures.number played
+              named.0 _ _ (c.in-Err-verify_rounds.ensures.invalid named.0 named.1 named.2).1)
+        ]
+      ]
     ]

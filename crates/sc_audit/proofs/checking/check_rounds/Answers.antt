@@ -23,7 +23,7 @@ use Rattle.sc_audit.specs.Audits.{refusal_by}
 use Rattle.sc_audit.proofs.CauseLaws.{on_err, caused-memory, caused-lucky, caused-rounds, caused-witnesses, caused-invalid}
 use Rattle.sc_audit.proofs.FigureLaws.{stated, claim-batched}
 use Rattle.sc_audit.proofs.CountLaws.{count-rounds, count-witnesses, count-fits}
-use Rattle.sc_audit.proofs.CheckedReports.{not_other, residual-checked, report-checked}
+use Rattle.sc_audit.proofs.CheckedReports.{not_other, all-some, broken-checked, residual-checked, report-checked}
 use Rattle.sc_audit.proofs.checking.check_rounds.Goals as goal
 
 -- the claim that the replay begins with
@@ -92,7 +92,10 @@ returns-clause-caused g c = λ e is.
     let rounds = not_other _ _ (λ differ. let clash = c.in-Ok.ensures.rounds.1 differ in cc) in
     let found = not_other _ _ (λ differ. let clash = c.in-Ok.ensures.witnesses.1 (rounds, differ) in cc) in
     elim (on_err c.report_on.result e is c.report_on.ensures.causes) [
-      | inl memory ↦ (let none : e ≡ NoMemory = cc in caused-memory _ _ _ _ g.F.Field.ops.size _ (case_in g.F.Field.number N g.EF.Algebra.embedding job) _ e _ none)
+      | inl memory ↦
+          let none : e ≡ NoMemory = cc in
+          caused-memory _ _ _ _ g.F.Field.ops.size _ (case_in g.F.Field.number N g.EF.Algebra.embedding job) _ e _ none (inr (broken-checked (order_of job.order) o _ E job.pow_bits n f _ _ _ _ (length job.table.items) _ _ _ _ _ (all-some _ _ E job.pow_bits _ _ _ _ _ _ (rw (seed, claim) at c.in-Ok.ensures.ok))
+          (length-map _ _ ∙ sym proof.polynomial_evaluations.ok.0 ∙ rounds ∙ c.num_variables.ensures)))
       | inr later ↦ let verdict : e ≡ Unbuilt Verdict = cc in caused-lucky _ _ _ _ g.F.Field.ops.size _ (case_in g.F.Field.number N g.EF.Algebra.embedding job) _ e _ verdict (record {
         report = figures_of o p (messages_in N proof) (witnesses_in g.F.Field.number proof) (map N c.in-Ok.challenges);
         audited = report-checked (order_of job.order) o _ E job.pow_bits n f _ _ _ _ (length job.table.items) _ _ _ _ _ _ (rw (seed, claim) at c.in-Ok.ensures.ok)
@@ -146,7 +149,11 @@ returns-in-Err-clause-caused g c = λ e is.
             | inr last ↦ elim last [
               | inl memory ↦
                   let error_is : c.in-Err.error ≡ replay.NoMemory = cc in
-                  caused-memory _ _ _ _ g.F.Field.ops.size _ (case_in g.F.Field.number N g.EF.Algebra.embedding job) _ e _ (sym same ∙ told ∙ ap refusal_by error_is)
+                  let none = sym same ∙ told ∙ ap refusal_by error_is in
+                  elim (c.in-Err.ensures.no_memory memory) [
+                    | inl untouched ↦ caused-memory _ _ _ _ g.F.Field.ops.size _ (case_in g.F.Field.number N g.EF.Algebra.embedding job) _ e _ none (inl untouched.0)
+                    | inr some ↦ caused-memory _ _ _ _ g.F.Field.ops.size _ (case_in g.F.Field.number N g.EF.Algebra.embedding job) _ e _ none (inr (broken-checked (order_of job.order) o _ E job.pow_bits n _ _ _ _ _ (length job.table.items) _ _ _ _ _ (rw (seed, claim) at some) (ms ∙ rounds.1 ∙ vars)))
+                  ]
               | inr invalid ↦
                   let named = invalid_is _ invalid in
                   let error_is : c.in-Err.error ≡ replay.InvalidPowWitness named.0 named.1 = cc in
