@@ -1,15 +1,15 @@
 -- The report on rounds that were built and replayed.
-use Rattle.std.proofs.Common.{◌≡◌, ℕ, suc, ◌+◌, ◌*◌, ◌^◌, ◌<◌, List, [], ◌∷◌, ◌++◌, length, true, ◌==◌, None, refl, ap, sym, ◌∙◌, arith, inl, inr, Result, Ok, Err}
-use Rattle.std.proofs.lemmas.Bool.Decides.{eqb_tells}
+use Rattle.std.proofs.Common.{◌≡◌, ℕ, suc, ◌+◌, ◌*◌, ◌^◌, ◌<◌, List, [], ◌++◌, All, length, true, None, refl, ap, sym, ◌∙◌, subst, arith, Result, Ok, Err}
+use Rattle.std.proofs.lemmas.Bool.{eq-eqb}
 use Rattle.sc_definitions.specs.declared.events.Event.{Event}
-use Rattle.sc_definitions.specs.Ring.{Ops, IsRing, times}
+use Rattle.sc_definitions.specs.Ring.{Ops, IsRing}
 use Rattle.sc_definitions.specs.Tables.{evaluation, Order, bound_by}
 use Rattle.sc_definitions.specs.Rounds.{honest_pair, next_claim, claim_along}
 use Rattle.sc_definitions.specs.Statements.{Statement}
 use Rattle.sc_definitions.specs.Events.{Rules, Extension}
 use Rattle.sc_definitions.specs.Transcript.{Round, sent, messages_of, rounds_events, challenges, IsBuilt}
 use Rattle.sc_definitions.specs.Replays.{Replays, ReplaysSome, given_rounds}
-use Rattle.sc_definitions.specs.Problem.{Problem, weights_of, claim_of, honest_of, residual_of, eval_of, weight_value_of}
+use Rattle.sc_definitions.specs.Problem.{weights_of, claim_of, honest_of, residual_of, eval_of, weight_value_of}
 use Rattle.sc_definitions.proofs.RingLaws.{element-small}
 use Rattle.std.proofs.Math.Nat.{pow-suc}
 use Rattle.sc_definitions.specs.Messages.{message_of}
@@ -25,8 +25,8 @@ use Rattle.sc_rounds.specs.Invalid.{FindsNone as IsUnfound}
 use Rattle.sc_rounds.proofs.InStep.{given_played}
 use Rattle.sc_audit.specs.declared.job.Strategy.{Strategy}
 use Rattle.sc_audit.specs.Cases.{Case, Task, build}
-use Rattle.sc_audit.specs.Figures.{Figures, Finding, holds, finding_by, false_claim_of, is_matched, figures_of}
-use Rattle.sc_audit.specs.Audits.{begun, Plays, IsAudited, IsBrokenOff, FindsNone}
+use Rattle.sc_audit.specs.Figures.{holds, finding_by, false_claim_of, is_matched}
+use Rattle.sc_audit.specs.Audits.{begun, IsAudited, IsBrokenOff, FindsNone}
 use Rattle.sc_audit.proofs.FigureLaws.{stated, figures-are}
 use Rattle.sc_audit.proofs.SameTables.{Agree, played-same}
 
@@ -43,10 +43,6 @@ played-case order order₁ o ring R R₁ E bits n n₁ f f₁ w w₁ claim claim
       appended = q.appended;
       found = q.found;
     }
-
--- equal numbers are told equal
-eqb-same : (x y : ℕ) → x ≡ y → (x == y) ≡ true
-eqb-same x y is = elim (eqb_tells x y) [ inl t ↦ t.0 | inr t ↦ absurd (t.1 is) ]
 
 module _ (order : Order) (o : Ops) (ring : IsRing o) (R : Rules) (E : Extension) (bits n : ℕ) (f : ℕ → ℕ) (ss : List Statement) (c i : ℕ) where
   -- the value at the challenges is the one entry that is left
@@ -77,7 +73,7 @@ module _ (order : Order) (o : Ops) (ring : IsRing o) (R : Rules) (E : Extension)
   finding-built h rounds none whole built =
       let p = stated order n f ss c i in
       let matched : is_matched o p (messages_of rounds) (challenges R E bits h rounds) ≡ true =
-      eqb-same _ _ (built-residual o ring p R E bits h rounds tt (first_false_claim-all o n f 0 ss none) whole built) in
+      eq-eqb _ _ (built-residual o ring p R E bits h rounds tt (first_false_claim-all o n f 0 ss none) whole built) in
       sym (ap (λ t. finding_by t (false_claim_of o p)) matched ∙ ap (finding_by true) none)
 
   -- the report on them
@@ -142,11 +138,11 @@ module _ (order : Order) (o : Ops) (ring : IsRing o) (R : Rules) (E : Extension)
 pub unground-built : (order order₁ : Order) (o : Ops) → IsRing o → (R R₁ : Rules) (E : Extension) (bits n n₁ : ℕ) (f f₁ : ℕ → ℕ) (ss : List Statement) (c i : ℕ) (w₁ : ℕ → ℕ) (claim₁ : ℕ) (h h₁ : List Event) (rows : ℕ) (task : Task)
     (size m : ℕ) (f' w' : ℕ → ℕ) (claim' : ℕ) (h' : List Event) (ms ms' : List (List ℕ)) (ws ws' : List ℕ) (round : ℕ) →
     order₁ ≡ order → R₁ ≡ R → n₁ ≡ n → Agree n f₁ f → Agree n w₁ (weights_of o (stated order n f ss c i)) → claim₁ ≡ claim_of o (stated order n f ss c i) →
-    h₁ ≡ begun E h (record { rows = rows; bits = bits; problem = stated order n f ss c i; task = task }) → ms ≡ [] → ws ≡ [] → round + suc m ≡ n →
+    h₁ ≡ begun E h (record { rows = rows; bits = bits; problem = stated order n f ss c i; task = task }) → ms ≡ [] → ws ≡ [] → All (λ w. w < size) ws' → round + suc m ≡ n →
     FailsBatch order₁ o R₁ E bits n₁ f₁ w₁ claim₁ h₁ size m f' w' claim' h' ms ws ms' ws' →
     FindsNone o R E size h (record { rows = rows; bits = bits; problem = stated order n f ss c i; task = task }) round
 unfolding honest_of
-unground-built order order₁ o ring R R₁ E bits n n₁ f f₁ ss c i w₁ claim₁ h h₁ rows task size m f' w' claim' h' ms ms' ws ws' round eo er en evals weights ec eh em ew whole fails =
+unground-built order order₁ o ring R R₁ E bits n n₁ f f₁ ss c i w₁ claim₁ h h₁ rows task size m f' w' claim' h' ms ms' ws ws' round eo er en evals weights ec eh em ew low whole fails =
     let p = stated order n f ss c i in
     let k : Case = record { rows = rows; bits = bits; problem = p; task = task } in
     let q = played-case order order₁ o ring R R₁ E bits n n₁ f f₁ (weights_of o p) w₁ (claim_of o p) claim₁ (begun E h k) h₁ _ _ _ _ _ _ _ _ _ _ eo er en evals weights ec eh em ew fails.batch in
@@ -162,6 +158,7 @@ unground-built order order₁ o ring R R₁ E bits n n₁ f f₁ ss c i w₁ cla
       rounds = q.rounds;
       built = q.played.built;
       count = omega (arith, whole, q.played.count);
+      low = subst (All (λ w. w < size)) q.found low;
       left = m;
       some = whole;
       positive = ends.positive;

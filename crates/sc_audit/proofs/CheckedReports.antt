@@ -1,5 +1,5 @@
 -- The report on rounds of a proof that were replayed.
-use Rattle.std.proofs.Common.{◌≡◌, ℕ, zero, suc, List, [], ◌∷◌, length, map, Some, refl, ap, sym, ◌∙◌, arith, inl, inr, if◌then◌else◌, ◌==◌}
+use Rattle.std.proofs.Common.{◌≡◌, ℕ, zero, suc, List, [], ◌∷◌, length, map, Some, refl, ap, sym, ◌∙◌, arith, inl, inr}
 use Rattle.std.proofs.lemmas.Bool.Decides.{eqb_tells}
 use Rattle.std.proofs.Math.Seq.{take-length}
 use Rattle.sc_definitions.specs.declared.events.Event.{Event}
@@ -8,13 +8,13 @@ use Rattle.sc_definitions.specs.Tables.{evaluation, Order}
 use Rattle.sc_definitions.specs.Rounds.{next_claim}
 use Rattle.sc_definitions.specs.Statements.{Statement}
 use Rattle.sc_definitions.specs.Events.{Rules, Extension}
-use Rattle.sc_definitions.specs.Transcript.{Round, messages_of, challenges}
+use Rattle.sc_definitions.specs.Transcript.{Round, messages_of}
 use Rattle.sc_definitions.specs.Replays.{Replays, ReplaysSome, given_rounds}
 use Rattle.sc_definitions.specs.Problem.{claim_of, residual_of}
 use Rattle.sc_definitions.proofs.BuiltLaws.{length-challenges}
 use Rattle.sc_definitions.proofs.ReplayLaws.{length-given_rounds, messages-given_rounds}
 use Rattle.sc_rounds.specs.Data.{witness_count, witnesses_of}
-use Rattle.sc_audit.specs.Cases.{Case, Task, Given, check}
+use Rattle.sc_audit.specs.Cases.{Task, check}
 use Rattle.sc_audit.specs.Figures.{Figures, figures_of}
 use Rattle.sc_audit.specs.Audits.{begun, IsAudited, IsBrokenOff}
 use Rattle.sc_audit.proofs.FigureLaws.{stated}

@@ -1,10 +1,6 @@
 -- Lengths that are powers of two.
-use Rattle.std.proofs.Common.{◌≡◌, ℕ, zero, suc, ◌*◌, ◌%◌, ◌^◌, ◌<◌, ◌∙◌, ap, refl, arith}
+use Rattle.std.proofs.Common.{◌≡◌, ℕ, zero, suc, ◌*◌, ◌^◌, ap, refl, arith}
 use Rattle.std.proofs.Math.Nat.{pow-suc}
-
-pub even_power : (n v : ℕ) → 0 < v → n ≡ 2 ^ v → n % 2 ≡ 0
-even_power n zero some is = absurd (omega (arith, some))
-even_power n (suc v) some is = let twice : n ≡ 2 ^ v * 2 = is ∙ pow-suc 2 v in omega arith
 
 pub pow-same : (a b : ℕ) → 2 ^ a ≡ 2 ^ b → a ≡ b
 pow-same zero zero e = refl

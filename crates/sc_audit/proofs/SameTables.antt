@@ -1,12 +1,12 @@
 -- Rounds on tables that agree at each row.
-use Rattle.std.proofs.Common.{◌≡◌, ℕ, zero, suc, ◌+◌, ◌*◌, ◌^◌, ◌<◌, List, [], ◌∷◌, ◌++◌, length, refl, ap, sym, ◌∙◌, arith, length-append}
+use Rattle.std.proofs.Common.{◌≡◌, ℕ, zero, suc, ◌+◌, ◌*◌, ◌^◌, ◌<◌, List, [], ◌∷◌, ◌++◌, length, ap, sym, ◌∙◌, arith, length-append}
 use Rattle.std.proofs.Math.Nat.{pow-suc}
 use Rattle.sc_definitions.specs.declared.events.Event.{Event}
 use Rattle.sc_definitions.specs.Ring.{Ops, IsRing}
 use Rattle.sc_definitions.specs.Tables.{evaluation, Order, bound_in, bound_by, inner}
 use Rattle.sc_definitions.specs.Rounds.{honest_pair}
 use Rattle.sc_definitions.specs.Events.{Rules, Extension}
-use Rattle.sc_definitions.specs.Transcript.{Round, round_events, challenge, challenges, IsBuilt}
+use Rattle.sc_definitions.specs.Transcript.{Round, round_events, challenge, IsBuilt}
 use Rattle.sc_definitions.specs.Played.{IsPlayed}
 use Rattle.sc_definitions.proofs.Sums.{sum-same}
 use Rattle.sc_definitions.proofs.PlayedLaws.{message-same, bound_in-same}

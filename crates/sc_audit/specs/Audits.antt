@@ -1,5 +1,5 @@
 -- What a case is answered, and what the answer leaves of the challenger's history.
-use Rattle.std.specs.Prelude.{◌≡◌, ◌⊎◌, ◌<◌, ℕ, suc, ◌+◌, List, [], ◌++◌, length, take, Option, Some, None, Result, Ok, Err}
+use Rattle.std.specs.Prelude.{◌≡◌, ◌⊎◌, ◌<◌, ℕ, suc, ◌+◌, List, [], ◌++◌, length, take, All, Option, Some, None, Result, Ok, Err}
 use Rattle.sc_definitions.specs.declared.events.Event.{Event}
 use Rattle.sc_definitions.specs.Ring.{Ops}
 use Rattle.sc_definitions.specs.Rounds.{next_claim}
@@ -7,7 +7,7 @@ use Rattle.sc_definitions.specs.Events.{Rules, Extension, words, NonePasses}
 use Rattle.sc_definitions.specs.Transcript.{Round, sent, messages_of, rounds_events, challenges, IsBuilt}
 use Rattle.sc_definitions.specs.Replays.{AllPass, given_rounds, IsInvalidAt}
 use Rattle.sc_definitions.specs.Seeds.{quadratic_seed}
-use Rattle.sc_definitions.specs.Problem.{Problem, claim_of, honest_of}
+use Rattle.sc_definitions.specs.Problem.{claim_of, honest_of}
 use Rattle.sc_rounds.specs.Data.{witnesses_of}
 use Rattle.sc_rounds.specs.declared.error.SumcheckError.{SumcheckError}
 use Rattle.sc_rounds.specs.declared.error.SumcheckError.TheVariants as replay
@@ -74,11 +74,12 @@ pub record IsBrokenOff (o : Ops) (R : Rules) (E : Extension) (h : List Event) (c
   pub history : h' ≡ begun E h c ++ rounds_events E c.bits (take played rounds)
 
 -- Rounds that are built from h on stop at round i: the difficulty is positive, and behind what an honest prover sends no element passes. The base
--- field has so many.
+-- field has so many, and the witnesses of the rounds before are numbers of them.
 pub record FindsNone (o : Ops) (R : Rules) (E : Extension) (size : ℕ) (h : List Event) (c : Case) (i : ℕ) : Type 0 where
   pub rounds : List Round
   pub built : IsBuilt (honest_of o c.problem) R E c.bits (begun E h c) [] c.problem.variables rounds
   pub count : length rounds ≡ i
+  pub low : All (λ w. w < size) (witnesses_of c.bits rounds)
   pub left : ℕ
   pub some : i + suc left ≡ c.problem.variables
   pub positive : 0 < c.bits

@@ -1,5 +1,5 @@
 -- A job by the numbers of its elements.
-use Rattle.std.specs.Prelude.{ℕ, List, length, Option, Some, None}
+use Rattle.std.specs.Prelude.{ℕ, List, length, Option}
 use Rattle.std.specs.Option.{option_map}
 use Rattle.sc_definitions.specs.Tables.{evaluation, entries}
 use Rattle.sc_definitions.specs.Problem.{Problem}

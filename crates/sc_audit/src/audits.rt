@@ -1,16 +1,9 @@
 //! The one call.
-ghost use Rattle.std.specs.Prelude.{◌≡◌, ◌⊎◌, ◌<◌, ◌≤◌, ◌^◌, ℕ, Err, IfOk, OnErr, IsOk, Some, None, [], length, map, vec_len};
-ghost use Rattle.std.specs.Option.{option_map};
-ghost use Rattle.sc_definitions.specs.Tables.{entries, point_of};
-ghost use Rattle.sc_definitions.specs.Problem.{weights_of, claim_of};
-ghost use Rattle.sc_table.specs.Polys.{variables_of, table_of};
-ghost use Rattle.sc_table.specs.Strategy.{order_of};
-ghost use Rattle.sc_statements.specs.Constraints.{constraint_arity};
-ghost use Rattle.sc_rounds.specs.Products.{variables_in, order_in, evals_in, weights_in};
-ghost use Rattle.sc_audit.specs.Cases.{case_in, given_in, problem_in, task_in, build, check};
-ghost use Rattle.sc_audit.specs.Refusals.{refusal_of, task_refusal, count_refusal, mode_refusal};
-ghost use Rattle.sc_audit.specs.Figures.{figures_in, finding_in, false_claim_of, lucky};
-ghost use Rattle.sc_audit.specs.Audits.{FindsNone, IsAudited, IsCaused, IsUngroundResult, IsValid, MayMeet, refusal_by};
+ghost use Rattle.std.specs.Prelude.{◌≡◌, ◌⊎◌, ◌<◌, Err, IfOk, IsOk, Some, None, []};
+ghost use Rattle.sc_audit.specs.Cases.{case_in, task_in, build, check};
+ghost use Rattle.sc_audit.specs.Refusals.{refusal_of, mode_refusal};
+ghost use Rattle.sc_audit.specs.Figures.{figures_in, finding_in, lucky};
+ghost use Rattle.sc_audit.specs.Audits.{IsAudited, IsCaused, IsValid, MayMeet};
 
 use crate::building::build;
 use crate::checking::check;

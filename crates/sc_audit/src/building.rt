@@ -1,16 +1,13 @@
 //! Rounds that are built.
-ghost use Rattle.std.specs.Prelude.{◌≡◌, ◌⊎◌, ◌<◌, ◌≤◌, ◌^◌, ℕ, Err, IfOk, OnErr, IsOk, Some, None, [], length, map, vec_len};
-ghost use Rattle.std.specs.Option.{option_map};
-ghost use Rattle.sc_definitions.specs.Tables.{entries, point_of};
+ghost use Rattle.std.specs.Prelude.{◌≡◌, ◌⊎◌, ◌<◌, ◌≤◌, ◌^◌, ℕ, Err, IfOk, OnErr, Some, None, [], map, vec_len};
 ghost use Rattle.sc_definitions.specs.Problem.{weights_of, claim_of};
-ghost use Rattle.sc_table.specs.Polys.{variables_of, table_of};
 ghost use Rattle.sc_table.specs.Strategy.{order_of};
 ghost use Rattle.sc_statements.specs.Constraints.{constraint_arity};
 ghost use Rattle.sc_rounds.specs.Products.{variables_in, order_in, evals_in, weights_in};
-ghost use Rattle.sc_audit.specs.Cases.{case_in, given_in, problem_in, task_in, build, check};
-ghost use Rattle.sc_audit.specs.Refusals.{refusal_of, task_refusal, count_refusal, mode_refusal};
-ghost use Rattle.sc_audit.specs.Figures.{figures_in, finding_in, false_claim_of, lucky};
-ghost use Rattle.sc_audit.specs.Audits.{FindsNone, IsAudited, IsBrokenOff, IsCaused, IsUngroundResult, IsValid, MayMeet, refusal_by};
+ghost use Rattle.sc_audit.specs.Cases.{case_in, problem_in, build};
+ghost use Rattle.sc_audit.specs.Refusals.{task_refusal};
+ghost use Rattle.sc_audit.specs.Figures.{figures_in, false_claim_of};
+ghost use Rattle.sc_audit.specs.Audits.{FindsNone, IsAudited, IsBrokenOff, IsCaused, IsUngroundResult};
 
 use crate::common::{refusal, table_of_job};
 use crate::error::AuditError;

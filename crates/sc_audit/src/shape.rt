@@ -1,6 +1,6 @@
 //! What a job has to be like before a round is played.
-ghost use Rattle.std.specs.Prelude.{◌≡◌, ◌≤◌, ◌<◌, ◌^◌, Err, IfOk, IsErrOf, IsOk, Some, None};
-ghost use Rattle.sc_audit.specs.Refusals.{arity_of, mode_refusal, shape_by};
+ghost use Rattle.std.specs.Prelude.{◌≡◌, ◌≤◌, ◌<◌, ◌^◌, Err, IsOk, Some, None};
+ghost use Rattle.sc_audit.specs.Refusals.{arity_of, shape_by};
 
 use crate::error::{AuditError, Form, ShapeFault};
 

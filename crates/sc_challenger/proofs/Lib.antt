@@ -1,1 +1,2 @@
 pub mod ListReads
+pub mod StateLemmas

@@ -4,15 +4,19 @@
 mod challenger;
 mod extension;
 mod grinding;
+mod hash;
 mod interaction;
 mod scripted;
 mod separator;
 #[cfg(test)]
 mod tests;
+#[cfg(test)]
+mod tests_hash;
 
 pub use challenger::Challenger;
 pub use extension::{observe_ext, sample_ext};
 pub use grinding::{GrindError, grind};
+pub use hash::HashChallenger;
 pub use interaction::InteractionPattern;
 pub use sc_definitions::{Event, Interaction, Kind, Label, Length, Protocol};
 pub use scripted::ScriptedChallenger;

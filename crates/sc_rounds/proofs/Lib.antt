@@ -7,3 +7,4 @@ pub mod TakenLaws
 pub mod ConstraintPoints
 pub mod InStep
 pub mod AddedEntries
+pub mod SeedLaws

@@ -22,7 +22,7 @@ mod transcript;
 pub use data::{SumcheckData, verify_final_sumcheck_rounds};
 pub use error::SumcheckError;
 pub use eval_constraints::EvalConstraints;
-pub use laws::{batch_in_step, replay_laws};
+pub use laws::{batch_in_step, replay_laws, shape_laws};
 pub use product_polynomial::ProductPolynomial;
 pub use strategy::SumcheckProver;
 pub use transcript::{ProverTranscript, SumcheckShape, VerifierTranscript};

@@ -7,12 +7,13 @@ ghost use Rattle.sc_rounds.specs.Products.{variables_in};
 
 use crate::tests::{elements, have_numbers, of};
 use crate::{
-    EvalConstraints, ProductPolynomial, SumcheckData, SumcheckProver, batch_in_step, replay_laws,
+    EvalConstraints, ProductPolynomial, SumcheckData, SumcheckProver, SumcheckShape, batch_in_step,
+    replay_laws, shape_laws,
 };
 use sc_challenger::{Challenger, ScriptedChallenger};
 use sc_field::{F65537, Field, NoMemory};
 use sc_statements::{Constraint, EqStatement, Statements};
-use sc_table::{Point, Poly, VariableOrder};
+use sc_table::{Basis, Point, Poly, VariableOrder};
 use std::alloc::Global;
 use std::test::Fail;
 
@@ -185,6 +186,33 @@ fn batches_follow_on_each_other(rt: HostRuntime) -> Result<(), Fail> {
         assert!(rt; have_numbers(second.as_slice(), &[4]));
         assert_eq!(rt; claim.index(), left);
         assert!(rt; one_side.events() == other_side.events());
+    }
+    Ok(())
+}
+
+// A challenger that has observed the seed of a shape, over a field as its own extension.
+fn seeded(alloc: Global, shape: SumcheckShape) -> Result<ScriptedChallenger<F65537>, NoMemory> {
+    let mut challenger = scripted(alloc)?;
+    shape.seed::<F65537, F65537, ScriptedChallenger<F65537>>(alloc, &mut challenger)?;
+    Ok(challenger)
+}
+
+#[test]
+fn shapes_have_seeds_of_their_own(rt: HostRuntime) -> Result<(), Fail> {
+    shape_laws();
+    let shapes = [
+        SumcheckShape::new(1, 0, Basis::Evaluation),
+        SumcheckShape::new(2, 0, Basis::Evaluation),
+        SumcheckShape::new(1, 1, Basis::Evaluation),
+        SumcheckShape::new(1, 2, Basis::Evaluation),
+        SumcheckShape::new(1, 0, Basis::Projective),
+    ];
+    for (i, shape) in shapes.iter().enumerate() {
+        let seed = seeded(rt.alloc(), *shape)?;
+        for (j, other) in shapes.iter().enumerate() {
+            let other_seed = seeded(rt.alloc(), *other)?;
+            assert_eq!(rt; seed.events() == other_seed.events(), i == j);
+        }
     }
     Ok(())
 }

@@ -7,14 +7,20 @@ use Rattle.sumcheck_run.specs.declared.command.Command.{Command}
 use Rattle.sumcheck_run.specs.declared.command.Command.TheVariants.{Audit}
 use Rattle.sumcheck_run.specs.declared.job.Job.{Job}
 use Rattle.sumcheck_run.specs.Reply.{Reply, code_of, no_witness, proof_refused, refused, usage}
-use Rattle.sumcheck_run.specs.Job.{job_of}
+use Rattle.sumcheck_run.specs.Job.{field_size, job_of}
 use Rattle.sumcheck_run.specs.declared.member.Misfit.{Misfit}
 use Rattle.sc_definitions.specs.Events.{own_extension}
 use Rattle.sc_audit.specs.declared.error.AuditError.{AuditError}
 use Rattle.sc_audit.specs.declared.error.AuditError.TheVariants.{Unbuilt, JobShape, StrategyUnfit, FalseClaim, MissingSumcheckData, RoundCountMismatch, PowWitnessCountMismatch, InvalidPowWitness, NoWitness, NoMemory}
 use Rattle.sc_audit.specs.Refusals.{refusal_of}
-use Rattle.sc_audit.specs.Figures.{Figures, Finding, holds, refuted, lucky}
-use Rattle.sumcheck_run.specs.Report.{field, case_of, rules_of, report_of, figure_lines, refusal_reply, finding_reply, reply_by, case_reply, judge}
+use Rattle.sc_audit.specs.Figures.{Finding, holds, refuted, lucky}
+use Rattle.sc_definitions.specs.Ring.{Ops}
+use Rattle.sc_definitions.specs.declared.events.Event.{Event}
+use Rattle.sc_definitions.specs.Events.{Rules, Extension}
+use Rattle.sc_definitions.specs.Transcript.{Round}
+use Rattle.sc_audit.specs.Cases.{Case}
+use Rattle.sc_audit.specs.Audits.{figures_from}
+use Rattle.sumcheck_run.specs.Report.{field, case_of, rules_of, figure_lines, refusal_reply, finding_reply, rounds_of, rounds_reply, reply_by, case_reply, judge}
 use Rattle.sumcheck_run.specs.Program.{max_input, too_long, bad_json, job_reply, audit_reply, value_reply, json_reply, reply_of}
 
 -- it is no usage
@@ -50,14 +56,21 @@ finding-answer holds lines = λ e. cc
 finding-answer refuted lines = λ e. cc
 finding-answer lucky lines = refused-answer _
 
-reply-answer : (first : Option AuditError) (report : Figures) → IsAnswer (reply_by first report)
-reply-answer (Some e) report = refusal-answer e
-reply-answer None report = finding-answer report.finding (figure_lines report)
+rounds-answer : (o : Ops) (R : Rules) (E : Extension) (h : List Event) (c : Case) (r : Result (List Round) AuditError) → IsAnswer (rounds_reply o R E h c r)
+rounds-answer o R E h c (Err e) = refusal-answer e
+rounds-answer o R E h c (Ok rounds) = let report = figures_from o R E h c rounds in finding-answer report.finding (figure_lines report)
+
+reply-answer : (first : Option AuditError) (reply : Reply) → IsAnswer reply → IsAnswer (reply_by first reply)
+reply-answer (Some e) reply answer = refusal-answer e
+reply-answer None reply answer = answer
 
 judge-answer : (job : Job) → IsAnswer (judge job)
 unfolding judge case_reply
 judge-answer job =
-    reply-answer (refusal_of field (rules_of job).max_bits (case_of job)) (report_of field (rules_of job) own_extension [] (case_of job))
+    let R = rules_of job in
+    let c = case_of job in
+    let rounds = rounds_of field R own_extension field_size [] c c.task in
+    reply-answer (refusal_of field R.max_bits c) (rounds_reply field R own_extension [] c rounds) (rounds-answer field R own_extension [] c rounds)
 
 job-answer : (r : Result Job Misfit) → IsAnswer (job_reply r)
 job-answer (Err fault) = refused-answer _

@@ -7,10 +7,12 @@ use Rattle.sc_table.specs.declared.strategy.VariableOrder.{VariableOrder}
 use Rattle.sc_table.specs.declared.strategy.VariableOrder.TheVariants.{Prefix, Suffix}
 use Rattle.sumcheck_run.specs.Members.{needed, unless_misfit}
 use Rattle.sumcheck_run.specs.Statements.{EqualityFits}
-use Rattle.sumcheck_run.specs.declared.member.Member.TheVariants.{Whole, Field, Challenger, Order, Bits, Table, Variables, Groups, Batching, Mode as ModeMember}
+use Rattle.sumcheck_run.specs.declared.member.Member.TheVariants.{Whole, Field, Challenger as ChallengerMember, Order, Bits, Table, Variables, Groups, Batching, Mode as ModeMember}
 use Rattle.sumcheck_run.specs.declared.member.Misfit.{Misfit}
 use Rattle.sumcheck_run.specs.declared.member.Misfit.TheVariants.{Bad}
 use Rattle.sumcheck_run.specs.declared.job.Script.{Script}
+use Rattle.sumcheck_run.specs.declared.job.Challenger.{Challenger}
+use Rattle.sumcheck_run.specs.declared.job.Challenger.TheVariants.{Scripted, Hash}
 use Rattle.sumcheck_run.specs.declared.job.EqualityClaim.{EqualityClaim}
 use Rattle.sumcheck_run.specs.declared.job.Proof.{Proof}
 use Rattle.sumcheck_run.specs.declared.job.Mode.{Mode}
@@ -35,6 +37,10 @@ script_form d =
     with_member d (codes "draws") (list_form element_form) (λ draws.
     with_member d (codes "witnesses") (list_form (list_form element_form)) (λ witnesses.
     Some (record { draws = draws; witnesses = witnesses })))
+
+-- a challenger: the hash challenger by its name, or a scripted one
+abbrev pub challenger_form : Data → Option Challenger
+challenger_form d = if is_some (literal_form (codes "hash") d) then Some Hash else option_map (λ script. Scripted script) (script_form d)
 
 -- the order of this name
 abbrev pub order_named : List ℕ → Option VariableOrder
@@ -111,18 +117,18 @@ needed_groups variables d = needed (groups_form variables) (first_other_form (gr
 abbrev pub members_of : Data → Result Job Misfit
 members_of d =
     unless_misfit (needed (literal_form (codes "65537")) (either_form (literal_form (codes "257x2")) (literal_form (codes "16"))) Field d) (λ _.
-    unless_misfit (needed script_form (literal_form (codes "hash")) Challenger d) (λ script.
+    unless_misfit (needed challenger_form no_form ChallengerMember d) (λ challenger.
     unless_misfit (needed order_form no_form Order d) (λ order.
-    unless_misfit (needed (at_most_form 0) (at_most_form 65535) Bits d) (λ _.
+    unless_misfit (needed (at_most_form 65535) no_form Bits d) (λ bits.
     unless_misfit (needed (list_form element_form) no_form Table d) (λ table.
     unless_misfit (needed (at_most_form 64) no_form Variables d) (λ variables.
     unless_misfit (needed_groups variables d) (λ claims.
     unless_misfit (needed element_form no_form Batching d) (λ batching.
     unless_misfit (needed mode_form later_build_form ModeMember d) (λ mode.
-    Ok (record { script = script; order = order; table = table; variables = variables; claims = claims; batching = batching; mode = mode }))))))))))
+    Ok (record { challenger = challenger; order = order; bits = bits; table = table; variables = variables; claims = claims; batching = batching; mode = mode }))))))))))
 
--- the job that a value describes: one over the integers modulo 65537 under a scripted challenger, in either order, with
--- no difficulty and equality statements alone; else its first member that is not of its form
+-- the job that a value describes: one over the integers modulo 65537 under a scripted or the hash challenger, in either order, at
+-- any difficulty, with equality statements alone; else its first member that is not of its form
 abbrev pub job_of : Data → Result Job Misfit
 job_of d = if is_object d then members_of d else Err (Bad Whole)
 
@@ -136,6 +142,10 @@ pub record ScriptFits (size : ℕ) (s : Script) : Type 0 where
   pub draws : AreElements size s.draws
   pub witnesses : All (AreElements size) s.witnesses
 
+abbrev pub ChallengerFits : ℕ → Challenger → Type 0
+ChallengerFits size (Scripted script) = ScriptFits size script
+ChallengerFits size Hash = ⊤
+
 pub record ProofFits (size : ℕ) (p : Proof) : Type 0 where
   pub rounds : All (λ pair. (pair.0 < size) × (pair.1 < size)) p.rounds
   pub witnesses : AreElements size p.witnesses
@@ -146,7 +156,7 @@ ModeFits size (Check None) = ⊤
 ModeFits size (Check (Some proof)) = ProofFits size proof
 
 pub record JobFits (size : ℕ) (job : Job) : Type 0 where
-  pub script : ScriptFits size job.script
+  pub challenger : ChallengerFits size job.challenger
   pub table : AreElements size job.table
   pub few : job.variables ≤ 64
   pub claims : All (EqualityFits size job.variables) job.claims

@@ -3,6 +3,7 @@ pub mod Members
 pub mod Job
 pub mod Lines
 pub mod Statements
+pub mod Witnesses
 pub mod Report
 pub mod Program
 pub mod Run

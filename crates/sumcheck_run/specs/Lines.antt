@@ -1,5 +1,5 @@
 -- The lines of a report, and the texts of refusals, of the numbers in them. Each line ends with a line feed.
-use Rattle.std.specs.Prelude.{ℕ, suc, List, [], ◌∷◌, ◌++◌, codes, decimal}
+use Rattle.std.specs.Prelude.{ℕ, suc, List, [], ◌∷◌, ◌++◌, codes, decimal, Option, Some, None}
 use Rattle.sc_audit.specs.declared.error.Form.{Form}
 use Rattle.sc_audit.specs.declared.error.Form.TheVariants.{Mode, Verdict}
 use Rattle.sc_audit.specs.declared.error.ShapeFault.{ShapeFault}
@@ -15,16 +15,22 @@ spaced (x ∷ xs) = codes " " ++ decimal x ++ spaced xs
 unfoldable pub claim_line : ℕ → List ℕ
 claim_line claim = codes "claim " ++ decimal claim ++ codes "\n"
 
--- a round's number, the values that it sent, and its challenge
-unfoldable pub round_line : ℕ → List ℕ → ℕ → List ℕ
-round_line i values challenge =
-    codes "round " ++ decimal i ++ codes ":" ++ spaced values ++ codes " challenge " ++ decimal challenge ++ codes "\n"
+-- a round's witness, if it has one
+unfoldable pub witness_part : Option ℕ → List ℕ
+witness_part None = []
+witness_part (Some w) = codes " witness " ++ decimal w
 
--- a line for the values of each round and its challenge, numbered from i on
-abbrev pub round_lines : ℕ → List (List ℕ) → List ℕ → List ℕ
-round_lines i [] challenges = []
-round_lines i (values ∷ messages) [] = []
-round_lines i (values ∷ messages) (r ∷ challenges) = round_line i values r ++ round_lines (suc i) messages challenges
+-- a round's number, the values that it sent, its witness, and its challenge
+unfoldable pub round_line : ℕ → List ℕ → Option ℕ → ℕ → List ℕ
+round_line i values witness challenge =
+    codes "round " ++ decimal i ++ codes ":" ++ spaced values ++ witness_part witness ++ codes " challenge " ++ decimal challenge ++ codes "\n"
+
+-- a line for the values of each round, its witness if there is one, and its challenge, numbered from i on
+abbrev pub round_lines : ℕ → List (List ℕ) → List ℕ → List ℕ → List ℕ
+round_lines i [] witnesses challenges = []
+round_lines i (values ∷ messages) witnesses [] = []
+round_lines i (values ∷ messages) [] (r ∷ challenges) = round_line i values None r ++ round_lines (suc i) messages [] challenges
+round_lines i (values ∷ messages) (w ∷ witnesses) (r ∷ challenges) = round_line i values (Some w) r ++ round_lines (suc i) messages witnesses challenges
 
 unfoldable pub residual_line : ℕ → List ℕ
 residual_line x = codes "residual " ++ decimal x ++ codes "\n"

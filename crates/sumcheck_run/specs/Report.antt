@@ -1,5 +1,5 @@
 -- What a job is answered.
-use Rattle.std.specs.Prelude.{ℕ, List, [], ◌∷◌, ◌++◌, length, map, Option, Some, None}
+use Rattle.std.specs.Prelude.{ℕ, List, [], ◌∷◌, ◌++◌, length, map, Option, Some, None, Result, Ok, Err}
 use Rattle.std.specs.Option.{option_map}
 use Rattle.sc_definitions.specs.Ring.{Ops}
 use Rattle.sc_definitions.specs.Residues.{residues}
@@ -8,9 +8,10 @@ use Rattle.sc_definitions.specs.declared.events.Event.{Event}
 use Rattle.sc_definitions.specs.Statements.{equality, Statement, claims}
 use Rattle.sc_definitions.specs.Events.{Rules, Extension, own_extension}
 use Rattle.sc_definitions.specs.Scripted.{scripted_rules}
-use Rattle.sc_definitions.specs.Transcript.{Round, built_rounds}
+use Rattle.sc_definitions.specs.Transcript.{Round}
 use Rattle.sc_definitions.specs.Replays.{given_rounds}
 use Rattle.sc_definitions.specs.Problem.{Problem, honest_of}
+use Rattle.sc_challenger.specs.Hashed.{hash_rules}
 use Rattle.sc_table.specs.Strategy.{order_of}
 use Rattle.sc_audit.specs.declared.job.Strategy.TheVariants.{Plain}
 use Rattle.sc_audit.specs.declared.error.AuditError.{AuditError}
@@ -22,18 +23,22 @@ use Rattle.sc_audit.specs.Figures.{Figures, Finding, holds, refuted, lucky}
 use Rattle.sc_audit.specs.Audits.{begun, figures_from}
 use Rattle.sumcheck_run.specs.declared.reply.Outcome.TheVariants.{Holds, Refuted}
 use Rattle.sumcheck_run.specs.declared.job.Job.{Job}
+use Rattle.sumcheck_run.specs.declared.job.Challenger.{Challenger}
+use Rattle.sumcheck_run.specs.declared.job.Challenger.TheVariants.{Scripted, Hash}
 use Rattle.sumcheck_run.specs.declared.job.EqualityClaim.{EqualityClaim}
 use Rattle.sumcheck_run.specs.declared.job.Proof.{Proof}
 use Rattle.sumcheck_run.specs.declared.job.Mode.{Mode}
 use Rattle.sumcheck_run.specs.declared.job.Mode.TheVariants.{Build, Check}
 use Rattle.sumcheck_run.specs.Reply.{Reply, no_witness, proof_refused, refused}
+use Rattle.sumcheck_run.specs.Job.{field_size}
+use Rattle.sumcheck_run.specs.Witnesses.{honest_rounds, first_failing}
 use Rattle.sumcheck_run.specs.Lines.{claim_line, round_lines, residual_line, eval_line, weight_line, holds_line, refuted_line, unbuilt_text, shape_fault_text, fit_fault_text, false_claim_text, missing_text, rounds_text, witnesses_text, witness_text}
 
 -- ---- the case that a job is
 
 -- the field of the jobs: the integers modulo 65537
 abbrev pub field : Ops
-field = residues 65537
+field = residues field_size
 
 -- that the table's value at the point is the claimed one
 abbrev pub statement_of : EqualityClaim → Statement
@@ -62,25 +67,30 @@ abbrev pub task_of : Mode → Task
 task_of Build = build Plain
 task_of (Check proof) = check (option_map given_of proof)
 
--- the job's case: its rounds have no difficulty
+-- the job's case
 abbrev pub case_of : Job → Case
 case_of job = record {
   rows = length job.table;
-  bits = 0;
+  bits = job.bits;
   problem = problem_of job;
   task = task_of job.mode;
 }
 
+-- what a challenger answers
+abbrev pub rules_by : Challenger → Rules
+rules_by (Scripted script) = scripted_rules script.draws script.witnesses
+rules_by Hash = hash_rules field_size
+
 -- what the job's challenger answers
 abbrev pub rules_of : Job → Rules
-rules_of job = scripted_rules job.script.draws job.script.witnesses
+rules_of job = rules_by job.challenger
 
 -- ---- the reply to a case
 
 -- the lines of a report up to the verdict
 unfoldable pub figure_lines : Figures → List ℕ
 figure_lines r =
-    claim_line r.claim ++ round_lines 0 r.messages r.challenges ++ residual_line r.residual ++ eval_line r.eval ++ weight_line r.weight
+    claim_line r.claim ++ round_lines 0 r.messages r.witnesses r.challenges ++ residual_line r.residual ++ eval_line r.eval ++ weight_line r.weight
 
 -- A refusal. Want of memory is a status of its own, and has no text.
 abbrev pub refusal_reply : AuditError → Reply
@@ -104,24 +114,40 @@ finding_reply lucky lines = refusal_reply (Unbuilt Verdict)
 abbrev pub figures_reply : Figures → Reply
 figures_reply r = finding_reply r.finding (figure_lines r)
 
--- The rounds of a case without a difficulty that is played from a history on: those that an honest prover builds, or those of the proof.
-abbrev pub rounds_of : Ops → Rules → Extension → List Event → Case → Task → List Round
-rounds_of o R E h c (build strategy) = built_rounds (honest_of o c.problem) R E (begun E h c) [] c.problem.variables
-rounds_of o R E h c (check None) = []
-rounds_of o R E h c (check (Some given)) = given_rounds given.messages given.witnesses
+-- rounds that are built, or the refusal of the one for which no witness is found
+abbrev pub or_no_witness : Result (List Round) ℕ → Result (List Round) AuditError
+or_no_witness (Ok rounds) = Ok rounds
+or_no_witness (Err i) = Err (NoWitness i)
 
--- the report's figures
-abbrev pub report_of : Ops → Rules → Extension → List Event → Case → Figures
-report_of o R E h c = figures_from o R E h c (rounds_of o R E h c c.task)
+-- the rounds of a proof, or the refusal of the one whose witness fails
+abbrev pub unless_failing : Option ℕ → ℕ → List Round → Result (List Round) AuditError
+unless_failing None bits rounds = Ok rounds
+unless_failing (Some i) bits rounds = Err (InvalidPowWitness i bits)
 
-abbrev pub reply_by : Option AuditError → Figures → Reply
-reply_by (Some e) report = refusal_reply e
-reply_by None report = figures_reply report
+-- a proof's rounds that are played from h on, unless the witness of one fails
+abbrev pub passing_rounds : Rules → Extension → ℕ → List Event → List Round → Result (List Round) AuditError
+passing_rounds R E bits h rounds = unless_failing (first_failing R E bits h rounds) bits rounds
 
--- what a case without a difficulty is answered: its first refusal before a round is played, or else its report
-unfoldable pub case_reply : Ops → Rules → Extension → List Event → Case → Reply
-case_reply o R E h c = reply_by (refusal_of o R.max_bits c) (report_of o R E h c)
+-- The rounds of a case that is played from a history on: those that an honest prover builds, or those of the proof; or why they cannot be played. The
+-- base field has so many elements.
+abbrev pub rounds_of : Ops → Rules → Extension → ℕ → List Event → Case → Task → Result (List Round) AuditError
+rounds_of o R E size h c (build strategy) = or_no_witness (honest_rounds (honest_of o c.problem) R E size c.bits (begun E h c) [] c.problem.variables)
+rounds_of o R E size h c (check None) = Ok []
+rounds_of o R E size h c (check (Some given)) = passing_rounds R E c.bits (begun E h c) (given_rounds given.messages given.witnesses)
+
+-- the reply to rounds that are played from a history on: their report, or why they cannot be played
+abbrev pub rounds_reply : Ops → Rules → Extension → List Event → Case → Result (List Round) AuditError → Reply
+rounds_reply o R E h c (Ok rounds) = figures_reply (figures_from o R E h c rounds)
+rounds_reply o R E h c (Err e) = refusal_reply e
+
+abbrev pub reply_by : Option AuditError → Reply → Reply
+reply_by (Some e) reply = refusal_reply e
+reply_by None reply = reply
+
+-- what a case is answered: its first refusal before a round is played, or else the reply to its rounds
+unfoldable pub case_reply : Ops → Rules → Extension → ℕ → List Event → Case → Reply
+case_reply o R E size h c = reply_by (refusal_of o R.max_bits c) (rounds_reply o R E h c (rounds_of o R E size h c c.task))
 
 -- what a job is answered, over the integers modulo 65537 and under its own challenger
 unfoldable pub judge : Job → Reply
-judge job = case_reply field (rules_of job) own_extension [] (case_of job)
+judge job = case_reply field (rules_of job) own_extension field_size [] (case_of job)

@@ -12,7 +12,7 @@ use sc_field::{Field, NoMemory};
 use sc_rounds::SumcheckData;
 use std::alloc::Global;
 
-/// The audit of the elements that a job names by their numbers. Its rounds have no difficulty.
+/// The audit of the elements that a job names by their numbers.
 pub(crate) fn audit_job<F: Field>(alloc: Global, job: &Job) -> Result<AuditJob<F, F>, NoMemory>
     requires { JobFits F.ops.size job.now }
     ensures { IfOk result (λ asked. case_in F.number F.number (λ x. x) asked ≡ case_of job.now) }
@@ -23,7 +23,7 @@ pub(crate) fn audit_job<F: Field>(alloc: Global, job: &Job) -> Result<AuditJob<F
         table: elements(alloc, job.table.as_slice())?,
         constraint: constraint_of(alloc, job.claims.as_slice(), variables, batching)?,
         order: job.order,
-        pow_bits: 0,
+        pow_bits: job.bits as usize,
         mode: audit_mode(alloc, &job.mode)?,
     })
 }

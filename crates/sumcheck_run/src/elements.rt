@@ -1,5 +1,6 @@
 //! Numbers as elements of a field.
 ghost use Rattle.std.specs.Prelude.{◌≡◌, ◌<◌, All, IfOk, map};
+ghost use Rattle.std.specs.List.{slice_get};
 ghost use Rattle.sc_rounds.specs.Data.{pair_of};
 ghost use Rattle.sumcheck_run.specs.Report.{values_of};
 
@@ -32,6 +33,16 @@ pub(crate) fn element_lists<F: Field>(
         found.push(elements(alloc, list.as_slice())?)?;
     }
     Ok(found)
+}
+
+/// The number of the element at a place, if there is one.
+pub(crate) fn number_at<F: Field>(elements: &[F], i: usize) -> Option<u64>
+    ensures { result ≡ slice_get (map F.number elements.now) i }
+{
+    match elements.get(i) {
+        Some(element) => Some(element.index()),
+        None => None,
+    }
 }
 
 /// The messages of the two values with these numbers.

@@ -10,6 +10,15 @@ pub struct Script {
     pub witnesses: Row<Row<u64>>,
 }
 
+/// What answers draws and tests.
+#[derive(Drop)]
+pub enum Challenger {
+    /// A script.
+    Scripted(Script),
+    /// Digests of what was observed, drawn and tested.
+    Hash,
+}
+
 /// The claim that the table has a value at a point.
 #[derive(Drop)]
 pub struct EqualityClaim {
@@ -24,7 +33,7 @@ pub struct EqualityClaim {
 pub struct Proof {
     /// The two values that each round sends.
     pub rounds: Row<(u64, u64)>,
-    /// The witnesses, none where there is no difficulty.
+    /// The witness of each round, and none where there is no difficulty.
     pub witnesses: Row<u64>,
 }
 
@@ -37,13 +46,15 @@ pub enum Mode {
     Check(Option<Proof>),
 }
 
-/// A job: a table with claims on it, and a scripted challenger. Elements stand by their numbers.
+/// A job: a table with claims on it, and a challenger. Elements stand by their numbers.
 #[derive(Drop)]
 pub struct Job {
-    /// What the challenger answers.
-    pub script: Script,
+    /// What answers draws and tests.
+    pub challenger: Challenger,
     /// Which variable a round binds.
     pub order: VariableOrder,
+    /// The difficulty of each round's test in bits, at most 65,535, or 0 for no test.
+    pub bits: u64,
     /// The table, row 0 first.
     pub table: Row<u64>,
     /// How many coordinates the points of the claims have, at most 64.

@@ -18,7 +18,7 @@ mod report;
 mod statements;
 
 pub use command::{Command, needs_input, read_command};
-pub use job::{EqualityClaim, Job, Mode, Proof, Script};
+pub use job::{Challenger, EqualityClaim, Job, Mode, Proof, Script};
 pub use member::{Member, Misfit, Unread};
 pub use program::{Status, run};
 pub use reading::read_job;

@@ -14,18 +14,25 @@ pub(crate) fn push_claim(text: &mut String, claim: u64) -> Result<(), AllocError
     write!(text, "claim {claim}\n")
 }
 
-#[tactic(auto, unfolding(crate::specs::Lines::round_line, crate::specs::Lines::spaced))]
+#[tactic(auto, unfolding(crate::specs::Lines::round_line, crate::specs::Lines::spaced, crate::specs::Lines::witness_part))]
 pub(crate) fn push_round(
     text: &mut String,
     i: usize,
     c_a: u64,
     c_inf: u64,
+    witness: Option<u64>,
     challenge: u64,
 ) -> Result<(), AllocError>
     ensures { OnOk result (string_bytes text.new
-        ≡ string_bytes text.old ++ round_line i (c_a ∷ c_inf ∷ []) challenge) }
+        ≡ string_bytes text.old ++ round_line i (c_a ∷ c_inf ∷ []) witness challenge) }
 {
-    write!(text, "round {i}: {c_a} {c_inf} challenge {challenge}\n")
+    match witness {
+        None => write!(text, "round {i}: {c_a} {c_inf} challenge {challenge}\n"),
+        Some(witness) => write!(
+            text,
+            "round {i}: {c_a} {c_inf} witness {witness} challenge {challenge}\n"
+        ),
+    }
 }
 
 #[tactic(auto, unfolding(crate::specs::Lines::residual_line))]

@@ -2,10 +2,10 @@
 ghost use Rattle.std.specs.Prelude.{◌≡◌, ◌<◌, ◌≤◌, All, Option, Some, None, Ok, Err, IfOk, IsErrOf, length, flat_map};
 ghost use Rattle.serde_json.specs.View.{view};
 ghost use Rattle.sc_forms.specs.Forms.{either_form, literal_form};
-ghost use Rattle.sumcheck_run.specs.Job.{JobFits, ProofFits, ModeFits, ScriptFits, check_form, claim_form, field_size, group_form, groups_form, job_of, later_build_form, later_group_form, mode_form, most_statements, needed_groups, order_form, proof_form, script_form};
+ghost use Rattle.sumcheck_run.specs.Job.{JobFits, ProofFits, ModeFits, ScriptFits, ChallengerFits, challenger_form, check_form, claim_form, field_size, group_form, groups_form, job_of, later_build_form, later_group_form, mode_form, most_statements, needed_groups, order_form, proof_form, script_form};
 ghost use Rattle.sumcheck_run.specs.Statements.{EqualityFits};
 
-use crate::job::{EqualityClaim, Job, Mode, Proof, Script};
+use crate::job::{Challenger, EqualityClaim, Job, Mode, Proof, Script};
 use crate::member::{Member, Misfit, Unread, need};
 use sc_forms::{
     AtMost, Below, Either, FirstOther, Form, ListOf, ListOfLength, Literal, Misread, NoForm,
@@ -45,6 +45,25 @@ impl Form for ScriptForm {
         let draws = member(alloc, &list, value, "draws")?;
         let witnesses = member(alloc, &ListOf { item: list }, value, "witnesses")?;
         Ok(Script { draws, witnesses })
+    }
+}
+
+// The hash challenger by its name, or a scripted one.
+#[derive(Clone, Copy)]
+struct ChallengerForm;
+
+impl Form for ChallengerForm {
+    type Out = Challenger;
+
+    ghost reads = { λ _. challenger_form };
+
+    ghost fits = { λ _ challenger. ChallengerFits field_size challenger };
+
+    fn read(&self, alloc: Global, value: &Value) -> Result<Challenger, Misread> {
+        match value.as_str() {
+            Some(name) if name == "hash" => Ok(Challenger::Hash),
+            _ => Ok(Challenger::Scripted(ScriptForm.read(alloc, value)?)),
+        }
     }
 }
 
@@ -278,21 +297,10 @@ pub fn read_job(alloc: Global, value: &Value) -> Result<Job, Unread>
         value,
         Member::Field,
     )?;
-    let script = need(
-        alloc,
-        &ScriptForm,
-        &Literal { text: "hash" },
-        value,
-        Member::Challenger,
-    )?;
+    let challenger = need(alloc, &ChallengerForm, &NoForm, value, Member::Challenger)?;
     let order = need(alloc, &OrderForm, &NoForm, value, Member::Order)?;
-    need(
-        alloc,
-        &AtMost { most: 0 },
-        &AtMost { most: MOST_BITS },
-        value,
-        Member::Bits,
-    )?;
+    let most = AtMost { most: MOST_BITS };
+    let bits = need(alloc, &most, &NoForm, value, Member::Bits)?;
     let table = need(
         alloc,
         &ListOf { item: ELEMENT },
@@ -308,8 +316,9 @@ pub fn read_job(alloc: Global, value: &Value) -> Result<Job, Unread>
     let batching = need(alloc, &ELEMENT, &NoForm, value, Member::Batching)?;
     let mode = need(alloc, &ModeForm, &LaterBuildForm, value, Member::Mode)?;
     Ok(Job {
-        script,
+        challenger,
         order,
+        bits,
         table,
         variables,
         claims,

@@ -1,5 +1,5 @@
 //! The answer to a job.
-ghost use Rattle.std.specs.Prelude.{◌≡◌, ◌++◌, IfOk, OnOk, None, [], map, string_bytes};
+ghost use Rattle.std.specs.Prelude.{◌≡◌, ◌⊎◌, ◌<◌, ◌++◌, IfOk, OnOk, None, [], map, string_bytes};
 ghost use Rattle.sc_definitions.specs.Scripted.{scripted_rules};
 ghost use Rattle.sc_definitions.specs.Events.{own_extension};
 ghost use Rattle.sc_rounds.specs.Data.{pair_of};
@@ -11,34 +11,50 @@ ghost use Rattle.sumcheck_run.specs.Lines.{round_lines};
 ghost use Rattle.sumcheck_run.specs.Report.{case_of, case_reply, field, figure_lines, figures_reply, finding_reply, judge, rules_of};
 
 use crate::asked::audit_job;
-use crate::job::{Job, Mode, Script};
+use crate::job::{self, Job, Mode, Script};
 use crate::refusals::refuse;
 use crate::reply::{Answer, Outcome};
 use crate::{elements, lines};
 use sc_audit::{AuditError, Form, Job as AuditJob, Report, Verdict, audit};
-use sc_challenger::{Challenger, ScriptedChallenger};
+use sc_challenger::{Challenger, HashChallenger, ScriptedChallenger};
 use sc_field::{F65537, Field, NoMemory};
 use sc_table::RoundMessage;
 use std::alloc::Global;
 
 /// The answer to a job: its report, or why there is none. The numbers are given up before the audit begins.
-#[tactic(auto, using(crate::proofs::ReportLaws::built_holds))]
+#[tactic(auto, using(crate::proofs::BuildReplies::built_holds))]
 pub fn judge_job(alloc: Global, job: Job) -> Result<Answer, NoMemory>
     requires { JobFits field_size job }
     ensures reply { IfOk result (λ a. a ≡ judge job) }
 
-    // So a build that is not refused holds.
+    // So a build that is not refused holds, unless a round at a difficulty has no witness.
     ensures holds { job.mode ≡ Mode.Build → refusal_of field (rules_of job).max_bits (case_of job) ≡ None
-        → (judge job).outcome ≡ Outcome.Holds }
+        → ((judge job).outcome ≡ Outcome.Holds) ⊎ ((0 < job.bits) × ((judge job).outcome ≡ Outcome.NoWitness)) }
 {
     let asked: AuditJob<F65537, F65537> = audit_job(alloc, &job)?;
-    let mut challenger = challenger_of(alloc, &job.script)?;
-    drop(job);
-    answer_of(alloc, &asked, &mut challenger)
+    match challenger_in(job) {
+        job::Challenger::Scripted(script) => {
+            let mut challenger = scripted(alloc, &script)?;
+            drop(script);
+            answer_of(alloc, &asked, &mut challenger)
+        }
+        job::Challenger::Hash => {
+            let mut challenger: HashChallenger<F65537> = HashChallenger::new(alloc);
+            answer_of(alloc, &asked, &mut challenger)
+        }
+    }
+}
+
+// The challenger that a job describes. The rest of the job is given up.
+fn challenger_in(job: Job) -> job::Challenger
+    ensures { result ≡ job.challenger }
+{
+    let Job { challenger, .. } = job;
+    challenger
 }
 
 // The challenger with an empty history that a script describes.
-fn challenger_of(alloc: Global, script: &Script) -> Result<ScriptedChallenger<F65537>, NoMemory>
+fn scripted(alloc: Global, script: &Script) -> Result<ScriptedChallenger<F65537>, NoMemory>
     requires { ScriptFits field_size script.now }
     ensures history { IfOk result (λ c. ⟦<ScriptedChallenger<F65537> as Challenger<F65537>>⟧.history c ≡ []) }
     ensures rules { IfOk result (λ c. ⟦<ScriptedChallenger<F65537> as Challenger<F65537>>⟧.rules c
@@ -49,14 +65,13 @@ fn challenger_of(alloc: Global, script: &Script) -> Result<ScriptedChallenger<F6
     Ok(ScriptedChallenger::new(alloc, draws, good))
 }
 
-// The answer to an audit without a difficulty.
+// The answer to an audit.
 fn answer_of<F: Field, C: Challenger<F>>(
     alloc: Global,
     asked: &AuditJob<F, F>,
     challenger: &mut C,
 ) -> Result<Answer, NoMemory>
-    requires { asked.now.pow_bits ≡ 0 }
-    ensures { IfOk result (λ a. a ≡ case_reply F.ops (C.rules challenger.old) own_extension (C.history challenger.old)
+    ensures { IfOk result (λ a. a ≡ case_reply F.ops (C.rules challenger.old) own_extension F.ops.size (C.history challenger.old)
         (case_in F.number F.number (λ x. x) asked.now)) }
 {
     match audit::<F, F, F, C>(alloc, asked, challenger) {
@@ -107,6 +122,7 @@ fn report_text<F: Field>(alloc: Global, report: &Report<F, F>) -> Result<String,
     push_rounds(
         &mut text,
         report.rounds.polynomial_evaluations(),
+        &report.rounds.pow_witnesses,
         report.challenges.as_slice(),
     )?;
     lines::push_residual(&mut text, report.residual.index())?;
@@ -115,14 +131,15 @@ fn report_text<F: Field>(alloc: Global, report: &Report<F, F>) -> Result<String,
     Ok(text)
 }
 
-// The lines of rounds, as far as there are messages and challenges.
+// The lines of rounds, as far as there are messages and challenges, with as many witnesses as there are.
 fn push_rounds<F: Field>(
     text: &mut String,
     messages: &[RoundMessage<F>],
+    witnesses: &[F],
     challenges: &[F],
 ) -> Result<(), NoMemory>
     ensures { OnOk result (string_bytes text.new ≡ string_bytes text.old
-        ++ round_lines 0 (map (pair_of F.number) messages.now) (map F.number challenges.now)) }
+        ++ round_lines 0 (map (pair_of F.number) messages.now) (map F.number witnesses.now) (map F.number challenges.now)) }
 {
     for i in 0..messages.len().min(challenges.len()) {
         let message = messages[i];
@@ -132,6 +149,7 @@ fn push_rounds<F: Field>(
             i,
             message.c_a.index(),
             message.c_inf.index(),
+            elements::number_at(witnesses, i),
             challenge,
         )?;
     }

@@ -3,8 +3,8 @@ mod jobs;
 
 use crate::{MemSink, MemSource, PlainSource, Source, StdSink, StdSource, run};
 use jobs::{
-    CHANGES, CHECKS, CUBE, FIRST, FIRST_TEXT, LUCKY, LUCKY_BATCH, NO_VARIABLE, ROWS, SAME,
-    SUFFIX_MODES, SUFFIX_TEXT,
+    CHANGES, CHECKS, CUBE, DIFFICULTIES, FIRST, FIRST_TEXT, HASHES, LUCKY, LUCKY_BATCH,
+    NO_VARIABLE, ROWS, SAME, SCRIPT, SUFFIX_MODES, SUFFIX_TEXT,
 };
 use std::alloc::{AllocError, Global};
 use std::io::{self, Error, ErrorKind, Read, Write};
@@ -84,6 +84,63 @@ fn the_first_job_in_suffix_order(rt: HostRuntime) -> Result<(), Fail> {
         let (status, sink) = audit(alloc, input.as_bytes())?;
         assert_eq!(rt; status, *code, "{mode}");
         assert_eq!(rt; sink.bytes(), text.as_bytes(), "{mode}");
+    }
+    Ok(())
+}
+
+#[test]
+fn the_first_job_at_a_difficulty(rt: HostRuntime) -> Result<(), Fail> {
+    let alloc = rt.alloc();
+    for (bits, witnesses, mode, code, text) in DIFFICULTIES.iter() {
+        let bits = format!(in alloc; r#""bits":{bits}"#)?;
+        let witnesses = format!(in alloc; r#""witnesses":{witnesses}"#)?;
+        let input = FIRST.replace(alloc, r#""bits":0"#, &bits)?;
+        let input = input.replace(alloc, r#""witnesses":[]"#, &witnesses)?;
+        let input = input.replace(alloc, r#"{"build":"plain"}"#, *mode)?;
+        let (status, sink) = audit(alloc, input.as_bytes())?;
+        assert_eq!(rt; status, *code, "{input}");
+        assert_eq!(rt; sink.bytes(), text.as_bytes(), "{input}");
+    }
+    Ok(())
+}
+
+#[test]
+fn a_difficulty_without_rounds(rt: HostRuntime) -> Result<(), Fail> {
+    let alloc = rt.alloc();
+    let text = "claim 7\nresidual 7\neval 7\nweight 1\nverdict holds\n";
+    let difficult = NO_VARIABLE.replace(alloc, r#""bits":0"#, r#""bits":3"#)?;
+    for (mode, code, text) in [
+        (r#"{"build":"plain"}"#, 0, text),
+        (r#"{"check":null}"#, 0, text),
+        (r#"{"check":{"rounds":[],"witnesses":[]}}"#, 0, text),
+        (
+            r#"{"check":{"rounds":[],"witnesses":[5]}}"#,
+            4,
+            "proof refused witnesses expected 0 actual 1\n",
+        ),
+    ] {
+        let input = difficult.replace(alloc, r#"{"build":"plain"}"#, mode)?;
+        let (status, sink) = audit(alloc, input.as_bytes())?;
+        assert_eq!(rt; status, code, "{mode}");
+        assert_eq!(rt; sink.bytes(), text.as_bytes(), "{mode}");
+    }
+    Ok(())
+}
+
+#[test]
+fn the_first_job_under_the_hash_challenger(rt: HostRuntime) -> Result<(), Fail> {
+    let alloc = rt.alloc();
+    for (order, bits, text, proof) in HASHES.iter() {
+        let bits = format!(in alloc; r#""bits":{bits}"#)?;
+        let input = FIRST.replace(alloc, SCRIPT, r#""hash""#)?;
+        let input = input.replace(alloc, r#""prefix""#, *order)?;
+        let input = input.replace(alloc, r#""bits":0"#, &bits)?;
+        for mode in [r#"{"build":"plain"}"#, *proof] {
+            let input = input.replace(alloc, r#"{"build":"plain"}"#, mode)?;
+            let (status, sink) = audit(alloc, input.as_bytes())?;
+            assert_eq!(rt; status, 0, "{input}");
+            assert_eq!(rt; sink.bytes(), text.as_bytes(), "{input}");
+        }
     }
     Ok(())
 }

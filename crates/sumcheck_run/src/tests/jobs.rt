@@ -3,6 +3,9 @@
 pub(super) const FIRST: &str =
     r#"{"field":"65537","challenger":{"draws":[3,4],"witnesses":[]},"order":"prefix","bits":0,"table":[1,2,3,4],"variables":2,"groups":[{"kind":"eq","claims":[{"point":[0,1],"value":2}]}],"batching":1,"mode":{"build":"plain"}}"#;
 
+// The challenger of the first job.
+pub(super) const SCRIPT: &str = r#"{"draws":[3,4],"witnesses":[]}"#;
+
 pub(super) const FIRST_TEXT: &str =
     "claim 2\nround 0: 2 65535 challenge 3\nround 1: 0 65535 challenge 4\nresidual 65449\neval 11\nweight 65529\nverdict holds\n";
 
@@ -87,7 +90,7 @@ pub(super) const ROWS: [(&str, &str, u8, &str); 16] = [
 ];
 
 // What stands in the first job, what in its place is refused, and by what text.
-pub(super) const CHANGES: [(&str, &str, &str); 73] = [
+pub(super) const CHANGES: [(&str, &str, &str); 81] = [
     // a member that is missing
     (r#""field":"65537","#, "", "bad-job field"),
     (
@@ -122,16 +125,13 @@ pub(super) const CHANGES: [(&str, &str, &str); 73] = [
     (r#""65537""#, r#""257x2""#, "unbuilt field"),
     (r#""65537""#, "65537", "bad-job field"),
     (r#""65537""#, r#""257""#, "bad-job field"),
-    (
-        r#"{"draws":[3,4],"witnesses":[]}"#,
-        r#""hash""#,
-        "unbuilt challenger",
-    ),
-    (
-        r#"{"draws":[3,4],"witnesses":[]}"#,
-        r#""script""#,
-        "bad-job challenger",
-    ),
+    (SCRIPT, r#""script""#, "bad-job challenger"),
+    (SCRIPT, r#""Hash""#, "bad-job challenger"),
+    (SCRIPT, r#""hash ""#, "bad-job challenger"),
+    (SCRIPT, r#""""#, "bad-job challenger"),
+    (SCRIPT, "5", "bad-job challenger"),
+    (SCRIPT, "null", "bad-job challenger"),
+    (SCRIPT, r#"["hash"]"#, "bad-job challenger"),
     (r#""prefix""#, r#""infix""#, "bad-job order"),
     (r#""prefix""#, r#""Suffix""#, "bad-job order"),
     (r#""prefix""#, r#""suffix ""#, "bad-job order"),
@@ -139,9 +139,20 @@ pub(super) const CHANGES: [(&str, &str, &str); 73] = [
     (r#""prefix""#, "1", "bad-job order"),
     (r#""prefix""#, "null", "bad-job order"),
     (r#""prefix""#, r#"["suffix"]"#, "bad-job order"),
-    (r#""bits":0"#, r#""bits":1"#, "unbuilt bits"),
-    (r#""bits":0"#, r#""bits":65535"#, "unbuilt bits"),
+    (
+        r#""bits":0"#,
+        r#""bits":17"#,
+        "job-shape difficulty 17 bound 16",
+    ),
+    (
+        r#""bits":0"#,
+        r#""bits":65535"#,
+        "job-shape difficulty 65535 bound 16",
+    ),
     (r#""bits":0"#, r#""bits":65536"#, "bad-job bits"),
+    (r#""bits":0"#, r#""bits":-1"#, "bad-job bits"),
+    (r#""bits":0"#, r#""bits":1.5"#, "bad-job bits"),
+    (r#""bits":0"#, r#""bits":null"#, "bad-job bits"),
     (r#""bits":0"#, r#""bits":"0""#, "bad-job bits"),
     (r#""eq""#, r#""next""#, "unbuilt groups"),
     (r#""eq""#, r#""select""#, "unbuilt groups"),
@@ -342,4 +353,139 @@ pub(super) const SAME: [(&str, &str); 9] = [
     // no test is made of a witness
     (r#""witnesses":[]"#, r#""witnesses":[[1],[]]"#),
     (r#"{"field""#, "\r\n\t { \"field\""),
+];
+
+// The first job at a difficulty: the difficulty, the witnesses that pass each test, the mode, the status and the text.
+pub(super) const DIFFICULTIES: [(&str, &str, &str, u8, &str); 15] = [
+    ("1", "[]", r#"{"build":"plain"}"#, 5, "no witness round 0\n"),
+    (
+        "1",
+        "[[],[6]]",
+        r#"{"build":"plain"}"#,
+        5,
+        "no witness round 0\n",
+    ),
+    (
+        "1",
+        "[[5,9]]",
+        r#"{"build":"plain"}"#,
+        5,
+        "no witness round 1\n",
+    ),
+    (
+        "1",
+        "[[5,9],[6]]",
+        r#"{"build":"plain"}"#,
+        0,
+        "claim 2\nround 0: 2 65535 witness 5 challenge 3\nround 1: 0 65535 witness 6 challenge 4\nresidual 65449\neval 11\nweight 65529\nverdict holds\n",
+    ),
+    // the least witness, and not the first of the list
+    (
+        "16",
+        "[[9,5,7],[6,65536],[1]]",
+        r#"{"build":"plain"}"#,
+        0,
+        "claim 2\nround 0: 2 65535 witness 5 challenge 3\nround 1: 0 65535 witness 6 challenge 4\nresidual 65449\neval 11\nweight 65529\nverdict holds\n",
+    ),
+    // the first element and the last
+    (
+        "1",
+        "[[0],[65536]]",
+        r#"{"build":"plain"}"#,
+        0,
+        "claim 2\nround 0: 2 65535 witness 0 challenge 3\nround 1: 0 65535 witness 65536 challenge 4\nresidual 65449\neval 11\nweight 65529\nverdict holds\n",
+    ),
+    (
+        "1",
+        "[[5],[7]]",
+        r#"{"check":{"rounds":[[2,65535],[0,65535]],"witnesses":[5,7]}}"#,
+        0,
+        "claim 2\nround 0: 2 65535 witness 5 challenge 3\nround 1: 0 65535 witness 7 challenge 4\nresidual 65449\neval 11\nweight 65529\nverdict holds\n",
+    ),
+    // a witness of a proof need not be the least
+    (
+        "1",
+        "[[4,5],[7,6]]",
+        r#"{"check":{"rounds":[[2,65535],[0,65535]],"witnesses":[5,7]}}"#,
+        0,
+        "claim 2\nround 0: 2 65535 witness 5 challenge 3\nround 1: 0 65535 witness 7 challenge 4\nresidual 65449\neval 11\nweight 65529\nverdict holds\n",
+    ),
+    (
+        "1",
+        "[[5],[7]]",
+        r#"{"check":{"rounds":[[2,65535],[0,65535]],"witnesses":[5,6]}}"#,
+        4,
+        "proof refused witness round 1 bits 1\n",
+    ),
+    (
+        "16",
+        "[[5],[7]]",
+        r#"{"check":{"rounds":[[2,65535],[0,65535]],"witnesses":[6,7]}}"#,
+        4,
+        "proof refused witness round 0 bits 16\n",
+    ),
+    (
+        "1",
+        "[[5],[7]]",
+        r#"{"check":{"rounds":[[2,65535],[0,65535]],"witnesses":[]}}"#,
+        4,
+        "proof refused witnesses expected 2 actual 0\n",
+    ),
+    (
+        "1",
+        "[[5],[7]]",
+        r#"{"check":{"rounds":[[2,65535],[0,65535]],"witnesses":[5]}}"#,
+        4,
+        "proof refused witnesses expected 2 actual 1\n",
+    ),
+    (
+        "1",
+        "[[5],[7]]",
+        r#"{"check":{"rounds":[[2,65535],[0,65535]],"witnesses":[5,7,7]}}"#,
+        4,
+        "proof refused witnesses expected 2 actual 3\n",
+    ),
+    (
+        "1",
+        "[[5],[7]]",
+        r#"{"check":null}"#,
+        4,
+        "proof refused missing 2\n",
+    ),
+    // the rounds of suffix order
+    (
+        "1",
+        "[[5],[7]]",
+        r#"{"check":{"rounds":[[0,1],[12,65531]],"witnesses":[5,7]}}"#,
+        1,
+        "claim 2\nround 0: 0 1 witness 5 challenge 3\nround 1: 12 65531 witness 7 challenge 4\nresidual 65429\neval 11\nweight 65529\nverdict refuted\n",
+    ),
+];
+
+// The first job under the hash challenger: the order, the difficulty, the text, and a proof of the rounds that are printed.
+pub(super) const HASHES: [(&str, &str, &str, &str); 4] = [
+    (
+        r#""prefix""#,
+        "0",
+        "claim 2\nround 0: 2 65535 challenge 50194\nround 1: 0 15344 challenge 49095\nresidual 8943\neval 18410\nweight 31402\nverdict holds\n",
+        r#"{"check":{"rounds":[[2,65535],[0,15344]],"witnesses":[]}}"#,
+    ),
+    (
+        r#""prefix""#,
+        "4",
+        "claim 2\nround 0: 2 65535 witness 23 challenge 1344\nround 1: 0 64194 witness 10 challenge 46150\nresidual 12103\neval 48839\nweight 18552\nverdict holds\n",
+        r#"{"check":{"rounds":[[2,65535],[0,64194]],"witnesses":[23,10]}}"#,
+    ),
+    (
+        r#""suffix""#,
+        "0",
+        "claim 2\nround 0: 0 1 challenge 32017\nround 1: 56089 1503 challenge 20558\nresidual 63656\neval 7597\nweight 14622\nverdict holds\n",
+        r#"{"check":{"rounds":[[0,1],[56089,1503]],"witnesses":[]}}"#,
+    ),
+    (
+        r#""suffix""#,
+        "4",
+        "claim 2\nround 0: 0 1 witness 5 challenge 6021\nround 1: 16501 53495 witness 28 challenge 14323\nresidual 48624\neval 34668\nweight 13930\nverdict holds\n",
+        r#"{"check":{"rounds":[[0,1],[16501,53495]],"witnesses":[5,28]}}"#,
+    ),
 ];

@@ -1,19 +1,18 @@
-use Rattle.std.proofs.Common.{◌≡◌, ℕ, ◌+◌, ◌<◌, ◌≤◌, ◌^◌, suc, ◌-◌, ◌++◌, refl, sym, ◌∙◌, ap, arith, inl, inr, length, Err}
+use Rattle.std.proofs.Common.{◌≡◌, ◌+◌, ◌<◌, ◌^◌, suc, ◌-◌, ◌++◌, refl, sym, ◌∙◌, ap, arith, inl, inr, length, Err}
 use Rattle.std.proofs.lemmas.List.{length-map}
 use Rattle.sc_definitions.specs.Tables.{evaluation, entries}
 use Rattle.sc_definitions.specs.Events.{words}
 use Rattle.sc_definitions.specs.Seeds.{quadratic_seed}
-use Rattle.sc_definitions.specs.Problem.{weights_of, claim_of}
+use Rattle.sc_definitions.specs.Problem.{claim_of}
 use Rattle.sc_definitions.proofs.LoopLaws.{entry-read}
-use Rattle.sc_table.specs.Polys.{table_of}
 use Rattle.sc_table.specs.Strategy.{order_of}
 use Rattle.sc_statements.specs.Constraints.{constraint_arity, constraint_challenge, constraint_power, constraint_statements}
 use Rattle.sc_rounds.specs.Products.{variables_in, order_in, evals_in, weights_in}
 use Rattle.sc_rounds.specs.declared.error.SumcheckError.TheVariants.{NoMemory, NoWitness}
 use Rattle.sc_rounds.proofs.InStep.{invalid_is, message_count, found_count, none_invalid}
-use Rattle.sc_audit.specs.Cases.{build}
 use Rattle.sc_audit.specs.Audits.{refusal_by}
 use Rattle.sc_audit.proofs.FigureLaws.{stated}
+use Rattle.std.proofs.lemmas.List.Elements.{All-map}
 use Rattle.sc_audit.proofs.CheckedReports.{all-some}
 use Rattle.sc_audit.proofs.BuiltReports.{played-case, report-built, broken-built, unground-built, finds_none_is}
 use Rattle.sc_audit.proofs.building.play.Goals as goal
@@ -105,7 +104,8 @@ returns-in-Err-clause-no_witness g c = λ i e.
             unground-built (order_of job.order) (order_in poly) o ring _ _ E bits n _ _ _ _ _ _ _ _ H _ (length job.table.items) _ _ _ _ _ _ _ _ _ _ _ i
                 c.in_ok-prover.ensures.order c.in_ok-copied.ensures.rules c.in_ok-prover.ensures.variables c.in_ok-prover.ensures.evals c.in_ok-prover.ensures.weights c.in_ok-prover.ensures.claim
                 (ap (λ t. t ++ words (quadratic_seed g.EF.ExtensionField.DEGREE evaluation bits c.num_variables-variables.result)) c.in_ok-copied.ensures.history ∙ ap (λ t. H ++ t) seed)
-                c.new-rounds.ensures.messages c.new-rounds.ensures.witnesses (omega (arith, same, some, stopped.1, c.in_ok-prover.ensures.variables)) fails,
+                c.new-rounds.ensures.messages c.new-rounds.ensures.witnesses (All-map (λ n. n < g.F.Field.ops.size) g.F.Field.number _ (λ k d low. g.met.F.Field.number_below _))
+                (omega (arith, same, some, stopped.1, c.in_ok-prover.ensures.variables)) fails,
             refl,
           )
     ]

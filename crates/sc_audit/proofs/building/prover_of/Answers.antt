@@ -1,10 +1,8 @@
-use Rattle.std.proofs.Common.{◌≡◌, ◌<◌, ◌^◌, ℕ, length, map, sym, ◌∙◌, ap, arith}
-use Rattle.sc_definitions.specs.Ring.{times}
+use Rattle.std.proofs.Common.{◌≡◌, ◌^◌, length, map, sym, ◌∙◌, ap, arith}
 use Rattle.sc_definitions.specs.Tables.{entries, inner}
-use Rattle.sc_definitions.specs.Statements.{batched_weight}
 use Rattle.sc_definitions.proofs.BuildLaws.{batch-true, first_false_claim-all}
-use Rattle.sc_table.specs.Polys.{variables_of, table_of}
-use Rattle.sc_statements.specs.Constraints.{constraint_arity, constraint_challenge, constraint_power, constraint_statements}
+use Rattle.sc_table.specs.Polys.{variables_of}
+use Rattle.sc_statements.specs.Constraints.{constraint_arity}
 use Rattle.sc_rounds.specs.Products.{evals_in, weights_in}
 use Rattle.sc_audit.proofs.Lengths.{pow-same}
 use Rattle.sc_audit.proofs.Embedded.{entry-embedded, length-embedded}

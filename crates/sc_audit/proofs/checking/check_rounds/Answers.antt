@@ -1,4 +1,4 @@
-use Rattle.std.proofs.Common.{◌≡◌, ℕ, ◌++◌, map, length, None, Err, IfOk, refl, sym, ◌∙◌, ap, subst, arith, inl, inr}
+use Rattle.std.proofs.Common.{◌≡◌, ℕ, map, length, None, refl, sym, ◌∙◌, ap, inl, inr}
 use Rattle.std.proofs.lemmas.List.{length-map}
 use Rattle.std.specs.Prelude.{vec_len}
 use Rattle.std.proofs.lemmas.Bool.Decides.{eqb_tells}
@@ -8,11 +8,11 @@ use Rattle.sc_definitions.specs.Events.{words}
 use Rattle.sc_definitions.specs.Seeds.{quadratic_seed}
 use Rattle.sc_definitions.specs.Problem.{claim_of}
 use Rattle.sc_definitions.proofs.BuiltLaws.{length-challenges}
-use Rattle.sc_definitions.proofs.ReplayLaws.{length-given_rounds, messages-given_rounds}
+use Rattle.sc_definitions.proofs.ReplayLaws.{length-given_rounds}
 use Rattle.sc_table.specs.Strategy.{order_of}
 use Rattle.sc_statements.specs.Constraints.{constraint_arity, constraint_challenge, constraint_power, constraint_statements}
 use Rattle.sc_statements.proofs.BatchSteps.{claim-alone}
-use Rattle.sc_rounds.specs.Data.{messages_in, witnesses_in, rounds_in, witness_count}
+use Rattle.sc_rounds.specs.Data.{messages_in, witnesses_in, witness_count}
 use Rattle.sc_rounds.specs.declared.error.SumcheckError.TheVariants as replay
 use Rattle.sc_rounds.proofs.InStep.{invalid_is}
 use Rattle.sc_audit.specs.declared.error.AuditError.TheVariants.{Unbuilt, RoundCountMismatch, PowWitnessCountMismatch, NoMemory}
@@ -22,7 +22,7 @@ use Rattle.sc_audit.specs.Figures.{figures_of}
 use Rattle.sc_audit.specs.Audits.{refusal_by}
 use Rattle.sc_audit.proofs.CauseLaws.{on_err, caused-memory, caused-lucky, caused-rounds, caused-witnesses, caused-invalid}
 use Rattle.sc_audit.proofs.FigureLaws.{stated, claim-batched}
-use Rattle.sc_audit.proofs.CountLaws.{count-rounds, count-witnesses, count-fits}
+use Rattle.sc_audit.proofs.CountLaws.{count-rounds, count-witnesses}
 use Rattle.sc_audit.proofs.CheckedReports.{not_other, all-some, broken-checked, residual-checked, report-checked}
 use Rattle.sc_audit.proofs.checking.check_rounds.Goals as goal
 

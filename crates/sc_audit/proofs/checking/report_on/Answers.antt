@@ -1,6 +1,5 @@
 use Rattle.std.proofs.Common.{◌≡◌, ℕ, ◌==◌, map, refl, sym, ◌∙◌, ap}
-use Rattle.sc_definitions.specs.Ring.{times}
-use Rattle.sc_definitions.specs.Tables.{entries, value, point_of}
+use Rattle.sc_definitions.specs.Tables.{entries, value}
 use Rattle.sc_definitions.specs.Statements.{batched_weight}
 use Rattle.sc_definitions.specs.Problem.{eval_of, weight_value_of}
 use Rattle.sc_table.specs.Strategy.{order_of}

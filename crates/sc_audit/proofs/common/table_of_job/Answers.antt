@@ -1,4 +1,4 @@
-use Rattle.std.proofs.Common.{length, sym, ◌∙◌, ap, rules}
+use Rattle.std.proofs.Common.{sym, ◌∙◌, rules}
 use Rattle.sc_audit.proofs.Lengths.{pow-same}
 use Rattle.sc_audit.proofs.common.table_of_job.Goals as goal
 

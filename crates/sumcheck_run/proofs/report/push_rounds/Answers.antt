@@ -1,4 +1,5 @@
 use Rattle.std.proofs.Common.{◌≡◌, ◌++◌, [], ◌∷◌, ◌+◌, ◌<◌, length, map, take, sym, ◌∙◌, ap, append_assoc, string_bytes, arith}
+use Rattle.std.specs.List.{slice_get}
 use Rattle.sc_rounds.specs.Data.{pair_of}
 use Rattle.sumcheck_run.specs.Lines.{round_line, round_lines}
 use Rattle.sumcheck_run.proofs.LineLaws.{round_lines-more, round_lines-all}
@@ -11,17 +12,18 @@ loop-i-preserved g c =
     let m = c.index-messages-i.result in
     let r = c.index-challenges-i.result in
     let start = string_bytes c.args.text.now in
-    let done = round_lines 0 (map (pair_of number) (take i c.args.messages.now)) (map number (take i c.args.challenges.now)) in
-    let more = round_line i (pair_of number m) (number r) in
+    let ws = map number c.args.witnesses.now in
+    let done = round_lines 0 (map (pair_of number) (take i c.args.messages.now)) ws (map number (take i c.args.challenges.now)) in
+    let more = round_line i (pair_of number m) (slice_get ws i) (number r) in
     let low : i < length c.args.messages.now = omega (arith, c.loop-i-test.true, c.min-i-end.ensures) in
     let low' : i < length c.args.challenges.now = omega (arith, c.loop-i-test.true, c.min-i-end.ensures) in
-    let line : round_line i (c.index.result ∷ c.index-in-loop-i.result ∷ []) c.index-challenge.result ≡ more =
-    cc (c.index.ensures, c.index-in-loop-i.ensures, c.index-challenge.ensures) in
+    let line : round_line i (c.index.result ∷ c.index-in-loop-i.result ∷ []) c.number_at.result c.index-challenge.result ≡ more =
+    cc (c.index.ensures, c.index-in-loop-i.ensures, c.number_at.ensures, c.index-challenge.ensures) in
     let pushed : string_bytes c.push_round.new.text ≡ string_bytes c.loop-i.text ++ more =
     c.in_ok-push_round.ensures ∙ ap (λ t. string_bytes c.loop-i.text ++ t) line in
     let before : string_bytes c.push_round.new.text ≡ (start ++ done) ++ more = pushed ∙ ap (λ t. t ++ more) c.loop-i.invariant in
-    let lines : round_lines 0 (map (pair_of number) (take (i + 1) c.args.messages.now)) (map number (take (i + 1) c.args.challenges.now)) ≡ done ++ more =
-    round_lines-more (pair_of number) number c.args.messages.now c.args.challenges.now i m r low low' c.index-messages-i.is c.index-challenges-i.is in
+    let lines : round_lines 0 (map (pair_of number) (take (i + 1) c.args.messages.now)) ws (map number (take (i + 1) c.args.challenges.now)) ≡ done ++ more =
+    round_lines-more (pair_of number) number ws c.args.messages.now c.args.challenges.now i m r low low' c.index-messages-i.is c.index-challenges-i.is in
     before ∙ append_assoc start done more ∙ ap (λ t. start ++ t) (sym lines)
 
 pub returns : goal.returns
@@ -29,4 +31,4 @@ returns g c =
     let number = g.F.Field.number in
     c.loop-i.invariant
     ∙ ap (λ t. string_bytes c.args.text.now ++ t)
-    (round_lines-all (pair_of number) number 0 c.loop-i.i c.args.messages.now c.args.challenges.now (omega (arith, c.loop-i-test.false, c.min-i-end.ensures)))
+    (round_lines-all (pair_of number) number 0 c.loop-i.i (map number c.args.witnesses.now) c.args.messages.now c.args.challenges.now (omega (arith, c.loop-i-test.false, c.min-i-end.ensures)))
