@@ -45,7 +45,7 @@ problem_in base number embedding job = record {
   order = order_of job.order;
   variables = constraint_arity job.constraint;
   table = λ b. embedding (entries base job.table.items b);
-  statements = constraint_statements number job.constraint;
+  statements = constraint_statements (λ x. embedding (base x)) number job.constraint;
   batching = constraint_challenge number job.constraint;
   initial = constraint_power job.constraint;
 }

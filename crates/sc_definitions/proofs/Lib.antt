@@ -9,6 +9,9 @@ pub mod PlacedLaws
 pub mod MessageLaws
 pub mod RoundLaws
 pub mod StatementLaws
+pub mod SuccessorLaws
+pub mod ValueLaws
+pub mod BlockLaws
 pub mod LoopLaws
 pub mod BuiltLaws
 pub mod PlayedLaws

@@ -1,6 +1,7 @@
 pub mod Ring
 pub mod Residues
 pub mod Tables
+pub mod Shifts
 pub mod Polynomials
 pub mod Rounds
 pub mod Messages

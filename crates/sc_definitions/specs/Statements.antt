@@ -1,5 +1,5 @@
 -- Statements on a table, their weights by rows, and the batch of several statements.
-use Rattle.std.specs.Prelude.{◌≡◌, ℕ, suc, ◌+◌, ◌/◌, ◌%◌, ◌^◌, ◌==◌, Bool, List, [], ◌∷◌, length, map, nat_lt, if◌then◌else◌, Option, Some, None}
+use Rattle.std.specs.Prelude.{◌≡◌, ℕ, suc, ◌+◌, ◌-◌, ◌/◌, ◌%◌, ◌^◌, ◌==◌, Bool, List, [], ◌∷◌, length, map, nat_lt, if◌then◌else◌, Option, Some, None}
 use Rattle.sc_definitions.specs.declared.false_claim.FalseClaim.{FalseClaim}
 use Rattle.sc_definitions.specs.Ring.{Ops, plus, times, power}
 use Rattle.sc_definitions.specs.Tables.{Order, prefix, suffix, sum_below, weight, monomial, inner}
@@ -28,6 +28,17 @@ next_row n b = if nat_lt (b + 1) (2 ^ n) then b + 1 else b
 -- the successor weight of a point at a row: the equality weights of all rows whose next is that row, in sum
 unfoldable pub successor_weight : Ops → List ℕ → ℕ → ℕ
 successor_weight o zs x = sum_below o (2 ^ length zs) (λ b. if next_row (length zs) b == x then weight o zs b else 0)
+
+-- The three sums that make the successor's value at a second point, of one length with the first: that of the last row and row 0;
+-- those of each row but the last and the row after it, in sum; and that of the last row and itself.
+unfoldable pub next_carry : Ops → List ℕ → List ℕ → ℕ
+next_carry o zs xs = times o (weight o zs (2 ^ length zs - 1)) (weight o xs 0)
+
+unfoldable pub next_done : Ops → List ℕ → List ℕ → ℕ
+next_done o zs xs = sum_below o (2 ^ length zs - 1) (λ b. times o (weight o zs b) (weight o xs (b + 1)))
+
+unfoldable pub next_omega : Ops → List ℕ → List ℕ → ℕ
+next_omega o zs xs = times o (weight o zs (2 ^ length zs - 1)) (weight o xs (2 ^ length zs - 1))
 
 -- the successor weight in a selector's slot; the selector's coordinates stand first for prefix and last for suffix
 unfoldable pub slot_weight : Order → Ops → List ℕ → List ℕ → ℕ → ℕ

@@ -1,23 +1,15 @@
 -- Powers of sums of exponents and of products, and the items of an iterator of powers.
 use Rattle.std.proofs.Common.{◌≡◌, ℕ, zero, suc, ◌+◌, ◌<◌, List, [], ◌∷◌, map, sym, ◌∙◌, ap, refl, arith}
-use Rattle.std.proofs.Math.Nat.{zero-add, suc-add}
 use Rattle.std.specs.Iterator.{Yields}
 use Rattle.sc_definitions.specs.Ring.{Ops, IsRing, times, power}
-use Rattle.sc_definitions.proofs.RingLaws.{element-small, times_comm, times_assoc, times-one}
+use Rattle.sc_definitions.proofs.RingLaws.{element-small, times_assoc, times-one}
 use Rattle.sc_definitions.proofs.Identity.{atom, ◌⊗◌, Agree, identity}
 use Rattle.sc_definitions.proofs.Power.{power-zero, element-power}
+pub use Rattle.sc_definitions.proofs.Power.{power-plus}
 use Rattle.sc_field.specs.declared.powers.Powers.{Powers}
 use Rattle.sc_field.specs.Powers.{base_of, start_of, GivesPower, ArePowers}
 
 module _ (o : Ops) (ring : IsRing o) where
-  pub power-plus : (x m n : ℕ) → power o x (m + n) ≡ times o (power o x m) (power o x n)
-  unfolding power
-  power-plus x zero n =
-      ap (power o x) (zero-add n) ∙ sym (element-power o ring x n) ∙ sym (times-one o ring (power o x n))
-      ∙ times_comm o ring (power o x n) 1
-  power-plus x (suc m) n =
-      ap (power o x) (suc-add m n) ∙ ap (times o x) (power-plus x m n) ∙ sym (times_assoc o ring x (power o x m) (power o x n))
-
   pub power-times : (x y n : ℕ) → power o (times o x y) n ≡ times o (power o x n) (power o y n)
   unfolding power Agree
   power-times x y zero = sym (times-one o ring 1 ∙ element-power o ring x 0)

@@ -33,39 +33,39 @@ pub reversed_part : {X E : Type 0} (number : X → ℕ) (result : Result (List X
 reversed_part number (Ok p) back ns is same = ap (map number) is ∙ map-reverse number back ∙ ap reverse (sym same)
 reversed_part number (Err e) back ns is same = tt
 
-module _ {F EF : Type 0} (o : Ops) (ring : IsRing o) (number : EF → ℕ) (order : Order) (rs : List ℕ) where
-  element-values : (cs : List (Constraint F EF)) → element o (constraints_value o number order rs cs) ≡ constraints_value o number order rs cs
+module _ {F EF : Type 0} (o : Ops) (ring : IsRing o) (of : F → ℕ) (number : EF → ℕ) (order : Order) (rs : List ℕ) where
+  element-values : (cs : List (Constraint F EF)) → element o (constraints_value o of number order rs cs) ≡ constraints_value o of number order rs cs
   element-values [] = element-zero o ring
   element-values (c ∷ cs) = element-plus o ring _ _
 
   pub value_at : (c : Constraint F EF) (k v : ℕ) (zs : List ℕ) →
-      v ≡ value o (batched_weight o (constraint_challenge number c) (constraint_power c) (constraint_statements number c)) zs →
-      zs ≡ point_of order (last_of k rs) → k ≡ constraint_arity c → v ≡ constraint_value o number order rs c
+      v ≡ value o (batched_weight o (constraint_challenge number c) (constraint_power c) (constraint_statements of number c)) zs →
+      zs ≡ point_of order (last_of k rs) → k ≡ constraint_arity c → v ≡ constraint_value o of number order rs c
   value_at c k v zs is point size =
-      let weights = batched_weight o (constraint_challenge number c) (constraint_power c) (constraint_statements number c) in
+      let weights = batched_weight o (constraint_challenge number c) (constraint_power c) (constraint_statements of number c) in
       is ∙ ap (value o weights) (point ∙ ap (λ n. point_of order (last_of n rs)) size)
 
   -- nothing is summed yet
-  pub values-none : (cs all : List (Constraint F EF)) (sum : ℕ) → cs ≡ all → sum ≡ 0 → plus o sum (constraints_value o number order rs cs) ≡ constraints_value o number order rs all
+  pub values-none : (cs all : List (Constraint F EF)) (sum : ℕ) → cs ≡ all → sum ≡ 0 → plus o sum (constraints_value o of number order rs cs) ≡ constraints_value o of number order rs all
   values-none cs all sum same none =
-      let v = constraints_value o number order rs cs in
-      ap (λ z. plus o z v) none ∙ plus_comm o ring 0 v ∙ plus-zero o ring v ∙ element-values cs ∙ ap (constraints_value o number order rs) same
+      let v = constraints_value o of number order rs cs in
+      ap (λ z. plus o z v) none ∙ plus_comm o ring 0 v ∙ plus-zero o ring v ∙ element-values cs ∙ ap (constraints_value o of number order rs) same
 
   -- one constraint more
   pub values-more : (cs all : List (Constraint F EF)) (i : ℕ) (c : Constraint F EF) (sum sum' v : ℕ) →
-      plus o sum (constraints_value o number order rs (drop i cs)) ≡ constraints_value o number order rs all → i < length cs → c ≡ get_or cs i c →
-      v ≡ constraint_value o number order rs c → sum' ≡ plus o sum v →
-      plus o sum' (constraints_value o number order rs (drop (i + 1) cs)) ≡ constraints_value o number order rs all
+      plus o sum (constraints_value o of number order rs (drop i cs)) ≡ constraints_value o of number order rs all → i < length cs → c ≡ get_or cs i c →
+      v ≡ constraint_value o of number order rs c → sum' ≡ plus o sum v →
+      plus o sum' (constraints_value o of number order rs (drop (i + 1) cs)) ≡ constraints_value o of number order rs all
   values-more cs all i c sum sum' v so_far low at value_is sum_is =
-      let rest = constraints_value o number order rs (drop (i + 1) cs) in
+      let rest = constraints_value o of number order rs (drop (i + 1) cs) in
       let split : drop i cs ≡ c ∷ drop (i + 1) cs =
       drop-cons cs i c low ∙ ap (λ y. y ∷ drop (suc i) cs) (sym at) ∙ ap (λ k. c ∷ drop k cs) (sym (add-one i)) in
       ap (λ s. plus o s rest) (sum_is ∙ ap (plus o sum) value_is)
-      ∙ plus_assoc o ring sum (constraint_value o number order rs c) rest
-      ∙ ap (λ l. plus o sum (constraints_value o number order rs l)) (sym split) ∙ so_far
+      ∙ plus_assoc o ring sum (constraint_value o of number order rs c) rest
+      ∙ ap (λ l. plus o sum (constraints_value o of number order rs l)) (sym split) ∙ so_far
 
   -- all are summed
-  pub values-end : (cs all : List (Constraint F EF)) (i sum : ℕ) → plus o sum (constraints_value o number order rs (drop i cs)) ≡ constraints_value o number order rs all →
-      length cs ≤ i → sum < o.size → sum ≡ constraints_value o number order rs all
+  pub values-end : (cs all : List (Constraint F EF)) (i sum : ℕ) → plus o sum (constraints_value o of number order rs (drop i cs)) ≡ constraints_value o of number order rs all →
+      length cs ≤ i → sum < o.size → sum ≡ constraints_value o of number order rs all
   values-end cs all i sum so_far past small =
-      sym (ap (λ l. plus o sum (constraints_value o number order rs l)) (drop_all i cs past) ∙ plus-zero o ring sum ∙ element-small o ring sum small) ∙ so_far
+      sym (ap (λ l. plus o sum (constraints_value o of number order rs l)) (drop_all i cs past) ∙ plus-zero o ring sum ∙ element-small o ring sum small) ∙ so_far

@@ -16,9 +16,9 @@ ok_or_err (Ok x) a b c f g = f a
 ok_or_err (Err e) a b c f g = g b c
 
 -- a claim that is known, with a constraint taken in
-pub claim_begun : {F EF : Type 0} (o : Ops) (number : EF → ℕ) (constraint : Option (Constraint F EF)) (known claim taken : ℕ) → known ≡ claim →
-    taken ≡ claim_with o number constraint known → taken ≡ claim_with o number constraint claim
-claim_begun o number constraint known claim taken same is = is ∙ ap (claim_with o number constraint) same
+pub claim_begun : {F EF : Type 0} (o : Ops) (of : F → ℕ) (number : EF → ℕ) (constraint : Option (Constraint F EF)) (known claim taken : ℕ) → known ≡ claim →
+    taken ≡ claim_with o of number constraint known → taken ≡ claim_with o of number constraint claim
+claim_begun o of number constraint known claim taken same is = is ∙ ap (claim_with o of number constraint) same
 
 module _ (o : Ops) (ring : IsRing o) where
   -- the sum over the rows with weights in two parts

@@ -39,14 +39,14 @@ pub record FailsBatch (order : Order) (o : Ops) (R : Rules) (E : Extension) (bit
   pub ends : EndsRound order o R E bits m size f' w' before h'
 
 -- the weights with a constraint taken in, if there is one
-abbrev pub weights_with : {F EF : Type 0} → Ops → (EF → ℕ) → Option (Constraint F EF) → (ℕ → ℕ) → ℕ → ℕ
-weights_with o number None w b = w b
-weights_with o number (Some c) w b = plus o (w b) (batched_weight o (constraint_challenge number c) (constraint_power c) (constraint_statements number c) b)
+abbrev pub weights_with : {F EF : Type 0} → Ops → (F → ℕ) → (EF → ℕ) → Option (Constraint F EF) → (ℕ → ℕ) → ℕ → ℕ
+weights_with o of number None w b = w b
+weights_with o of number (Some c) w b = plus o (w b) (batched_weight o (constraint_challenge number c) (constraint_power c) (constraint_statements of number c) b)
 
 -- the claim with a constraint taken in, if there is one
-abbrev pub claim_with : {F EF : Type 0} → Ops → (EF → ℕ) → Option (Constraint F EF) → ℕ → ℕ
-claim_with o number None claim = claim
-claim_with o number (Some c) claim = plus o claim (batched_claim o (constraint_challenge number c) (constraint_power c) (constraint_statements number c))
+abbrev pub claim_with : {F EF : Type 0} → Ops → (F → ℕ) → (EF → ℕ) → Option (Constraint F EF) → ℕ → ℕ
+claim_with o of number None claim = claim
+claim_with o of number (Some c) claim = plus o claim (batched_claim o (constraint_challenge number c) (constraint_power c) (constraint_statements of number c))
 
 -- A batch that was broken off before its first round: tables, claim, history and data are as before, but that the constraint can be taken in.
 pub record IsUnplayed (n : ℕ) (f w w₁ : ℕ → ℕ) (claim claim₁ : ℕ) (h : List Event) (messages : List (List ℕ)) (witnesses : List ℕ)

@@ -11,11 +11,11 @@ abbrev pub last_of : ℕ → List ℕ → List ℕ
 last_of k rs = drop (length rs - k) rs
 
 -- the value of a constraint's batched weights at the point that the last challenges make, as many as it has variables
-abbrev pub constraint_value : {F EF : Type 0} → Ops → (EF → ℕ) → Order → List ℕ → Constraint F EF → ℕ
-constraint_value o number order rs c =
-    value o (batched_weight o (constraint_challenge number c) (constraint_power c) (constraint_statements number c)) (point_of order (last_of (constraint_arity c) rs))
+abbrev pub constraint_value : {F EF : Type 0} → Ops → (F → ℕ) → (EF → ℕ) → Order → List ℕ → Constraint F EF → ℕ
+constraint_value o of number order rs c =
+    value o (batched_weight o (constraint_challenge number c) (constraint_power c) (constraint_statements of number c)) (point_of order (last_of (constraint_arity c) rs))
 
 -- the sum of these values over constraints
-abbrev pub constraints_value : {F EF : Type 0} → Ops → (EF → ℕ) → Order → List ℕ → List (Constraint F EF) → ℕ
-constraints_value o number order rs [] = 0
-constraints_value o number order rs (c ∷ cs) = plus o (constraint_value o number order rs c) (constraints_value o number order rs cs)
+abbrev pub constraints_value : {F EF : Type 0} → Ops → (F → ℕ) → (EF → ℕ) → Order → List ℕ → List (Constraint F EF) → ℕ
+constraints_value o of number order rs [] = 0
+constraints_value o of number order rs (c ∷ cs) = plus o (constraint_value o of number order rs c) (constraints_value o of number order rs cs)

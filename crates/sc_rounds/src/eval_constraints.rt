@@ -27,7 +27,7 @@ pub trait EvalConstraints {
         challenge: &Point<EF>,
     ) -> Result<EF, NoMemory>
         requires { All (λ c. constraint_arity c ≤ length challenge.now) constraints.now }
-        ensures { IfOk result (λ x. EF.number x ≡ constraints_value EF.ops EF.number (order self) (map EF.number challenge.now) constraints.now) };
+        ensures { IfOk result (λ x. EF.number x ≡ constraints_value EF.ops (λ x. EF.embedding (F.number x)) EF.number (order self) (map EF.number challenge.now) constraints.now) };
 }
 
 impl EvalConstraints for VariableOrder {

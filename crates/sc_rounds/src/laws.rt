@@ -53,7 +53,7 @@ pub fn batch_in_step<F: Field, EF: ExtensionField<F>, C: Challenger<F>>(
 ) -> Result<(Point<EF>, Point<EF>, EF), SumcheckError>
     requires variables { folding_factor ≤ variables_in prover.old.poly }
     requires difficulty { pow_bits ≤ (C.rules prover_challenger.old).max_bits }
-    requires constraint { IsTrueIfSome EF.ops EF.number (variables_in prover.old.poly) (evals_in EF.number prover.old.poly) constraint }
+    requires constraint { IsTrueIfSome EF.ops (λ x. EF.embedding (F.number x)) EF.number (variables_in prover.old.poly) (evals_in EF.number prover.old.poly) constraint }
     requires rules { C.rules verifier_challenger.old ≡ C.rules prover_challenger.old }
     requires history { C.history verifier_challenger.old ≡ C.history prover_challenger.old }
     requires messages { messages_in EF.number sumcheck_data.old ≡ [] }
@@ -62,7 +62,7 @@ pub fn batch_in_step<F: Field, EF: ExtensionField<F>, C: Challenger<F>>(
     ensures histories { OnOk result (C.history verifier_challenger.new ≡ C.history prover_challenger.new) }
     ensures claims { IfOk result (λ played. EF.number played.2 ≡ EF.number prover.new.sum) }
     ensures batch { IfOk result (λ played. PlaysBatch (order_in prover.old.poly) EF.ops (C.rules prover_challenger.old) EF.extension pow_bits (variables_in prover.old.poly)
-        (evals_in EF.number prover.old.poly) (weights_with EF.ops EF.number constraint (weights_in EF.number prover.old.poly)) (claim_with EF.ops EF.number constraint (EF.number prover.old.sum))
+        (evals_in EF.number prover.old.poly) (weights_with EF.ops (λ x. EF.embedding (F.number x)) EF.number constraint (weights_in EF.number prover.old.poly)) (claim_with EF.ops (λ x. EF.embedding (F.number x)) EF.number constraint (EF.number prover.old.sum))
         (C.history prover_challenger.old ++ words (quadratic_seed EF.DEGREE evaluation pow_bits folding_factor)) (map EF.number played.0) (variables_in prover.new.poly)
         (evals_in EF.number prover.new.poly) (weights_in EF.number prover.new.poly) (EF.number prover.new.sum) (C.history prover_challenger.new)
         (messages_in EF.number sumcheck_data.old) (witnesses_in F.number sumcheck_data.old) (messages_in EF.number sumcheck_data.new) (witnesses_in F.number sumcheck_data.new)) }
@@ -98,7 +98,7 @@ fn with_claim<F: Field, EF: ExtensionField<F>>(
     mut claim: EF,
     constraint: &Option<Constraint<F, EF>>,
 ) -> EF
-    ensures { EF.number result ≡ claim_with EF.ops EF.number constraint.now (EF.number claim) }
+    ensures { EF.number result ≡ claim_with EF.ops (λ x. EF.embedding (F.number x)) EF.number constraint.now (EF.number claim) }
 {
     if let Some(constraint) = constraint {
         constraint.combine_evals(&mut claim);

@@ -116,7 +116,7 @@ impl<F: Field, EF: ExtensionField<F>> ProductPolynomial<F, EF> {
         ensures order { order_in self.new ≡ order_in self.old }
         ensures evals { evals_in EF.number self.new ≡ evals_in EF.number self.old }
         ensures ok { OnOk result (AddsBatch EF.ops (variables_in self.old) (constraint_challenge EF.number constraint.now) (constraint_power constraint.now)
-            (constraint_statements EF.number constraint.now)
+            (constraint_statements (λ x. EF.embedding (F.number x)) EF.number constraint.now)
             (weights_in EF.number self.old) (weights_in EF.number self.new) (EF.number sum.old) (EF.number sum.new)) }
         ensures refused { OnErr result (self.new ≡ self.old) }
         ensures refused_sum { OnErr result (sum.new ≡ sum.old) }

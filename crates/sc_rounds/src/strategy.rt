@@ -120,7 +120,7 @@ impl<F: Field, EF: ExtensionField<F>> SumcheckProver<F, EF> {
         c: &Constraint<F, EF>,
     ) -> Result<bool, NoMemory>
         ensures kept { self.new ≡ self.old }
-        ensures told { IfOk result (λ told. IsTrue told ↔ IsTrueConstraint EF.ops EF.number (variables_in self.old.poly) (evals_in EF.number self.old.poly) c.now) }
+        ensures told { IfOk result (λ told. IsTrue told ↔ IsTrueConstraint EF.ops (λ x. EF.embedding (F.number x)) EF.number (variables_in self.old.poly) (evals_in EF.number self.old.poly) c.now) }
     {
         if c.num_variables() != self.poly.num_variables() {
             return Ok(false);
@@ -185,30 +185,30 @@ impl<F: Field, EF: ExtensionField<F>> SumcheckProver<F, EF> {
     ) -> Result<Point<EF>, SumcheckError>
         requires variables { folding_factor ≤ variables_in self.old.poly }
         requires difficulty { pow_bits ≤ (C.rules challenger.old).max_bits }
-        requires constraint { IsTrueIfSome EF.ops EF.number (variables_in self.old.poly) (evals_in EF.number self.old.poly) constraint }
+        requires constraint { IsTrueIfSome EF.ops (λ x. EF.embedding (F.number x)) EF.number (variables_in self.old.poly) (evals_in EF.number self.old.poly) constraint }
         ensures rules { C.rules challenger.new ≡ C.rules challenger.old }
         ensures order { order_in self.new.poly ≡ order_in self.old.poly }
         ensures fewer { OnOk result (variables_in self.new.poly + folding_factor ≡ variables_in self.old.poly) }
         ensures batch { IfOk result (λ point. PlaysBatch (order_in self.old.poly) EF.ops (C.rules challenger.old) EF.extension pow_bits (variables_in self.old.poly)
-            (evals_in EF.number self.old.poly) (weights_with EF.ops EF.number constraint (weights_in EF.number self.old.poly)) (claim_with EF.ops EF.number constraint (EF.number self.old.sum))
+            (evals_in EF.number self.old.poly) (weights_with EF.ops (λ x. EF.embedding (F.number x)) EF.number constraint (weights_in EF.number self.old.poly)) (claim_with EF.ops (λ x. EF.embedding (F.number x)) EF.number constraint (EF.number self.old.sum))
             (C.history challenger.old ++ words (quadratic_seed EF.DEGREE evaluation pow_bits folding_factor)) (map EF.number point) (variables_in self.new.poly)
             (evals_in EF.number self.new.poly) (weights_in EF.number self.new.poly) (EF.number self.new.sum) (C.history challenger.new)
             (messages_in EF.number sumcheck_data.old) (witnesses_in F.number sumcheck_data.old) (messages_in EF.number sumcheck_data.new) (witnesses_in F.number sumcheck_data.new)) }
         ensures stopped { (i : ℕ) → result ≡ Err (SumcheckError.NoWitness i) → (i < folding_factor) × (variables_in self.new.poly + i ≡ variables_in self.old.poly) }
         ensures no_witness { (i m : ℕ) → result ≡ Err (SumcheckError.NoWitness i) → variables_in self.new.poly ≡ suc m
             → FailsBatch (order_in self.old.poly) EF.ops (C.rules challenger.old) EF.extension pow_bits (variables_in self.old.poly)
-            (evals_in EF.number self.old.poly) (weights_with EF.ops EF.number constraint (weights_in EF.number self.old.poly)) (claim_with EF.ops EF.number constraint (EF.number self.old.sum))
+            (evals_in EF.number self.old.poly) (weights_with EF.ops (λ x. EF.embedding (F.number x)) EF.number constraint (weights_in EF.number self.old.poly)) (claim_with EF.ops (λ x. EF.embedding (F.number x)) EF.number constraint (EF.number self.old.sum))
             (C.history challenger.old ++ words (quadratic_seed EF.DEGREE evaluation pow_bits folding_factor)) F.ops.size m
             (evals_in EF.number self.new.poly) (weights_in EF.number self.new.poly) (EF.number self.new.sum) (C.history challenger.new)
             (messages_in EF.number sumcheck_data.old) (witnesses_in F.number sumcheck_data.old) (messages_in EF.number sumcheck_data.new) (witnesses_in F.number sumcheck_data.new) }
         ensures no_memory { result ≡ Err SumcheckError.NoMemory
-            → IsUnplayed (variables_in self.old.poly) (evals_in EF.number self.old.poly) (weights_in EF.number self.old.poly) (weights_with EF.ops EF.number constraint (weights_in EF.number self.old.poly))
-            (EF.number self.old.sum) (claim_with EF.ops EF.number constraint (EF.number self.old.sum)) (C.history challenger.old)
+            → IsUnplayed (variables_in self.old.poly) (evals_in EF.number self.old.poly) (weights_in EF.number self.old.poly) (weights_with EF.ops (λ x. EF.embedding (F.number x)) EF.number constraint (weights_in EF.number self.old.poly))
+            (EF.number self.old.sum) (claim_with EF.ops (λ x. EF.embedding (F.number x)) EF.number constraint (EF.number self.old.sum)) (C.history challenger.old)
             (messages_in EF.number sumcheck_data.old) (witnesses_in F.number sumcheck_data.old)
             (variables_in self.new.poly) (evals_in EF.number self.new.poly) (weights_in EF.number self.new.poly) (EF.number self.new.sum) (C.history challenger.new)
             (messages_in EF.number sumcheck_data.new) (witnesses_in F.number sumcheck_data.new)
             ⊎ StopsBatch (order_in self.old.poly) EF.ops (C.rules challenger.old) EF.extension pow_bits (variables_in self.old.poly)
-            (evals_in EF.number self.old.poly) (weights_with EF.ops EF.number constraint (weights_in EF.number self.old.poly)) (claim_with EF.ops EF.number constraint (EF.number self.old.sum))
+            (evals_in EF.number self.old.poly) (weights_with EF.ops (λ x. EF.embedding (F.number x)) EF.number constraint (weights_in EF.number self.old.poly)) (claim_with EF.ops (λ x. EF.embedding (F.number x)) EF.number constraint (EF.number self.old.sum))
             (C.history challenger.old ++ words (quadratic_seed EF.DEGREE evaluation pow_bits folding_factor)) (variables_in self.new.poly)
             (evals_in EF.number self.new.poly) (weights_in EF.number self.new.poly) (EF.number self.new.sum) (C.history challenger.new)
             (messages_in EF.number sumcheck_data.old) (witnesses_in F.number sumcheck_data.old) (messages_in EF.number sumcheck_data.new) (witnesses_in F.number sumcheck_data.new) }
@@ -241,14 +241,14 @@ impl<F: Field, EF: ExtensionField<F>> SumcheckProver<F, EF> {
 
     // Adds the batch of a true constraint to the weights and to the claim. A refusal leaves both as they were.
     fn take_in(&mut self, alloc: Global, constraint: &Constraint<F, EF>) -> Result<(), NoMemory>
-        requires { IsTrueConstraint EF.ops EF.number (variables_in self.old.poly) (evals_in EF.number self.old.poly) constraint.now }
+        requires { IsTrueConstraint EF.ops (λ x. EF.embedding (F.number x)) EF.number (variables_in self.old.poly) (evals_in EF.number self.old.poly) constraint.now }
         ensures variables { variables_in self.new.poly ≡ variables_in self.old.poly }
         ensures order { order_in self.new.poly ≡ order_in self.old.poly }
         ensures evals { evals_in EF.number self.new.poly ≡ evals_in EF.number self.old.poly }
         ensures weights { OnOk result ((b : ℕ) → b < 2 ^ variables_in self.old.poly → weights_in EF.number self.new.poly b
-            ≡ plus EF.ops (weights_in EF.number self.old.poly b) (batched_weight EF.ops (constraint_challenge EF.number constraint.now) (constraint_power constraint.now) (constraint_statements EF.number constraint.now) b)) }
+            ≡ plus EF.ops (weights_in EF.number self.old.poly b) (batched_weight EF.ops (constraint_challenge EF.number constraint.now) (constraint_power constraint.now) (constraint_statements (λ x. EF.embedding (F.number x)) EF.number constraint.now) b)) }
         ensures claim { OnOk result (EF.number self.new.sum
-            ≡ plus EF.ops (EF.number self.old.sum) (batched_claim EF.ops (constraint_challenge EF.number constraint.now) (constraint_power constraint.now) (constraint_statements EF.number constraint.now))) }
+            ≡ plus EF.ops (EF.number self.old.sum) (batched_claim EF.ops (constraint_challenge EF.number constraint.now) (constraint_power constraint.now) (constraint_statements (λ x. EF.embedding (F.number x)) EF.number constraint.now))) }
         ensures refused { OnErr result (self.new.poly ≡ self.old.poly) }
         ensures refused_sum { OnErr result (self.new.sum ≡ self.old.sum) }
     {

@@ -1,13 +1,10 @@
 -- Statements that are taken into a sum and a table, one after the other.
-use Rattle.std.proofs.Common.{◌≡◌, ℕ, zero, suc, ◌+◌, ◌^◌, ◌<◌, List, [], ◌∷◌, ◌++◌, length, All, get_or, map, take, sym, ◌∙◌, ap, refl, subst, arith}
-use Rattle.std.proofs.lemmas.List.{length-append}
+use Rattle.std.proofs.Common.{◌≡◌, ℕ, suc, ◌+◌, ◌^◌, ◌<◌, ◌≤◌, List, [], ◌∷◌, ◌++◌, length, take, slice_index, sym, ◌∙◌, ap, refl, subst, arith}
+use Rattle.std.proofs.lemmas.List.{length-append, take_all}
 use Rattle.sc_definitions.specs.Ring.{Ops, IsRing, plus, times, power}
-use Rattle.sc_definitions.specs.Tables.{entries, weight}
-use Rattle.sc_definitions.specs.Statements.{equality, Statement, claims, weight_of, weights_at, claimed_values, batched_weight, batched_claim}
-use Rattle.sc_statements.specs.declared.statement.eq.EvaluatedConstraint.{EvaluatedConstraint}
-use Rattle.sc_statements.specs.EqStatements.{evaluation}
+use Rattle.sc_definitions.specs.Statements.{Statement, weight_of, weights_at, claimed_values, batched_weight, batched_claim}
 use Rattle.sc_statements.specs.Batches.{AddsBatch, WritesBatch}
-use Rattle.sc_statements.proofs.Evaluations.{arity-at, evaluations-more}
+use Rattle.sc_statements.proofs.Places.{at-place, taken-at, read-at}
 use Rattle.sc_definitions.proofs.RingLaws.{element-small, plus-zero, plus_assoc, plus_comm, times_comm}
 use Rattle.sc_definitions.proofs.StatementLaws.{element-powers_sum, batched-none, batched_weight-append, batched_claim-append}
 
@@ -70,49 +67,51 @@ IsWeighted-none o ring n c p old table factor low same is =
       next = is ∙ ap (power o c) none;
     }
 
-pub IsWeighted-more : (o : Ops) → IsRing o → (n c p : ℕ) (ss longer : List Statement) (zs : List ℕ) (v : ℕ) (old table table' : ℕ → ℕ) (factor factor' : ℕ) →
-    longer ≡ ss ++ claims (equality zs) v ∷ [] → IsWeighted o n c p ss old table factor →
-    ((b : ℕ) → b < 2 ^ n → table' b ≡ plus o (table b) (times o factor (weight o zs b))) → factor' ≡ times o factor c →
+pub IsWeighted-more : (o : Ops) → IsRing o → (n c p : ℕ) (ss longer : List Statement) (s : Statement) (old table table' : ℕ → ℕ) (factor factor' : ℕ) →
+    longer ≡ ss ++ s ∷ [] → IsWeighted o n c p ss old table factor →
+    ((b : ℕ) → b < 2 ^ n → table' b ≡ plus o (table b) (times o factor (weight_of o s.kind b))) → factor' ≡ times o factor c →
     IsWeighted o n c p longer old table' factor'
-unfolding weight_of
-IsWeighted-more o ring n c p ss longer zs v old table table' factor factor' split so_far added factor_is =
-    let s = claims (equality zs) v in
+IsWeighted-more o ring n c p ss longer s old table table' factor factor' split so_far added factor_is =
+    let w = weight_of o s.kind in
     let P : List Statement → Type 0 = λ t. IsWeighted o n c p t old table' factor' in
     subst P (sym split) (record {
-      weighted = λ b low. added b low ∙ ap (λ t. plus o t (times o factor (weight o zs b))) (so_far.weighted b low)
-          ∙ plus_assoc o ring (old b) (batched_weight o c p ss b) (times o factor (weight o zs b))
-          ∙ ap (λ k. plus o (old b) (plus o (batched_weight o c p ss b) (times o k (weight o zs b)))) so_far.next
+      weighted = λ b low. added b low ∙ ap (λ t. plus o t (times o factor (w b))) (so_far.weighted b low)
+          ∙ plus_assoc o ring (old b) (batched_weight o c p ss b) (times o factor (w b))
+          ∙ ap (λ k. plus o (old b) (plus o (batched_weight o c p ss b) (times o k (w b)))) so_far.next
           ∙ ap (plus o (old b)) (sym (batched_weight-append o ring c p ss s b));
       next = next-power o ring c p ss s factor factor' so_far.next factor_is;
     })
 
 -- ---- the loops over the statements of one group
 
-module _ {EF : Type 0} (number : EF → ℕ) (o : Ops) (ring : IsRing o) (c p : ℕ) (cs : List (EvaluatedConstraint EF)) (i : ℕ) (one : EvaluatedConstraint EF) where
-  pub sum-more : (old total total' term factor factor' : ℕ) → IsSummed o c p (map (evaluation number) (take i cs)) old total factor → i < length cs → one ≡ get_or cs i one →
-      term ≡ times o factor (number one.eval) → total' ≡ plus o total term → factor' ≡ times o factor c → IsSummed o c p (map (evaluation number) (take (i + 1) cs)) old total' factor'
-  sum-more old total total' term factor factor' so_far low at term_is total_is factor_is =
-      IsSummed-more o ring c p _ _ (evaluation number one) old total total' factor factor' (evaluations-more number cs i one low at) so_far (total_is ∙ ap (plus o total) term_is) factor_is
+module _ (o : Ops) (ring : IsRing o) (c p : ℕ) (ss : List Statement) (i : ℕ) (low : i < length ss) where
+  pub sum-more : (old total total' value factor factor' : ℕ) → IsSummed o c p (take i ss) old total factor → value ≡ slice_index (claimed_values ss) i →
+      total' ≡ plus o total (times o factor value) → factor' ≡ times o factor c → IsSummed o c p (take (i + 1) ss) old total' factor'
+  sum-more old total total' value factor factor' so_far is total_is factor_is =
+      let there = at-place ss i low in
+      IsSummed-more o ring c p (take i ss) (take (i + 1) ss) there.0 old total total' factor factor' (taken-at ss i there.0 there.1) so_far
+      (total_is ∙ ap (λ k. plus o total (times o factor k)) (is ∙ read-at (λ s. s.claimed) ss i there.0 there.1)) factor_is
 
-  pub weights-more : (n : ℕ) (all : List (EvaluatedConstraint EF)) (coords : List EF) (old table table' : ℕ → ℕ) (factor factor' : ℕ) →
-      IsWeighted o n c p (map (evaluation number) (take i cs)) old table factor → All (λ d. length d.point ≡ n) all → cs ≡ all → i < length cs → one ≡ get_or cs i one → coords ≡ one.point →
-      ((b : ℕ) → b < 2 ^ length coords → table' b ≡ plus o (table b) (times o factor (weight o (map number coords) b))) → factor' ≡ times o factor c →
-      IsWeighted o n c p (map (evaluation number) (take (i + 1) cs)) old table' factor'
-  weights-more n all coords old table table' factor factor' so_far fits same low at coords_is added factor_is =
-      let P : List EF → Type 0 = λ l. (b : ℕ) → b < 2 ^ length l → table' b ≡ plus o (table b) (times o factor (weight o (map number l) b)) in
-      let added_at : (b : ℕ) → b < 2 ^ length one.point → table' b ≡ plus o (table b) (times o factor (weight o (map number one.point) b)) = subst P coords_is added in
-      let size : 2 ^ length one.point ≡ 2 ^ n = ap (λ k. 2 ^ k) (arity-at number n cs all i one fits same low at) in
-      IsWeighted-more o ring n c p _ _ (map number one.point) (number one.eval) old table table' factor factor' (evaluations-more number cs i one low at) so_far
-      (λ b below. added_at b (omega (arith, below, size))) factor_is
+  pub weights-more : (n m : ℕ) (old table table' : ℕ → ℕ) (factor factor' : ℕ) → IsWeighted o n c p (take i ss) old table factor → m ≡ n →
+      ((b : ℕ) → b < 2 ^ m → table' b ≡ plus o (table b) (times o factor (slice_index (weights_at o ss b) i))) → factor' ≡ times o factor c →
+      IsWeighted o n c p (take (i + 1) ss) old table' factor'
+  weights-more n m old table table' factor factor' so_far arity added factor_is =
+      let there = at-place ss i low in
+      IsWeighted-more o ring n c p (take i ss) (take (i + 1) ss) there.0 old table table' factor factor' (taken-at ss i there.0 there.1) so_far
+      (λ b below. added b (subst (λ k. b < 2 ^ k) (sym arity) below) ∙ ap (λ k. plus o (table b) (times o factor k)) (read-at (λ s. weight_of o s.kind b) ss i there.0 there.1)) factor_is
+
+-- behind all statements
+module _ (o : Ops) (c p : ℕ) (ss : List Statement) (i : ℕ) (past : length ss ≤ i) where
+  pub summed-all : (old total factor : ℕ) → IsSummed o c p (take i ss) old total factor → total ≡ plus o old (batched_claim o c p ss)
+  summed-all old total factor so_far = so_far.summed ∙ ap (λ l. plus o old (batched_claim o c p l)) (take_all i ss past)
+
+  pub summed-next : (old total factor : ℕ) → IsSummed o c p (take i ss) old total factor → factor ≡ power o c (p + length ss)
+  summed-next old total factor so_far = so_far.next ∙ ap (λ l. power o c (p + length l)) (take_all i ss past)
+
+  pub weighted-all : (n : ℕ) (old table : ℕ → ℕ) (factor : ℕ) → IsWeighted o n c p (take i ss) old table factor → (b : ℕ) → b < 2 ^ n → table b ≡ plus o (old b) (batched_weight o c p ss b)
+  weighted-all n old table factor so_far b low = so_far.weighted b low ∙ ap (λ l. plus o (old b) (batched_weight o c p l b)) (take_all i ss past)
 
 -- ---- whole batches
-
--- an entry of a table is an element
-pub entry-below : {X : Type 0} (o : Ops) (number : X → ℕ) → IsRing o → ((x : X) → number x < o.size) → (xs : List X) (b : ℕ) → entries number xs b < o.size
-unfolding entries
-entry-below o number ring low [] b = omega (arith, ring.at_least_two)
-entry-below o number ring low (x ∷ xs) zero = low x
-entry-below o number ring low (x ∷ xs) (suc b) = entry-below o number ring low xs b
 
 -- no statement adds nothing
 pub AddsBatch-none : (o : Ops) → IsRing o → (n c p : ℕ) (ss : List Statement) (table : ℕ → ℕ) (total : ℕ) → ss ≡ [] → ((b : ℕ) → table b < o.size) → total < o.size →

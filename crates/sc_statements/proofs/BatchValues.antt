@@ -1,17 +1,15 @@
 -- The values of batched weights, as a table, at a point.
-use Rattle.std.proofs.Common.{◌≡◌, ℕ, suc, ◌+◌, ◌^◌, ◌<◌, ◌≤◌, List, [], ◌∷◌, ◌++◌, length, All, get_or, map, take, sym, ◌∙◌, ap, refl}
+use Rattle.std.proofs.Common.{◌≡◌, ℕ, suc, ◌+◌, ◌^◌, ◌<◌, ◌≤◌, List, [], ◌∷◌, ◌++◌, length, get_or, map, take, slice_index, sym, ◌∙◌, ap, refl}
 use Rattle.std.specs.List.{flat_map}
 use Rattle.std.proofs.lemmas.List.{length-map, map-append, take_all}
 use Rattle.sc_definitions.specs.Ring.{Ops, IsRing, plus, times, power}
-use Rattle.sc_definitions.specs.Tables.{sum_below, weight, eq_product, value}
+use Rattle.sc_definitions.specs.Tables.{sum_below, weight, value}
 use Rattle.sc_definitions.specs.Statements.{Statement, claims, weight_of, weights_at, claimed_values, powers_sum, batched_weight, batched_claim}
 use Rattle.sc_definitions.proofs.Sums.{sum-same, sum-plus, times-sum}
 use Rattle.sc_definitions.proofs.Identity.{atom, nought, ◌⊕◌, ◌⊗◌, Agree, identity}
 use Rattle.sc_definitions.proofs.BuildLaws.{sum-zeros}
-use Rattle.sc_statements.specs.declared.statement.eq.EvaluatedConstraint.{EvaluatedConstraint}
-use Rattle.sc_statements.specs.EqStatements.{evaluation}
-use Rattle.sc_statements.proofs.Evaluations.{arity-at, evaluations-more}
-use Rattle.sc_statements.proofs.WeightValues.{value-weight_of}
+use Rattle.sc_statements.specs.Weights.{weight_values}
+use Rattle.sc_statements.proofs.Places.{at-place, taken-at, read-at}
 use Rattle.sc_statements.proofs.BatchSteps.{IsSummed, IsSummed-more, claim-alone}
 use Rattle.sc_statements.proofs.GroupSteps.{sum-group}
 
@@ -47,39 +45,25 @@ module _ (o : Ops) (ring : IsRing o) where
 
 -- ---- the loop over the statements of one group
 
-module _ {EF : Type 0} (number : EF → ℕ) (o : Ops) (ring : IsRing o) (c p : ℕ) (row : List EF) (cs all : List (EvaluatedConstraint EF)) (i : ℕ) where
+module _ (o : Ops) (ring : IsRing o) (c p : ℕ) (zs : List ℕ) (ss : List Statement) (i : ℕ) where
   -- the weight of one statement more
-  pub value-more : (n : ℕ) (one : EvaluatedConstraint EF) (coords coords_at : List EF) (old total total' weight_there term factor factor' : ℕ) →
-      IsSummed o c p (map (valued o (map number row)) (map (evaluation number) (take i cs))) old total factor →
-      All (λ d. length d.point ≡ n) all → cs ≡ all → i < length cs → one ≡ get_or cs i one → length row ≡ n → coords ≡ one.point → coords_at ≡ row →
-      weight_there ≡ eq_product o (map number coords) (map number coords_at) → term ≡ times o factor weight_there → total' ≡ plus o total term → factor' ≡ times o factor c →
-      IsSummed o c p (map (valued o (map number row)) (map (evaluation number) (take (i + 1) cs))) old total' factor'
-  value-more n one coords coords_at old total total' weight_there term factor factor' so_far fits same low at size first second weight_is term_is total_is factor_is =
-      let zs = map number row in
-      let s = valued o zs (evaluation number one) in
-      let lengths : length (map number one.point) ≡ length zs =
-      length-map one.point number ∙ arity-at number n cs all i one fits same low at ∙ sym size ∙ sym (length-map row number) in
-      let is : weight_there ≡ s.claimed =
-      weight_is ∙ ap (λ l. eq_product o (map number l) (map number coords_at)) first ∙ ap (λ l. eq_product o (map number one.point) (map number l)) second
-      ∙ sym (value-weight_of o ring (map number one.point) zs lengths) in
-      IsSummed-more o ring c p _ _ s old total total' factor factor'
-      (ap (map (valued o zs)) (evaluations-more number cs i one low at) ∙ map-append (valued o zs) (map (evaluation number) (take i cs)) (evaluation number one ∷ []))
-      so_far (total_is ∙ ap (plus o total) (term_is ∙ ap (times o factor) is)) factor_is
+  pub value-more : i < length ss → (old total total' weight_there factor factor' : ℕ) → IsSummed o c p (map (valued o zs) (take i ss)) old total factor →
+      weight_there ≡ slice_index (weight_values o zs ss) i → total' ≡ plus o total (times o factor weight_there) → factor' ≡ times o factor c →
+      IsSummed o c p (map (valued o zs) (take (i + 1) ss)) old total' factor'
+  value-more low old total total' weight_there factor factor' so_far is total_is factor_is =
+      let there = at-place ss i low in
+      IsSummed-more o ring c p (map (valued o zs) (take i ss)) (map (valued o zs) (take (i + 1) ss)) (valued o zs there.0) old total total' factor factor'
+      (ap (map (valued o zs)) (taken-at ss i there.0 there.1) ∙ map-append (valued o zs) (take i ss) (there.0 ∷ []))
+      so_far (total_is ∙ ap (λ k. plus o total (times o factor k)) (is ∙ read-at (λ s. value o (weight_of o s.kind) zs) ss i there.0 there.1)) factor_is
 
   -- all statements of the group
-  pub value-end : (old total factor : ℕ) → IsSummed o c p (map (valued o (map number row)) (map (evaluation number) (take i cs))) old total factor → cs ≡ all → length cs ≤ i →
-      total ≡ plus o old (value o (batched_weight o c p (map (evaluation number) all)) (map number row))
-  value-end old total factor so_far same past =
-      let zs = map number row in
-      so_far.summed ∙ ap (λ l. plus o old (batched_claim o c p (map (valued o zs) (map (evaluation number) l)))) (take_all i cs past ∙ same)
-      ∙ ap (plus o old) (sym (value-batched o ring c p (map (evaluation number) all) zs))
+  pub value-end : (old total factor : ℕ) → IsSummed o c p (map (valued o zs) (take i ss)) old total factor → length ss ≤ i → total ≡ plus o old (value o (batched_weight o c p ss) zs)
+  value-end old total factor so_far past =
+      so_far.summed ∙ ap (λ l. plus o old (batched_claim o c p (map (valued o zs) l))) (take_all i ss past) ∙ ap (plus o old) (sym (value-batched o ring c p ss zs))
 
-  pub next-end : (old total factor : ℕ) → IsSummed o c p (map (valued o (map number row)) (map (evaluation number) (take i cs))) old total factor → cs ≡ all → length cs ≤ i →
-      factor ≡ power o c (p + length (map (evaluation number) all))
-  next-end old total factor so_far same past =
-      let zs = map number row in
-      so_far.next ∙ ap (λ l. power o c (p + length (map (valued o zs) (map (evaluation number) l)))) (take_all i cs past ∙ same)
-      ∙ ap (λ k. power o c (p + k)) (length-map (map (evaluation number) all) (valued o zs))
+  pub next-end : (old total factor : ℕ) → IsSummed o c p (map (valued o zs) (take i ss)) old total factor → length ss ≤ i → factor ≡ power o c (p + length ss)
+  next-end old total factor so_far past =
+      so_far.next ∙ ap (λ l. power o c (p + length (map (valued o zs) l))) (take_all i ss past) ∙ ap (λ k. power o c (p + k)) (length-map ss (valued o zs))
 
 -- ---- the loop over the groups
 

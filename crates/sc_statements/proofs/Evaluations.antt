@@ -1,41 +1,53 @@
--- Lists of points with values, and the statements that they are.
-use Rattle.std.proofs.Common.{◌≡◌, ℕ, suc, ◌+◌, ◌<◌, List, [], ◌∷◌, ◌++◌, length, All, get_or, map, take, drop, sym, ◌∙◌, ap, subst, arith}
-use Rattle.std.proofs.lemmas.List.{length-map, map_more}
+-- Lists of weights with claimed values, and the statements that they are.
+use Rattle.std.proofs.Common.{◌≡◌, ℕ, zero, suc, ◌<◌, List, [], ◌∷◌, length, All, get_or, map, slice_index, nat_lt, IsTrue, ◌↔◌, sym, ◌∙◌, ap, subst, arith, lt-ltb}
+use Rattle.std.proofs.lemmas.Bool.{ltb-true}
+use Rattle.std.proofs.lemmas.List.{length-map}
 use Rattle.std.proofs.lemmas.List.Elements.{All-tail, All-cons}
-use Rattle.std.proofs.Math.Seq.{drop-cons}
-use Rattle.sc_definitions.specs.Statements.{arity_of}
-use Rattle.sc_statements.specs.declared.statement.eq.EvaluatedConstraint.{EvaluatedConstraint}
-use Rattle.sc_statements.specs.EqStatements.{evaluation}
+use Rattle.sc_definitions.specs.Statements.{Kind, Statement, arity_of}
+use Rattle.sc_statements.specs.declared.evaluated.EvaluatedConstraint.{EvaluatedConstraint}
+use Rattle.sc_statements.specs.Lists.{evaluated, evaluated_all}
+use Rattle.sc_weights.specs.declared.next.NextConstraint.{NextConstraint}
+use Rattle.sc_statements.specs.EqStatements.{point_kind}
+use Rattle.sc_statements.specs.NextStatements.{next_kind, selector_at, point_at}
 
-module _ {EF : Type 0} (number : EF → ℕ) where
-  -- ---- the arity that all have
+-- ---- the arity that all have
 
-  -- each statement has that of its point
-  pub arities : (n : ℕ) (cs : List (EvaluatedConstraint EF)) → All (λ c. length c.point ≡ n) cs → All (λ s. arity_of n s.kind ≡ n) (map (evaluation number) cs)
-  arities n [] fits = λ k d low. absurd (omega (arith, low))
-  arities n (c ∷ cs) fits =
-      All-cons (λ s. arity_of n s.kind ≡ n) (evaluation number c) (map (evaluation number) cs)
-      (length-map c.point number ∙ fits 0 c (omega arith)) (arities n cs (All-tail (λ d. length d.point ≡ n) c cs fits))
+pub eq-arities : {EF : Type 0} (number : EF → ℕ) (n : ℕ) (cs : List (EvaluatedConstraint (List EF) EF)) → All (λ c. length c.weights ≡ n) cs →
+    All (λ s. arity_of n s.kind ≡ n) (evaluated_all (point_kind number) number cs)
+eq-arities number n [] fits = λ k d low. absurd (omega (arith, low))
+eq-arities number n (c ∷ cs) fits =
+    All-cons (λ s. arity_of n s.kind ≡ n) (evaluated (point_kind number) number c) (evaluated_all (point_kind number) number cs)
+    (length-map c.weights number ∙ fits 0 c (omega arith)) (eq-arities number n cs (All-tail (λ d. length d.weights ≡ n) c cs fits))
 
-  pub arity-first : (n : ℕ) (cs rest : List (EvaluatedConstraint EF)) (c : EvaluatedConstraint EF) → All (λ d. length d.point ≡ n) cs → cs ≡ c ∷ rest → length c.point ≡ n
-  arity-first n cs rest c fits split = (subst (All (λ d. length d.point ≡ n)) split fits) 0 c (omega arith)
+-- ---- one at a place
 
-  pub arity-rest : (n : ℕ) (cs rest : List (EvaluatedConstraint EF)) (c : EvaluatedConstraint EF) → All (λ d. length d.point ≡ n) cs → cs ≡ c ∷ rest → All (λ d. length d.point ≡ n) rest
-  arity-rest n cs rest c fits split = All-tail (λ d. length d.point ≡ n) c rest (subst (All (λ d. length d.point ≡ n)) split fits)
+module _ {W EF : Type 0} (kind : W → Kind) (number : EF → ℕ) where
+  -- what is read of its statement
+  pub read-evaluated : (f : Statement → ℕ) (cs : List (EvaluatedConstraint W EF)) (i : ℕ) (c : EvaluatedConstraint W EF) → i < length (evaluated_all kind number cs) → c ≡ get_or cs i c →
+      f (evaluated kind number c) ≡ slice_index (map f (evaluated_all kind number cs)) i
+  read-evaluated f [] i c low is = absurd (omega (arith, low))
+  read-evaluated f (d ∷ cs) zero c low is = ap (λ e. f (evaluated kind number e)) is
+  read-evaluated f (d ∷ cs) (suc i) c low is = read-evaluated f cs i c (omega (arith, low)) is
 
-  -- the point at a place
-  pub arity-at : (n : ℕ) (cs all : List (EvaluatedConstraint EF)) (i : ℕ) (c : EvaluatedConstraint EF) → All (λ d. length d.point ≡ n) all → cs ≡ all → i < length cs → c ≡ get_or cs i c →
-      length c.point ≡ n
-  arity-at n cs all i c fits same low is =
-      ap (λ d. length d.point) is ∙ subst (λ l. i < length l → length (get_or l i c).point ≡ n) (sym same) (fits i c) low
+-- what all have, one has
+pub all-at : {X : Type 0} (P : X → Type 0) (cs : List X) (i : ℕ) (c : X) → All P cs → i < length cs → c ≡ get_or cs i c → P c
+all-at P cs i c all low is = subst P (sym is) (all i c low)
 
-  -- ---- the statements before and behind a place
+-- ---- a successor statement's selector and point
 
-  pub evaluations-more : (cs : List (EvaluatedConstraint EF)) (i : ℕ) (c : EvaluatedConstraint EF) → i < length cs → c ≡ get_or cs i c →
-      map (evaluation number) (take (i + 1) cs) ≡ map (evaluation number) (take i cs) ++ evaluation number c ∷ []
-  evaluations-more cs i c low is = map_more (evaluation number) cs i c low ∙ ap (λ d. map (evaluation number) (take i cs) ++ evaluation number d ∷ []) (sym is)
+module _ {EF : Type 0} where
+  pub selector-read : (number : EF → ℕ) (cs : List (EvaluatedConstraint (NextConstraint EF) EF)) (i : ℕ) (c : EvaluatedConstraint (NextConstraint EF) EF) → i < length (evaluated_all (next_kind number) number cs) → c ≡ get_or cs i c →
+      c.weights.selector ≡ selector_at cs i
+  selector-read number [] i c low is = absurd (omega (arith, low))
+  selector-read number (d ∷ cs) zero c low is = ap (λ e. e.weights.selector) is
+  selector-read number (d ∷ cs) (suc i) c low is = selector-read number cs i c (omega (arith, low)) is
 
-  pub evaluations-left : (cs : List (EvaluatedConstraint EF)) (i : ℕ) (c : EvaluatedConstraint EF) → i < length cs → c ≡ get_or cs i c →
-      map (evaluation number) (drop i cs) ≡ evaluation number c ∷ map (evaluation number) (drop (suc i) cs)
-  evaluations-left cs i c low is =
-      ap (map (evaluation number)) (drop-cons cs i c low) ∙ ap (λ t. evaluation number t ∷ map (evaluation number) (drop (suc i) cs)) (sym is)
+  pub point-read : (number : EF → ℕ) (cs : List (EvaluatedConstraint (NextConstraint EF) EF)) (i : ℕ) (c : EvaluatedConstraint (NextConstraint EF) EF) → i < length (evaluated_all (next_kind number) number cs) → c ≡ get_or cs i c →
+      c.weights.point ≡ point_at cs i
+  point-read number [] i c low is = absurd (omega (arith, low))
+  point-read number (d ∷ cs) zero c low is = ap (λ e. e.weights.point) is
+  point-read number (d ∷ cs) (suc i) c low is = point-read number cs i c (omega (arith, low)) is
+
+pub some-selector : {EF : Type 0} (n : ℕ) (zs ys : List EF) → n ≡ length zs → zs ≡ ys → IsTrue (nat_lt 0 n) ↔ (0 < length ys)
+some-selector n zs ys size same =
+    ((λ t. let some : 0 < n = ltb-true 0 n t in omega (arith, some, size, ap length same)), (λ some. lt-ltb 0 n (omega (arith, some, size, ap length same))))

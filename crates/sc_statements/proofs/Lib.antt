@@ -1,9 +1,8 @@
-pub mod WeightSteps
-pub mod WeightValues
+pub mod Places
 pub mod Evaluations
 pub mod FalseSteps
-pub mod EvaluationReads
 pub mod BatchSteps
 pub mod GroupSteps
 pub mod FalseGroups
 pub mod BatchValues
+pub mod Selecting

@@ -10,12 +10,12 @@ abbrev pub constraint_arity : {F EF : Type 0} → Constraint F EF → ℕ
 constraint_arity c = c.num_variables
 
 -- its groups, in order
-abbrev pub constraint_groups : {F EF : Type 0} → Constraint F EF → List (Statements EF)
+abbrev pub constraint_groups : {F EF : Type 0} → Constraint F EF → List (Statements F EF)
 constraint_groups c = c.statements.items
 
--- the statements of all its groups, in order
-abbrev pub constraint_statements : {F EF : Type 0} → (EF → ℕ) → Constraint F EF → List Statement
-constraint_statements number c = all_statements number c.statements.items
+-- the statements of all its groups, in order; the base field's elements have the numbers that come first, in the extension
+abbrev pub constraint_statements : {F EF : Type 0} → (F → ℕ) → (EF → ℕ) → Constraint F EF → List Statement
+constraint_statements of number c = all_statements of number c.statements.items
 
 -- the challenge whose powers batch the statements
 abbrev pub constraint_challenge : {F EF : Type 0} → (EF → ℕ) → Constraint F EF → ℕ

@@ -15,7 +15,6 @@ use sc_definitions::FalseClaim;
 use sc_field::{ExtensionField, Field, NoMemory, Powers};
 use sc_table::{Point, Poly};
 use std::alloc::Global;
-use std::marker::PhantomData;
 
 /// Groups of statements on one table, in order, and the challenge whose powers batch them.
 ///
@@ -27,10 +26,9 @@ use std::marker::PhantomData;
 #[derive(Drop)]
 pub struct Constraint<F, EF> {
     num_variables: usize,
-    statements: Vec<Statements<EF>>,
+    statements: Vec<Statements<F, EF>>,
     challenge: EF,
     initial_power: usize,
-    base: PhantomData<F>,
     ghost fits: { All (λ s. group_arity s ≡ num_variables) statements.items },
 }
 
@@ -38,7 +36,7 @@ impl<F: Field, EF: ExtensionField<F>> Constraint<F, EF> {
     ghost use Rattle.sc_statements.specs.Constraints.{constraint_arity, constraint_groups, constraint_statements, constraint_challenge, constraint_power};
 
     /// The groups in this order, each on tables of `num_variables` variables, with the initial power 0.
-    pub fn new(challenge: EF, num_variables: usize, statements: Vec<Statements<EF>>) -> Self
+    pub fn new(challenge: EF, num_variables: usize, statements: Vec<Statements<F, EF>>) -> Self
         requires { All (λ s. group_arity s ≡ num_variables) statements.items }
         ensures arity { constraint_arity result ≡ num_variables }
         ensures groups { constraint_groups result ≡ statements.items }
@@ -50,7 +48,26 @@ impl<F: Field, EF: ExtensionField<F>> Constraint<F, EF> {
             statements,
             challenge,
             initial_power: 0,
-            base: PhantomData,
+        }
+    }
+
+    /// The same with the initial power 1, for a batch beside a claim that is there already and has the coefficient one.
+    pub fn new_with_existing_claim(
+        challenge: EF,
+        num_variables: usize,
+        statements: Vec<Statements<F, EF>>,
+    ) -> Self
+        requires { All (λ s. group_arity s ≡ num_variables) statements.items }
+        ensures arity { constraint_arity result ≡ num_variables }
+        ensures groups { constraint_groups result ≡ statements.items }
+        ensures challenge { constraint_challenge EF.number result ≡ EF.number challenge }
+        ensures power { constraint_power result ≡ 1 }
+    {
+        Constraint {
+            num_variables,
+            statements,
+            challenge,
+            initial_power: 1,
         }
     }
 
@@ -62,7 +79,7 @@ impl<F: Field, EF: ExtensionField<F>> Constraint<F, EF> {
     }
 
     /// The groups, in order.
-    pub fn statements(&self) -> &[Statements<EF>]
+    pub fn statements(&self) -> &[Statements<F, EF>]
         ensures groups { result.now ≡ constraint_groups self.now }
 
         // Each speaks of tables of as many variables as the whole.
@@ -105,7 +122,7 @@ impl<F: Field, EF: ExtensionField<F>> Constraint<F, EF> {
     /// Adds the batched claim to the sum.
     pub fn combine_evals(&self, eval: &mut EF)
         ensures { EF.number eval.new ≡ plus EF.ops (EF.number eval.old)
-            (batched_claim EF.ops (constraint_challenge EF.number self.now) (constraint_power self.now) (constraint_statements EF.number self.now)) }
+            (batched_claim EF.ops (constraint_challenge EF.number self.now) (constraint_power self.now) (constraint_statements (λ x. EF.embedding (F.number x)) EF.number self.now)) }
     {
         let mut coefficient = self.first_coefficient();
         for group in &self.statements {
@@ -124,9 +141,9 @@ impl<F: Field, EF: ExtensionField<F>> Constraint<F, EF> {
         requires { variables_of combined.old ≡ constraint_arity self.now }
         ensures variables { variables_of combined.new ≡ variables_of combined.old }
         ensures ok { OnOk result (AddsBatch EF.ops (constraint_arity self.now) (constraint_challenge EF.number self.now) (constraint_power self.now)
-            (constraint_statements EF.number self.now)
+            (constraint_statements (λ x. EF.embedding (F.number x)) EF.number self.now)
             (table_of EF.number combined.old) (table_of EF.number combined.new) (EF.number eval.old) (EF.number eval.new)) }
-        ensures refused { OnErr result (AddsPrefix (group_statements EF.number) EF.ops (constraint_arity self.now)
+        ensures refused { OnErr result (AddsPrefix (group_statements (λ x. EF.embedding (F.number x)) EF.number) EF.ops (constraint_arity self.now)
             (constraint_challenge EF.number self.now) (constraint_power self.now) (constraint_groups self.now)
             (table_of EF.number combined.old) (table_of EF.number combined.new) (EF.number eval.old) (EF.number eval.new)) }
     {
@@ -142,9 +159,9 @@ impl<F: Field, EF: ExtensionField<F>> Constraint<F, EF> {
         requires { constraint_arity self.now ≤ 40 }
         ensures variables { IfOk result (λ p. variables_of p.0 ≡ constraint_arity self.now) }
         ensures weights { IfOk result (λ p. (b : ℕ) → b < 2 ^ constraint_arity self.now → table_of EF.number p.0 b
-            ≡ batched_weight EF.ops (constraint_challenge EF.number self.now) (constraint_power self.now) (constraint_statements EF.number self.now) b) }
+            ≡ batched_weight EF.ops (constraint_challenge EF.number self.now) (constraint_power self.now) (constraint_statements (λ x. EF.embedding (F.number x)) EF.number self.now) b) }
         ensures claim { IfOk result (λ p. EF.number p.1
-            ≡ batched_claim EF.ops (constraint_challenge EF.number self.now) (constraint_power self.now) (constraint_statements EF.number self.now)) }
+            ≡ batched_claim EF.ops (constraint_challenge EF.number self.now) (constraint_power self.now) (constraint_statements (λ x. EF.embedding (F.number x)) EF.number self.now)) }
     {
         let mut combined = Poly::zero(alloc, self.num_variables)?;
         let mut eval = EF::ZERO;
@@ -160,7 +177,7 @@ impl<F: Field, EF: ExtensionField<F>> Constraint<F, EF> {
     pub fn eval_at(&self, row: &Point<EF>) -> EF
         requires { length row.now ≡ constraint_arity self.now }
         ensures { EF.number result ≡ value EF.ops
-            (batched_weight EF.ops (constraint_challenge EF.number self.now) (constraint_power self.now) (constraint_statements EF.number self.now)) (map EF.number row.now) }
+            (batched_weight EF.ops (constraint_challenge EF.number self.now) (constraint_power self.now) (constraint_statements (λ x. EF.embedding (F.number x)) EF.number self.now)) (map EF.number row.now) }
     {
         let mut sum = EF::ZERO;
         let mut coefficient = self.first_coefficient();
@@ -175,12 +192,12 @@ impl<F: Field, EF: ExtensionField<F>> Constraint<F, EF> {
     pub fn first_false(&self, table: &Poly<F>) -> Option<FalseClaim>
         requires { variables_of table.now ≡ constraint_arity self.now }
         ensures found { result ≡ told (first_false_claim EF.ops (constraint_arity self.now) (λ b. EF.embedding (table_of F.number table.now b)) 0
-            (constraint_statements EF.number self.now)) }
+            (constraint_statements (λ x. EF.embedding (F.number x)) EF.number self.now)) }
 
         // Where the statements are fewer than 2^64, the number is exact.
-        ensures exact { length (constraint_statements EF.number self.now) < 2 ^ 64 →
+        ensures exact { length (constraint_statements (λ x. EF.embedding (F.number x)) EF.number self.now) < 2 ^ 64 →
             result ≡ first_false_claim EF.ops (constraint_arity self.now) (λ b. EF.embedding (table_of F.number table.now b)) 0
-            (constraint_statements EF.number self.now) }
+            (constraint_statements (λ x. EF.embedding (F.number x)) EF.number self.now) }
     {
         let mut passed: usize = 0;
         for group in &self.statements {

@@ -8,21 +8,30 @@ ghost use Rattle.sc_table.specs.Polys.{variables_of, table_of};
 ghost use Rattle.sc_statements.specs.Batches.{AddsBatch, IsUnchanged};
 
 mod eq;
+mod next;
+mod select;
 
+use crate::list;
 pub use eq::{EqIter, EqStatement, EqWeights};
+pub use next::{NextStatement, NextWeights};
 use sc_definitions::FalseClaim;
-use sc_field::{Algebra, Field, NoMemory};
+use sc_field::{ExtensionField, Field, NoMemory};
 use sc_table::{Point, Poly};
+pub use select::{SelectIter, SelectStatement, SelectWeights};
 use std::alloc::Global;
 
 /// A group of statements of one kind, in order.
 #[derive(Drop)]
-pub enum Statements<EF> {
+pub enum Statements<F, EF> {
     /// Values of the table at points.
     Eq(EqStatement<EF>),
+    /// Values through the successor map.
+    Next(NextStatement<EF>),
+    /// Sums of the entries times powers, or times products of coordinates.
+    Select(SelectStatement<F, EF>),
 }
 
-impl<EF: Field> Statements<EF> {
+impl<F: Field, EF: ExtensionField<F>> Statements<F, EF> {
     ghost use Rattle.sc_statements.specs.Groups.{group_arity, group_statements};
 
     /// How many variables the tables have that it speaks of.
@@ -31,36 +40,42 @@ impl<EF: Field> Statements<EF> {
     {
         match self {
             Statements::Eq(statement) => statement.num_variables(),
+            Statements::Next(statement) => statement.num_variables(),
+            Statements::Select(statement) => statement.num_variables(),
         }
     }
 
     /// How many statements there are.
     pub fn len(&self) -> usize
-        ensures { result ≡ length (group_statements EF.number self.now) }
+        ensures { result ≡ length (group_statements (λ x. EF.embedding (F.number x)) EF.number self.now) }
     {
         match self {
             Statements::Eq(statement) => statement.len(),
+            Statements::Next(statement) => statement.len(),
+            Statements::Select(statement) => statement.len(),
         }
     }
 
     /// Whether there is no statement.
     pub fn is_empty(&self) -> bool
-        ensures { IsTrue result ↔ (group_statements EF.number self.now ≡ []) }
+        ensures { IsTrue result ↔ (group_statements (λ x. EF.embedding (F.number x)) EF.number self.now ≡ []) }
     {
         match self {
             Statements::Eq(statement) => statement.is_empty(),
+            Statements::Next(statement) => statement.is_empty(),
+            Statements::Select(statement) => statement.is_empty(),
         }
     }
 
     // The first statement that is false of the table, numbered from 0 on. It takes no memory.
-    pub(crate) fn first_false<F: Field>(&self, table: &Poly<F>) -> Option<FalseClaim>
-    where
-        EF: Algebra<F>,
+    pub(crate) fn first_false(&self, table: &Poly<F>) -> Option<FalseClaim>
         requires { variables_of table.now ≡ group_arity self.now }
-        ensures { result ≡ first_false_claim EF.ops (group_arity self.now) (λ b. EF.embedding (table_of F.number table.now b)) 0 (group_statements EF.number self.now) }
+        ensures { result ≡ first_false_claim EF.ops (group_arity self.now) (λ b. EF.embedding (table_of F.number table.now b)) 0 (group_statements (λ x. EF.embedding (F.number x)) EF.number self.now) }
     {
         match self {
-            Statements::Eq(statement) => statement.first_false(table),
+            Statements::Eq(statement) => list::first_false(statement, table),
+            Statements::Next(statement) => list::first_false(statement, table),
+            Statements::Select(statement) => list::first_false(statement, table),
         }
     }
 
@@ -68,12 +83,14 @@ impl<EF: Field> Statements<EF> {
     // once more. The answer is the factor of a statement behind the last.
     pub(crate) fn add_values(&self, sum: &mut EF, challenge: EF, first: EF) -> EF
         ensures added { (p : ℕ) → EF.number first ≡ power EF.ops (EF.number challenge) p →
-            EF.number sum.new ≡ plus EF.ops (EF.number sum.old) (batched_claim EF.ops (EF.number challenge) p (group_statements EF.number self.now)) }
+            EF.number sum.new ≡ plus EF.ops (EF.number sum.old) (batched_claim EF.ops (EF.number challenge) p (group_statements (λ x. EF.embedding (F.number x)) EF.number self.now)) }
         ensures next { (p : ℕ) → EF.number first ≡ power EF.ops (EF.number challenge) p →
-            EF.number result ≡ power EF.ops (EF.number challenge) (p + length (group_statements EF.number self.now)) }
+            EF.number result ≡ power EF.ops (EF.number challenge) (p + length (group_statements (λ x. EF.embedding (F.number x)) EF.number self.now)) }
     {
         match self {
-            Statements::Eq(statement) => statement.add_values(sum, challenge, first),
+            Statements::Eq(statement) => list::add_values(statement, sum, challenge, first),
+            Statements::Next(statement) => list::add_values(statement, sum, challenge, first),
+            Statements::Select(statement) => list::add_values(statement, sum, challenge, first),
         }
     }
 
@@ -88,12 +105,20 @@ impl<EF: Field> Statements<EF> {
         requires { length row.now ≡ group_arity self.now }
         ensures added { (p : ℕ) → EF.number first ≡ power EF.ops (EF.number challenge) p →
             EF.number sum.new ≡ plus EF.ops (EF.number sum.old)
-            (value EF.ops (batched_weight EF.ops (EF.number challenge) p (group_statements EF.number self.now)) (map EF.number row.now)) }
+            (value EF.ops (batched_weight EF.ops (EF.number challenge) p (group_statements (λ x. EF.embedding (F.number x)) EF.number self.now)) (map EF.number row.now)) }
         ensures next { (p : ℕ) → EF.number first ≡ power EF.ops (EF.number challenge) p →
-            EF.number result ≡ power EF.ops (EF.number challenge) (p + length (group_statements EF.number self.now)) }
+            EF.number result ≡ power EF.ops (EF.number challenge) (p + length (group_statements (λ x. EF.embedding (F.number x)) EF.number self.now)) }
     {
         match self {
-            Statements::Eq(statement) => statement.add_weights_at(sum, row, challenge, first),
+            Statements::Eq(statement) => list::add_weights_at(
+                statement, sum, row, challenge, first,
+            ),
+            Statements::Next(statement) => list::add_weights_at(
+                statement, sum, row, challenge, first,
+            ),
+            Statements::Select(statement) => list::add_weights_at(
+                statement, sum, row, challenge, first,
+            ),
         }
     }
 
@@ -109,15 +134,22 @@ impl<EF: Field> Statements<EF> {
         requires { variables_of weights.old ≡ group_arity self.now }
         ensures variables { variables_of weights.new ≡ variables_of weights.old }
         ensures added { IfOk result (λ _. (p : ℕ) → EF.number first ≡ power EF.ops (EF.number challenge) p →
-            AddsBatch EF.ops (group_arity self.now) (EF.number challenge) p (group_statements EF.number self.now)
+            AddsBatch EF.ops (group_arity self.now) (EF.number challenge) p (group_statements (λ x. EF.embedding (F.number x)) EF.number self.now)
             (table_of EF.number weights.old) (table_of EF.number weights.new) (EF.number sum.old) (EF.number sum.new)) }
         ensures next { IfOk result (λ next. (p : ℕ) → EF.number first ≡ power EF.ops (EF.number challenge) p →
-            EF.number next ≡ power EF.ops (EF.number challenge) (p + length (group_statements EF.number self.now))) }
+            EF.number next ≡ power EF.ops (EF.number challenge) (p + length (group_statements (λ x. EF.embedding (F.number x)) EF.number self.now))) }
         ensures refused { OnErr result (IsUnchanged (group_arity self.now)
             (table_of EF.number weights.old) (table_of EF.number weights.new) (EF.number sum.old) (EF.number sum.new)) }
     {
-        match self {
-            Statements::Eq(statement) => Ok(statement.add_batch(weights, sum, challenge, first)),
-        }
+        let next = match self {
+            Statements::Eq(statement) => list::add_batch(statement, weights, sum, challenge, first),
+            Statements::Next(statement) => list::add_batch(
+                statement, weights, sum, challenge, first,
+            ),
+            Statements::Select(statement) => list::add_batch(
+                statement, weights, sum, challenge, first,
+            ),
+        };
+        Ok(next)
     }
 }

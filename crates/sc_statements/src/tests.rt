@@ -1,11 +1,10 @@
 //! Figures by hand over the integers modulo 65537.
 
-ghost use Rattle.std.specs.Prelude.{◌≡◌, ◌^◌, ◌↔◌, ◌∷◌, [], length, map, IsTrue, IfOk};
+ghost use Rattle.std.specs.Prelude.{◌≡◌, ◌^◌, ◌↔◌, [], length, map, IsTrue, IfOk};
 ghost use Rattle.sc_definitions.specs.Statements.{AllTrueOf, powers_sum};
 ghost use Rattle.sc_table.specs.Polys.{variables_of, table_of};
 ghost use Rattle.sc_statements.specs.EqStatements.{eq_arity, eq_statements};
-ghost use Rattle.sc_statements.specs.EqIterators.{weight_values};
-ghost use Rattle.sc_statements.specs.Groups.{group_arity};
+ghost use Rattle.sc_statements.specs.Weights.{weight_values};
 ghost use Rattle.sc_statements.specs.Constraints.{constraint_arity};
 
 use crate::{Constraint, EqStatement, Statements};
@@ -16,19 +15,19 @@ use std::alloc::Global;
 use std::test::Fail;
 
 // The element of this number.
-fn of(number: u64) -> F65537 {
+pub(crate) fn of(number: u64) -> F65537 {
     F65537::element(number % 65537)
 }
 
 // The elements of these numbers.
-fn elements(alloc: Global, numbers: &[u64]) -> Result<Vec<F65537>, NoMemory>
+pub(crate) fn elements(alloc: Global, numbers: &[u64]) -> Result<Vec<F65537>, NoMemory>
     ensures { IfOk result (λ v. length v.items ≡ length numbers.now) }
 {
     let elements = numbers.iter().map(|number| of(*number)).collect(alloc)?;
     Ok(elements)
 }
 
-fn have_numbers(elements: &[F65537], numbers: &[u64]) -> bool {
+pub(crate) fn have_numbers(elements: &[F65537], numbers: &[u64]) -> bool {
     elements.len() == numbers.len()
         && elements
             .iter()
@@ -37,14 +36,14 @@ fn have_numbers(elements: &[F65537], numbers: &[u64]) -> bool {
 }
 
 // The point of these numbers.
-fn point(alloc: Global, numbers: &[u64]) -> Result<Point<F65537>, NoMemory>
+pub(crate) fn point(alloc: Global, numbers: &[u64]) -> Result<Point<F65537>, NoMemory>
     ensures { IfOk result (λ p. length p ≡ length numbers.now) }
 {
     Ok(Point::new(elements(alloc, numbers)?))
 }
 
 // The table of these values, as many as 2^n.
-fn table(alloc: Global, n: usize, values: &[u64]) -> Result<Poly<F65537>, NoMemory>
+pub(crate) fn table(alloc: Global, n: usize, values: &[u64]) -> Result<Poly<F65537>, NoMemory>
     requires { length values.now ≡ 2 ^ n }
     ensures { IfOk result (λ p. variables_of p ≡ n) }
 {

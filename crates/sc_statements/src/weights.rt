@@ -1,47 +1,58 @@
-//! Equality weights, added to the rows of a table in its place.
+//! The weights of statements at a point, and rows that are cleared.
 
-ghost use Rattle.std.specs.Prelude.{◌≡◌, ℕ, ◌^◌, ◌<◌, length, map};
-ghost use Rattle.sc_definitions.specs.Ring.{plus, times};
-ghost use Rattle.sc_definitions.specs.Tables.{entries, weight};
+ghost use Rattle.std.specs.Prelude.{◌≡◌, ℕ, ◌^◌, ◌<◌, ◌≤◌, length, map};
+ghost use Rattle.std.specs.Iterator.{YieldsFirstBy, item_count};
 ghost use Rattle.sc_table.specs.Polys.{variables_of, table_of};
 
+use crate::list::StatementList;
 use sc_field::Field;
-use sc_table::Poly;
+use sc_table::{Point, Poly};
+use std::marker::PhantomData;
 
-/// Adds `scale` times the equality weights of the point `z`, which has as many coordinates as the
-/// table has variables. It takes no memory.
-pub(crate) fn add_weights<EF: Field>(table: &mut Poly<EF>, z: &[EF], scale: EF)
-    requires { variables_of table.old ≡ length z.now }
-    ensures variables { variables_of table.new ≡ variables_of table.old }
-    ensures table { (b : ℕ) → b < 2 ^ length z.now →
-        table_of EF.number table.new b
-        ≡ plus EF.ops (table_of EF.number table.old b) (times EF.ops (EF.number scale) (weight EF.ops (map EF.number z.now) b)) }
-{
-    add_to_rows(table.as_mut_slice(), z, scale);
+/// The values at a point of the statements' weights, as tables, one for each statement, in order.
+#[derive(Drop)]
+pub struct Weights<'a, S: StatementList<EF>, EF: Field> {
+    statements: &'a S,
+    row: &'a Point<EF>,
+    index: usize,
+    of: PhantomData<EF>,
+    ghost fits: { length row.now ≡ S.arity statements.now },
+    ghost within: { index ≤ length (S.statements statements.now) },
 }
 
-// The same, of the rows of a table.
-fn add_to_rows<EF: Field>(rows: &mut [EF], z: &[EF], scale: EF)
-    requires { length rows.old ≡ 2 ^ length z.now }
-    ensures { (b : ℕ) → b < 2 ^ length z.now →
-        entries EF.number rows.new b
-        ≡ plus EF.ops (entries EF.number rows.old b) (times EF.ops (EF.number scale) (weight EF.ops (map EF.number z.now) b)) }
-{
-    match z {
-        [] => rows[0] = rows[0].add(scale),
+impl<'a, S: StatementList<EF>, EF: Field> Weights<'a, S, EF> {
+    ghost use Rattle.sc_statements.specs.Weights.{weight_values, weights_from};
 
-        // The two rows of one variable.
-        [only] => {
-            let at_one = scale.mul(*only);
-            rows[0] = rows[0].add(scale.sub(at_one));
-            rows[1] = rows[1].add(at_one);
+    // From the first statement on.
+    pub(crate) fn new(statements: &'a S, row: &'a Point<EF>) -> Self
+        requires { length row.now ≡ S.arity statements.now }
+        ensures { weights_from EF.ops (map EF.number result.row.now) (S.statements result.statements.now) result.index ≡ weight_values EF.ops (map EF.number row.now) (S.statements statements.now) }
+    {
+        Weights {
+            statements,
+            row,
+            index: 0,
+            of: PhantomData,
         }
-        [first, rest @ ..] => {
-            let half = rows.len() / 2;
-            let at_one = scale.mul(*first);
-            add_to_rows(&mut rows[..half], rest, scale.sub(at_one));
-            add_to_rows(&mut rows[half..], rest, at_one);
+    }
+}
+
+impl<'a, S: StatementList<EF>, EF: Field> Iterator for Weights<'a, S, EF> {
+    ghost use Rattle.sc_statements.specs.Weights.{weights_from};
+
+    type Item = EF;
+
+    ghost next_gives = { YieldsFirstBy EF.number (λ w. weights_from EF.ops (map EF.number w.row.now) (S.statements w.statements.now) w.index) };
+
+    ghost remaining = { item_count (λ w. weights_from EF.ops (map EF.number w.row.now) (S.statements w.statements.now) w.index) };
+
+    fn next(&mut self) -> Option<EF> {
+        if self.index == self.statements.count() {
+            return None;
         }
+        let weight = self.statements.weight_at(self.index, self.row);
+        self.index += 1;
+        Some(weight)
     }
 }
 

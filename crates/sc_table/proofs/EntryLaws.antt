@@ -1,5 +1,6 @@
 -- What is read from a list is its table's entry, after each change of the list.
 use Rattle.std.proofs.Common.{◌≡◌, ◌≢◌, ℕ, zero, suc, ◌+◌, ◌<◌, replicate, List, [], ◌∷◌, ◌++◌, length, set, take, drop, sym, ◌∙◌, ap, refl, arith}
+use Rattle.sc_definitions.specs.Ring.{Ops, IsRing}
 use Rattle.sc_definitions.specs.Tables.{entries}
 pub use Rattle.sc_definitions.proofs.LoopLaws.{entry-read}
 
@@ -47,7 +48,21 @@ unfolding entries
 entry-append_last number [] y = refl
 entry-append_last number (x ∷ xs) y = entry-append_last number xs y
 
+pub entry-append_right : {X : Type 0} (number : X → ℕ) (xs ys : List X) (i : ℕ) → entries number (xs ++ ys) (length xs + i) ≡ entries number ys i
+unfolding entries
+entry-append_right number [] ys i = let e : 0 + i ≡ i = omega arith in ap (entries number ys) e
+entry-append_right number (x ∷ xs) ys i =
+    let e : suc (length xs) + i ≡ suc (length xs + i) = omega arith in
+    ap (entries number (x ∷ (xs ++ ys))) e ∙ entry-append_right number xs ys i
+
 -- ---- other numbers, and equal values
+
+-- an entry of a table is an element
+pub entry-below : {X : Type 0} (o : Ops) (number : X → ℕ) → IsRing o → ((x : X) → number x < o.size) → (xs : List X) (b : ℕ) → entries number xs b < o.size
+unfolding entries
+entry-below o number ring low [] b = omega (arith, ring.at_least_two)
+entry-below o number ring low (x ∷ xs) zero = low x
+entry-below o number ring low (x ∷ xs) (suc b) = entry-below o number ring low xs b
 
 -- reading through a map that keeps zero
 pub entry-embedded : {X : Type 0} (h : ℕ → ℕ) (number : X → ℕ) (xs : List X) (b : ℕ) → h 0 ≡ 0 → entries (λ x. h (number x)) xs b ≡ h (entries number xs b)

@@ -1,4 +1,7 @@
 pub mod EntryLaws
+pub mod ShiftLaws
+pub mod NextLaws
+pub mod SelectLaws
 pub mod PowerLaws
 pub mod FoldLaws
 pub mod EvalLaws

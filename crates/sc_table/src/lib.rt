@@ -17,7 +17,7 @@ mod tests;
 pub use lagrange::{extrapolate_01inf, lagrange_weights_01inf};
 pub use laws::strategy_laws;
 pub use point::Point;
-pub use poly::Poly;
+pub use poly::{Poly, eval_slice};
 pub use row::Row;
 pub use strategy::{
     Basis, RoundMessage, VariableOrder, sumcheck_coefficients_prefix,

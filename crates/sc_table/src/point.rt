@@ -1,9 +1,11 @@
 //! Points, and the equality weight of two points.
 
 ghost use Rattle.std.specs.Prelude.{◌≡◌, ◌≤◌, ◌++◌, List, length, map, reverse, IfOk};
-ghost use Rattle.sc_definitions.specs.Tables.{eq_product};
+ghost use Rattle.sc_definitions.specs.Ring.{plus, power};
+ghost use Rattle.sc_definitions.specs.Tables.{eq_product, value};
+ghost use Rattle.sc_definitions.specs.Statements.{successor_weight, next_carry, next_done, next_omega};
 
-use sc_field::{Field, NoMemory};
+use sc_field::{Algebra, Field, NoMemory};
 use std::alloc::Global;
 use std::marker::Model;
 
@@ -88,5 +90,54 @@ impl<EF: Field> Point<EF> {
             product = product.mul(both.add(neither));
         }
         product
+    }
+
+    /// The three sums that make the successor's value of two lists of coordinates of one length, by the equality weights of rows.
+    ///
+    /// The first is the weight of `z` at the last row, times that of `x` at row 0. The second is the sum over all rows but the last of
+    /// the weight of `z` there, times that of `x` at the row after it. The third is the weights of both at the last row, multiplied. Of
+    /// no coordinates they are 1, 0 and 1.
+    pub fn eval_next(z: &[EF], x: &[EF]) -> (EF, EF, EF)
+        requires { length z.now ≡ length x.now }
+        ensures carry { EF.number result.0 ≡ next_carry EF.ops (map EF.number z.now) (map EF.number x.now) }
+        ensures done { EF.number result.1 ≡ next_done EF.ops (map EF.number z.now) (map EF.number x.now) }
+        ensures omega { EF.number result.2 ≡ next_omega EF.ops (map EF.number z.now) (map EF.number x.now) }
+
+        // The last two make the value at `x` of the successor weights of `z`, as a table.
+        ensures value { plus EF.ops (EF.number result.1) (EF.number result.2) ≡ value EF.ops (successor_weight EF.ops (map EF.number z.now)) (map EF.number x.now) }
+    {
+        let mut equal = EF::ONE;
+        let mut carry = EF::ONE;
+        let mut done = EF::ZERO;
+        let mut omega = EF::ONE;
+        for (z_i, x_i) in z.iter().zip(x) {
+            let both = z_i.mul(*x_i);
+            let falls = z_i.sub(both);
+            let rises = x_i.sub(both);
+            let neither = EF::ONE.sub(*z_i).sub(rises);
+            done = done.mul(falls).add(equal.mul(rises));
+            equal = equal.mul(both.add(neither));
+            carry = carry.mul(falls);
+            omega = omega.mul(both);
+        }
+        (carry, done, omega)
+    }
+
+    /// The value at `x` of the table of the powers of `var`: its row b has the power b, and row 0 has one.
+    ///
+    /// It is the product over the coordinates of 1 + x_i (v_i - 1), where v_i is the power of the row whose one digit is digit i.
+    pub fn eval_select<F: Field>(var: F, x: &[EF]) -> EF
+    where
+        EF: Algebra<F>,
+        ensures { EF.number result ≡ value EF.ops (power EF.ops (EF.embedding (F.number var))) (map EF.number x.now) }
+    {
+        let mut value = EF::ONE;
+        let mut power = EF::embed(var);
+        for x_i in x.iter().rev() {
+            let factor = EF::ONE.add(x_i.mul(power.sub(EF::ONE)));
+            value = factor.mul(value);
+            power = power.square();
+        }
+        value
     }
 }

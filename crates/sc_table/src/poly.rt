@@ -1,9 +1,11 @@
 //! Tables of values.
 
-ghost use Rattle.std.specs.Prelude.{◌≡◌, ℕ, suc, ◌+◌, ◌-◌, ◌*◌, ◌/◌, ◌^◌, ◌<◌, ◌≤◌, [], ◌∷◌, ◌++◌, List, length, map, IfOk, vec_len, vec_capacity};
+ghost use Rattle.std.specs.Prelude.{◌≡◌, ℕ, ◌+◌, ◌-◌, ◌*◌, ◌/◌, ◌^◌, ◌<◌, ◌≤◌, [], ◌∷◌, ◌++◌, List, length, map, IfOk, vec_len, vec_capacity};
 ghost use Rattle.std.specs.Borrow.{sem};
-ghost use Rattle.sc_definitions.specs.Ring.{times, minus};
+ghost use Rattle.sc_definitions.specs.Ring.{plus, times, minus};
 ghost use Rattle.sc_definitions.specs.Tables.{entries, weight, value, bound, bound_low};
+ghost use Rattle.sc_definitions.specs.Statements.{successor_weight};
+ghost use Rattle.sc_definitions.specs.Shifts.{shifted, only_at};
 
 use crate::Point;
 use sc_field::{Algebra, Field, NoMemory};
@@ -64,6 +66,20 @@ impl<A: Field> Poly<A> {
             push_weighted(&mut evals, *z_i);
         }
         Ok(Poly { evals, variables })
+    }
+
+    /// The table of the successor weights of the point `z`, of at most 40 coordinates: row b of the equality weights goes to row b + 1,
+    /// and the last row to itself. Over no variables the one entry is one.
+    ///
+    /// It takes time linear in the table's length, and memory once, for the whole table; `NoMemory` says that there is not as much.
+    pub fn new_next_from_point(alloc: Global, z: &[A]) -> Result<Self, NoMemory>
+        requires { length z.now ≤ 40 }
+        ensures variables { IfOk result (λ p. variables_of p ≡ length z.now) }
+        ensures table { IfOk result (λ p. (b : ℕ) → b < 2 ^ length z.now → table_of A.number p b ≡ successor_weight A.ops (map A.number z.now) b) }
+    {
+        let mut table = Self::new_from_point(alloc, z, A::ONE)?;
+        move_rows_up(table.as_mut_slice());
+        Ok(table)
     }
 
     /// How many variables the table has.
@@ -190,6 +206,19 @@ fn push_weighted<A: Field>(weights: &mut Vec<A>, z: A)
     }
 }
 
+// Each row goes to the next one, and the last one, which has no next, is added to itself. Row 0 becomes zero.
+fn move_rows_up<A: Field>(rows: &mut [A])
+    requires { 0 < length rows.old }
+    ensures { (b : ℕ) → b < length rows.old → entries A.number rows.new b
+        ≡ plus A.ops (shifted 0 (entries A.number rows.old) b) (only_at (length rows.old - 1) (entries A.number rows.old) b) }
+{
+    let last = rows.len() - 1;
+    rows.rotate_right(1);
+    let stays = rows[0];
+    rows[0] = A::ZERO;
+    rows[last] = rows[last].add(stays);
+}
+
 // The first half becomes lo + (hi - lo) r over the two halves.
 fn bind_halves<A: Algebra<Ch>, Ch: Field>(evals: &mut [A], half: usize, r: Ch)
     requires { half + half ≤ length evals.old }
@@ -216,8 +245,10 @@ fn bind_pairs<A: Algebra<Ch>, Ch: Field>(evals: &mut [A], half: usize, r: Ch)
     }
 }
 
-// The value at z of the table that a slice holds, by halves.
-fn eval_slice<A: Field, E: Algebra<A>>(evals: &[A], z: &[E]) -> E
+/// The value at `z` of the table that a slice holds: as many entries as a power of two, whose exponent is the number of coordinates.
+///
+/// It goes by halves, in time linear in the table's length, and takes no memory.
+pub fn eval_slice<A: Field, E: Algebra<A>>(evals: &[A], z: &[E]) -> E
     requires { length evals.now ≡ 2 ^ length z.now }
     ensures { E.number result ≡ value E.ops (entries (λ x. E.embedding (A.number x)) evals.now) (map E.number z.now) }
 {

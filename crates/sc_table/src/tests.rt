@@ -286,3 +286,77 @@ fn bases_orders_and_messages_compared(rt: HostRuntime) -> Result<(), Fail> {
     assert!(rt; message(1, 2) != message(1, 3));
     Ok(())
 }
+
+// That the successor weights of the point of these numbers are the wanted ones.
+fn successor_weights_are(alloc: Global, coords: &[u64], weights: &[u64]) -> Result<bool, NoMemory> {
+    let z = elements(alloc, coords)?;
+    if z.len() > 40 {
+        return Ok(false);
+    }
+    let table = Poly::new_next_from_point(alloc, &z)?;
+    Ok(table.num_variables() == coords.len() && have_numbers(table.as_slice(), weights))
+}
+
+// The figures from here on were worked out apart from the crate: the equality weights of all rows straight from their definition, each
+// moved to the row after it, and the last one left where it is; sums over all rows of them; and each power times its equality weight.
+#[test]
+fn successor_weights_of_a_point(rt: HostRuntime) -> Result<(), Fail> {
+    let alloc = rt.alloc();
+    assert!(rt; successor_weights_are(alloc, &[], &[1])?);
+    assert!(rt; successor_weights_are(alloc, &[5], &[0, 1])?);
+    assert!(rt; successor_weights_are(alloc, &[2, 3], &[0, 2, 65534, 2])?);
+    assert!(rt; successor_weights_are(alloc, &[1, 1], &[0, 0, 0, 1])?);
+    let of_three = [0, 65531, 8, 9, 65525, 12, 65521, 6];
+    assert!(rt; successor_weights_are(alloc, &[2, 3, 4], &of_three)?);
+    let of_row_five = [0, 0, 0, 0, 0, 0, 1, 0];
+    assert!(rt; successor_weights_are(alloc, &[1, 0, 1], &of_row_five)?);
+    Ok(())
+}
+
+// That the three sums of the successor's value are the wanted ones.
+fn successor_sums_are(
+    alloc: Global,
+    z: &[u64],
+    x: &[u64],
+    sums: [u64; 3],
+) -> Result<bool, NoMemory> {
+    let (z, x) = (elements(alloc, z)?, elements(alloc, x)?);
+    if z.len() != x.len() {
+        return Ok(false);
+    }
+    let (carry, done, omega) = Point::eval_next(&z, &x);
+    Ok(have_numbers(&[carry, done, omega], &sums))
+}
+
+#[test]
+fn successor_sums_of_two_points(rt: HostRuntime) -> Result<(), Fail> {
+    let alloc = rt.alloc();
+    assert!(rt; successor_sums_are(alloc, &[], &[], [1, 0, 1])?);
+    assert!(rt; successor_sums_are(alloc, &[2], &[3], [65533, 65534, 6])?);
+    assert!(rt; successor_sums_are(alloc, &[2, 3], &[0, 0], [6, 0, 0])?);
+    assert!(rt; successor_sums_are(alloc, &[2, 3], &[0, 1], [0, 2, 0])?);
+    assert!(rt; successor_sums_are(alloc, &[2, 3], &[1, 1], [0, 65533, 6])?);
+    assert!(rt; successor_sums_are(alloc, &[2, 3], &[4, 5], [72, 65475, 120])?);
+    assert!(rt; successor_sums_are(alloc, &[2, 3, 4], &[5, 6, 7], [62657, 59537, 5040])?);
+    Ok(())
+}
+
+// The value at the point of these numbers of the table of a scalar's powers.
+fn powers_at(alloc: Global, var: u64, x: &[u64]) -> Result<u64, NoMemory> {
+    let value: F65537 = Point::eval_select(F65537::element(var % 65537), &elements(alloc, x)?);
+    Ok(value.index())
+}
+
+// The power 0 of zero is one, so its table has one in row 0 alone.
+#[test]
+fn powers_at_a_point(rt: HostRuntime) -> Result<(), Fail> {
+    let alloc = rt.alloc();
+    assert_eq!(rt; powers_at(alloc, 3, &[])?, 1);
+    assert_eq!(rt; powers_at(alloc, 0, &[])?, 1);
+    assert_eq!(rt; powers_at(alloc, 0, &[3, 4])?, 6);
+    assert_eq!(rt; powers_at(alloc, 7, &[5])?, 31);
+    assert_eq!(rt; powers_at(alloc, 2, &[3, 4])?, 50);
+    assert_eq!(rt; powers_at(alloc, 3, &[2, 5, 7])?, 33478);
+    assert_eq!(rt; powers_at(alloc, 65536, &[2, 3, 4])?, 65530);
+    Ok(())
+}

@@ -20,7 +20,7 @@ pub(crate) fn constraint_of<F: Field>(
     batching: F,
 ) -> Result<Constraint<F, F>, NoMemory>
     requires { All (EqualityFits F.ops.size variables) claims.now }
-    ensures statements { IfOk result (λ c. constraint_statements F.number c ≡ map statement_of claims.now) }
+    ensures statements { IfOk result (λ c. constraint_statements F.number F.number c ≡ map statement_of claims.now) }
     ensures arity { IfOk result (λ c. constraint_arity c ≡ variables) }
     ensures challenge { IfOk result (λ c. constraint_challenge F.number c ≡ F.number batching) }
     ensures power { IfOk result (λ c. constraint_power c ≡ 0) }

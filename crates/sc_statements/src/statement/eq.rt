@@ -1,38 +1,36 @@
 //! Equality statements: that a table has given values at given points.
 
-ghost use Rattle.std.specs.Prelude.{◌≡◌, ℕ, ◌+◌, ◌<◌, ◌≤◌, ◌↔◌, [], ◌∷◌, ◌++◌, All, length, map, slice_index, IsTrue, IfOk, OnOk, OnErr, true, false};
+ghost use Rattle.std.specs.Prelude.{◌≡◌, ◌+◌, ◌<◌, ◌↔◌, [], ◌∷◌, ◌++◌, All, length, map, slice_index, IsTrue, IfOk, OnOk, OnErr, true, false};
 ghost use Rattle.std.specs.Iterator.{YieldsFirstBy, item_count};
 ghost use Rattle.sc_definitions.specs.Ring.{plus, power};
-ghost use Rattle.sc_definitions.specs.Tables.{value};
-ghost use Rattle.sc_definitions.specs.Statements.{equality, claims, arity_of, AllTrueOf, first_false_claim, true_values, claimed_values, batched_weight, batched_claim};
+ghost use Rattle.sc_definitions.specs.Statements.{equality, claims, arity_of, AllTrueOf, true_values, claimed_values, batched_claim};
 ghost use Rattle.sc_table.specs.Polys.{variables_of, table_of};
 ghost use Rattle.sc_statements.specs.Batches.{AddsBatch, WritesBatch, IsUnchanged};
 
-use crate::weights::{add_weights, clear};
-use sc_definitions::FalseClaim;
+use crate::evaluated::EvaluatedConstraint;
+use crate::list::{StatementList, add_batch, add_values, all_true};
+use crate::weights::{Weights, clear};
 use sc_field::{Algebra, ExtensionField, Field, NoMemory};
 use sc_table::{Point, Poly};
+use sc_weights::RowWeights;
 use std::alloc::Global;
-
-// That a table has the value `eval` at `point`.
-#[derive(Drop)]
-pub(crate) struct EvaluatedConstraint<EF> {
-    point: Point<EF>,
-    eval: EF,
-}
 
 /// Statements that a table has given values at given points, all of as many coordinates as the table
 /// has variables.
 #[derive(Drop)]
 pub struct EqStatement<EF> {
     num_variables: usize,
-    constraints: Vec<EvaluatedConstraint<EF>>,
-    ghost fits: { All (λ c. length c.point ≡ num_variables) constraints.items },
+    constraints: Vec<EvaluatedConstraint<Point<EF>, EF>>,
+    ghost fits: { All (λ c. length c.weights ≡ num_variables) constraints.items },
 }
+
+/// The weights of an equality statement at a point: the equality weights of that point and of each statement's own, in order.
+pub type EqWeights<'a, EF> = Weights<'a, EqStatement<EF>, EF>;
 
 impl<EF: Field> EqStatement<EF> {
     ghost use Rattle.sc_statements.specs.EqStatements.{eq_arity, eq_statements};
-    ghost use Rattle.sc_statements.specs.EqIterators.{pairs_left, weights_left, weight_values};
+    ghost use Rattle.sc_statements.specs.EqIterators.{pairs_left};
+    ghost use Rattle.sc_statements.specs.Weights.{weight_values, weights_from};
 
     /// No statement yet, on tables of `num_variables` variables.
     pub fn initialize(alloc: Global, num_variables: usize) -> Self
@@ -82,12 +80,10 @@ impl<EF: Field> EqStatement<EF> {
     /// points. `row` has as many coordinates as the tables have variables.
     pub fn weights_at<'a>(&'a self, row: &'a Point<EF>) -> EqWeights<'a, EF>
         requires { length row.now ≡ eq_arity self.now }
-        ensures { weights_left EF.ops EF.number result ≡ weight_values EF.ops (map EF.number row.now) (eq_statements EF.number self.now) }
+        ensures { weights_from EF.ops (map EF.number result.row.now) (eq_statements EF.number result.statements.now) result.index
+            ≡ weight_values EF.ops (map EF.number row.now) (eq_statements EF.number self.now) }
     {
-        EqWeights {
-            rest: self.constraints.as_slice(),
-            row,
-        }
+        Weights::new(self, row)
     }
 
     /// Adds the statement that the table has the value `eval` at `point`, which has as many coordinates
@@ -99,7 +95,10 @@ impl<EF: Field> EqStatement<EF> {
             ≡ eq_statements EF.number self.old ++ claims (equality (map EF.number point)) (EF.number eval) ∷ []) }
         ensures refused { OnErr result (eq_statements EF.number self.new ≡ eq_statements EF.number self.old) }
     {
-        self.constraints.push(EvaluatedConstraint { point, eval })?;
+        self.constraints.push(EvaluatedConstraint {
+            weights: point,
+            eval,
+        })?;
         Ok(())
     }
 
@@ -118,16 +117,17 @@ impl<EF: Field> EqStatement<EF> {
     }
 
     // The points and the values, in memory of their own.
-    fn copied_constraints(&self, alloc: Global) -> Result<Vec<EvaluatedConstraint<EF>>, NoMemory>
+    fn copied_constraints(
+        &self,
+        alloc: Global,
+    ) -> Result<Vec<EvaluatedConstraint<Point<EF>, EF>>, NoMemory>
         ensures { IfOk result (λ v. v.items ≡ self.now.constraints.items) }
     {
         let mut copies = Vec::with_capacity(alloc, self.constraints.len())?;
         for constraint in &self.constraints {
-            let coords = Vec::from_slice(alloc, constraint.point.as_slice())?;
-            copies.push(EvaluatedConstraint {
-                point: Point::new(coords),
-                eval: constraint.eval,
-            })?;
+            let weights = constraint.weights.copy(alloc)?;
+            let eval = constraint.eval;
+            copies.push(EvaluatedConstraint { weights, eval })?;
         }
         Ok(copies)
     }
@@ -138,7 +138,7 @@ impl<EF: Field> EqStatement<EF> {
         requires { variables_of poly.now ≡ eq_arity self.now }
         ensures { IsTrue result ↔ AllTrueOf EF.ops (eq_arity self.now) (table_of EF.number poly.now) (eq_statements EF.number self.now) }
     {
-        self.first_false(poly).is_none()
+        all_true::<EF, EF, Self>(self, poly)
     }
 
     /// The true value of statement number `index`, which is below [`EqStatement::len`]: the table's value
@@ -151,7 +151,7 @@ impl<EF: Field> EqStatement<EF> {
         ensures { EF.number result
             ≡ slice_index (true_values EF.ops (eq_arity self.now) (λ b. EF.embedding (table_of F.number table.now b)) (eq_statements EF.number self.now)) index }
     {
-        table.eval(&self.constraints[index].point)
+        self.truth_at(index, table)
     }
 
     /// The value that statement number `index`, which is below [`EqStatement::len`], claims.
@@ -159,27 +159,7 @@ impl<EF: Field> EqStatement<EF> {
         requires { index < length (eq_statements EF.number self.now) }
         ensures { EF.number result ≡ slice_index (claimed_values (eq_statements EF.number self.now)) index }
     {
-        self.constraints[index].eval
-    }
-
-    // The first statement that is false of the table, numbered from 0 on. It takes no memory.
-    pub(crate) fn first_false<F: Field>(&self, table: &Poly<F>) -> Option<FalseClaim>
-    where
-        EF: Algebra<F>,
-        requires { variables_of table.now ≡ eq_arity self.now }
-        ensures { result ≡ first_false_claim EF.ops (eq_arity self.now) (λ b. EF.embedding (table_of F.number table.now b)) 0 (eq_statements EF.number self.now) }
-    {
-        for (i, constraint) in self.constraints.iter().enumerate() {
-            let actual: EF = table.eval(&constraint.point);
-            if actual != constraint.eval {
-                return Some(FalseClaim {
-                    statement: i,
-                    claimed: constraint.eval.index(),
-                    actual: actual.index(),
-                });
-            }
-        }
-        None
+        self.claim_at(index)
     }
 
     /// Adds to the sum the claimed values times the powers of `gamma`: that of statement number i times
@@ -188,7 +168,8 @@ impl<EF: Field> EqStatement<EF> {
         ensures { EF.number claimed_eval.new
             ≡ plus EF.ops (EF.number claimed_eval.old) (batched_claim EF.ops (EF.number gamma) shift (eq_statements EF.number self.now)) }
     {
-        let _next = self.add_values(claimed_eval, gamma, gamma.exp_u64(shift as u64));
+        let first = gamma.exp_u64(shift as u64);
+        let _next = add_values(self, claimed_eval, gamma, first);
     }
 
     /// Takes the statements into a table of weights and a sum, statement number i times the power
@@ -229,82 +210,46 @@ impl<EF: Field> EqStatement<EF> {
             clear(acc_weights);
         }
         let first = challenge.exp_u64(shift as u64);
-        let _next = self.add_batch(acc_weights, acc_sum, challenge, first);
+        let _next = add_batch(self, acc_weights, acc_sum, challenge, first);
         Ok(())
     }
+}
 
-    // Adds the weights to the table and the values to the sum, those of the first statement times `first`,
-    // and those of each next one times the challenge once more. The answer is the factor of a statement
-    // behind the last: a factor and no number of its power, since powers over groups may pass any type.
-    pub(crate) fn add_batch(
-        &self,
-        weights: &mut Poly<EF>,
-        sum: &mut EF,
-        challenge: EF,
-        first: EF,
-    ) -> EF
-        requires { variables_of weights.old ≡ eq_arity self.now }
-        ensures variables { variables_of weights.new ≡ variables_of weights.old }
-        ensures added { (p : ℕ) → EF.number first ≡ power EF.ops (EF.number challenge) p →
-            AddsBatch EF.ops (eq_arity self.now) (EF.number challenge) p (eq_statements EF.number self.now)
-            (table_of EF.number weights.old) (table_of EF.number weights.new) (EF.number sum.old) (EF.number sum.new) }
-        ensures next { (p : ℕ) → EF.number first ≡ power EF.ops (EF.number challenge) p →
-            EF.number result ≡ power EF.ops (EF.number challenge) (p + length (eq_statements EF.number self.now)) }
-    {
-        let mut coefficient = first;
-        for constraint in &self.constraints {
-            add_weights(weights, constraint.point.as_slice(), coefficient);
-            coefficient = coefficient.mul(challenge);
-        }
-        self.add_values(sum, challenge, first)
+impl<EF: Field> StatementList<EF> for EqStatement<EF> {
+    ghost use Rattle.sc_statements.specs.EqStatements.{eq_arity, eq_statements};
+
+    ghost arity = { eq_arity };
+
+    ghost statements = { eq_statements EF.number };
+
+    fn count(&self) -> usize {
+        self.constraints.len()
     }
 
-    // The same with the values alone.
-    pub(crate) fn add_values(&self, sum: &mut EF, challenge: EF, first: EF) -> EF
-        ensures added { (p : ℕ) → EF.number first ≡ power EF.ops (EF.number challenge) p →
-            EF.number sum.new ≡ plus EF.ops (EF.number sum.old) (batched_claim EF.ops (EF.number challenge) p (eq_statements EF.number self.now)) }
-        ensures next { (p : ℕ) → EF.number first ≡ power EF.ops (EF.number challenge) p →
-            EF.number result ≡ power EF.ops (EF.number challenge) (p + length (eq_statements EF.number self.now)) }
-    {
-        let mut coefficient = first;
-        for constraint in &self.constraints {
-            *sum = sum.add(coefficient.mul(constraint.eval));
-            coefficient = coefficient.mul(challenge);
-        }
-        coefficient
+    fn claim_at(&self, index: usize) -> EF {
+        self.constraints[index].eval
     }
 
-    // Adds the values at `row` of the weights to the sum, that of the first statement times `first`, and
-    // that of each next one times the challenge once more. `row` has as many coordinates as the tables
-    // have variables. The answer is the factor of a statement behind the last.
-    pub(crate) fn add_weights_at(
-        &self,
-        sum: &mut EF,
-        row: &Point<EF>,
-        challenge: EF,
-        first: EF,
-    ) -> EF
-        requires { length row.now ≡ eq_arity self.now }
-        ensures added { (p : ℕ) → EF.number first ≡ power EF.ops (EF.number challenge) p →
-            EF.number sum.new ≡ plus EF.ops (EF.number sum.old)
-            (value EF.ops (batched_weight EF.ops (EF.number challenge) p (eq_statements EF.number self.now)) (map EF.number row.now)) }
-        ensures next { (p : ℕ) → EF.number first ≡ power EF.ops (EF.number challenge) p →
-            EF.number result ≡ power EF.ops (EF.number challenge) (p + length (eq_statements EF.number self.now)) }
+    fn truth_at<A: Field>(&self, index: usize, table: &Poly<A>) -> EF
+    where
+        EF: Algebra<A>,
     {
-        let mut coefficient = first;
-        for constraint in &self.constraints {
-            let weight = Point::eval_eq(constraint.point.as_slice(), row.as_slice());
-            *sum = sum.add(coefficient.mul(weight));
-            coefficient = coefficient.mul(challenge);
-        }
-        coefficient
+        self.constraints[index].weights.true_value(table)
+    }
+
+    fn add_weights(&self, index: usize, table: &mut Poly<EF>, scale: EF) {
+        self.constraints[index].weights.add_to(table, scale);
+    }
+
+    fn weight_at(&self, index: usize, row: &Point<EF>) -> EF {
+        self.constraints[index].weights.value_at(row)
     }
 }
 
 /// The points and the claimed values of an equality statement, in order. [`EqStatement::iter`] makes it.
 #[derive(Drop)]
 pub struct EqIter<'a, EF> {
-    rest: &'a [EvaluatedConstraint<EF>],
+    rest: &'a [EvaluatedConstraint<Point<EF>, EF>],
 }
 
 impl<'a, EF: Field> Iterator for EqIter<'a, EF> {
@@ -319,32 +264,6 @@ impl<'a, EF: Field> Iterator for EqIter<'a, EF> {
     fn next(&mut self) -> Option<(&'a Point<EF>, &'a EF)> {
         let (first, rest) = self.rest.split_first()?;
         self.rest = rest;
-        Some((&first.point, &first.eval))
-    }
-}
-
-/// The weights of an equality statement at a point, one for each statement, in order.
-/// [`EqStatement::weights_at`] makes it.
-#[derive(Drop)]
-pub struct EqWeights<'a, EF> {
-    rest: &'a [EvaluatedConstraint<EF>],
-    row: &'a Point<EF>,
-    ghost fits: { All (λ c. length c.point ≡ length row.now) rest.now },
-}
-
-impl<'a, EF: Field> Iterator for EqWeights<'a, EF> {
-    ghost use Rattle.sc_statements.specs.EqIterators.{weights_left};
-
-    type Item = EF;
-
-    ghost next_gives = { YieldsFirstBy EF.number (weights_left EF.ops EF.number) };
-
-    ghost remaining = { item_count (weights_left EF.ops EF.number) };
-
-    fn next(&mut self) -> Option<EF> {
-        let (first, rest) = self.rest.split_first()?;
-        let weight = Point::eval_eq(first.point.as_slice(), self.row.as_slice());
-        self.rest = rest;
-        Some(weight)
+        Some((&first.weights, &first.eval))
     }
 }

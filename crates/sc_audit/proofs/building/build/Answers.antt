@@ -15,7 +15,7 @@ returns-in-Some-clause-refused g c = λ strategy e is.
     let N = g.EF.Field.number in
     let job = c.args.job.now in
     let found : told (false_claim_of g.EF.Field.ops (problem_in g.F.Field.number N g.EF.Algebra.embedding job)) ≡ Some c.in-Some.fault =
-    ap (λ t. told (first_false_claim g.EF.Field.ops (constraint_arity job.constraint) (λ b. g.EF.Algebra.embedding (t b)) 0 (constraint_statements N job.constraint))) (sym c.in_ok-table.ensures.table)
+    ap (λ t. told (first_false_claim g.EF.Field.ops (constraint_arity job.constraint) (λ b. g.EF.Algebra.embedding (t b)) 0 (constraint_statements (λ x. g.EF.Algebra.embedding (g.F.Field.number x)) N job.constraint))) (sym c.in_ok-table.ensures.table)
     ∙ sym c.first_false.ensures.found ∙ c.in-Some.is in
     inl (ap Err (same_Some _ _ (sym (ap false_refusal found) ∙ is)))
 
@@ -24,7 +24,7 @@ returns-clause-refused g c = λ strategy e is.
     let N = g.EF.Field.number in
     let job = c.args.job.now in
     let found : told (false_claim_of g.EF.Field.ops (problem_in g.F.Field.number N g.EF.Algebra.embedding job)) ≡ None =
-    ap (λ t. told (first_false_claim g.EF.Field.ops (constraint_arity job.constraint) (λ b. g.EF.Algebra.embedding (t b)) 0 (constraint_statements N job.constraint))) (sym c.in_ok-table.ensures.table)
+    ap (λ t. told (first_false_claim g.EF.Field.ops (constraint_arity job.constraint) (λ b. g.EF.Algebra.embedding (t b)) 0 (constraint_statements (λ x. g.EF.Algebra.embedding (g.F.Field.number x)) N job.constraint))) (sym c.in_ok-table.ensures.table)
     ∙ sym c.first_false.ensures.found ∙ c.in_default.is in
     let clash = sym (ap false_refusal found) ∙ is in cc
 

@@ -46,7 +46,7 @@ report_on-requires-clause-residual g c =
     let job = c.args.job.now in
     let f : ℕ → ℕ = λ b. g.EF.Algebra.embedding (entries g.F.Field.number job.table.items b) in
     let n = constraint_arity job.constraint in
-    let p = stated (order_of job.order) n f (constraint_statements N job.constraint) (constraint_challenge N job.constraint) (constraint_power job.constraint) in
+    let p = stated (order_of job.order) n f (constraint_statements (λ x. g.EF.Algebra.embedding (g.F.Field.number x)) N job.constraint) (constraint_challenge N job.constraint) (constraint_power job.constraint) in
     let seed = ap (λ d. words (quadratic_seed d evaluation job.pow_bits c.num_variables.result)) (sym g.met.EF.ExtensionField.degree_is)
     ∙ ap (λ k. words (quadratic_seed E.degree evaluation job.pow_bits k)) c.num_variables.ensures in
     let claim : N c.combine_evals.new.eval ≡ claim_of o p =
@@ -61,7 +61,7 @@ returns-clause-report g c =
     let job = c.args.job.now in
     let f : ℕ → ℕ = λ b. g.EF.Algebra.embedding (entries g.F.Field.number job.table.items b) in
     let n = constraint_arity job.constraint in
-    let p = stated (order_of job.order) n f (constraint_statements N job.constraint) (constraint_challenge N job.constraint) (constraint_power job.constraint) in
+    let p = stated (order_of job.order) n f (constraint_statements (λ x. g.EF.Algebra.embedding (g.F.Field.number x)) N job.constraint) (constraint_challenge N job.constraint) (constraint_power job.constraint) in
     let seed = ap (λ d. words (quadratic_seed d evaluation job.pow_bits c.num_variables.result)) (sym g.met.EF.ExtensionField.degree_is)
     ∙ ap (λ k. words (quadratic_seed E.degree evaluation job.pow_bits k)) c.num_variables.ensures in
     let claim : N c.combine_evals.new.eval ≡ claim_of o p =
@@ -83,7 +83,7 @@ returns-clause-caused g c = λ e is.
     let job = c.args.job.now in
     let f : ℕ → ℕ = λ b. g.EF.Algebra.embedding (entries g.F.Field.number job.table.items b) in
     let n = constraint_arity job.constraint in
-    let p = stated (order_of job.order) n f (constraint_statements N job.constraint) (constraint_challenge N job.constraint) (constraint_power job.constraint) in
+    let p = stated (order_of job.order) n f (constraint_statements (λ x. g.EF.Algebra.embedding (g.F.Field.number x)) N job.constraint) (constraint_challenge N job.constraint) (constraint_power job.constraint) in
     let seed = ap (λ d. words (quadratic_seed d evaluation job.pow_bits c.num_variables.result)) (sym g.met.EF.ExtensionField.degree_is)
     ∙ ap (λ k. words (quadratic_seed E.degree evaluation job.pow_bits k)) c.num_variables.ensures in
     let claim : N c.combine_evals.new.eval ≡ claim_of o p =
@@ -114,7 +114,7 @@ returns-in-Err-clause-caused g c = λ e is.
     let f : ℕ → ℕ = λ b. g.EF.Algebra.embedding (entries g.F.Field.number job.table.items b) in
     let n = constraint_arity job.constraint in
     let bits = job.pow_bits in
-    let p = stated (order_of job.order) n f (constraint_statements N job.constraint) (constraint_challenge N job.constraint) (constraint_power job.constraint) in
+    let p = stated (order_of job.order) n f (constraint_statements (λ x. g.EF.Algebra.embedding (g.F.Field.number x)) N job.constraint) (constraint_challenge N job.constraint) (constraint_power job.constraint) in
     let proof = c.args.proof.now in
     let given = given_in g.F.Field.number N proof in
     let seed = ap (λ d. words (quadratic_seed d evaluation bits c.num_variables.result)) (sym g.met.EF.ExtensionField.degree_is)

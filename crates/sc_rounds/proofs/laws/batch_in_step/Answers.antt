@@ -12,27 +12,27 @@ pub returns-clause-challenges : goal.returns-clause-challenges
 returns-clause-challenges g c =
     same_challenges _ _ _ _ _ _ _ _ _ _ _ _ _ _ _ _ _ _ _ _ _ _ _ c.requires.messages c.requires.witnesses c.requires.rules
     (ap (λ t. t ++ words (quadratic_seed g.EF.ExtensionField.DEGREE evaluation c.args.pow_bits c.args.folding_factor)) c.requires.history)
-    (claim_begun g.EF.Field.ops g.EF.Field.number c.args.constraint _ _ _ c.claimed_sum.ensures.number c.with_claim-claim.ensures) c.in_ok-drawn.ensures.batch _ _ _ c.in_ok-replayed.ensures.ok
+    (claim_begun g.EF.Field.ops (λ x. g.EF.Algebra.embedding (g.F.Field.number x)) g.EF.Field.number c.args.constraint _ _ _ c.claimed_sum.ensures.number c.with_claim-claim.ensures) c.in_ok-drawn.ensures.batch _ _ _ c.in_ok-replayed.ensures.ok
 
 pub returns-clause-histories : goal.returns-clause-histories
 returns-clause-histories g c =
     same_histories _ _ _ _ _ _ _ _ _ _ _ _ _ _ _ _ _ _ _ _ _ _ _ c.requires.messages c.requires.witnesses c.requires.rules
     (ap (λ t. t ++ words (quadratic_seed g.EF.ExtensionField.DEGREE evaluation c.args.pow_bits c.args.folding_factor)) c.requires.history)
-    (claim_begun g.EF.Field.ops g.EF.Field.number c.args.constraint _ _ _ c.claimed_sum.ensures.number c.with_claim-claim.ensures) c.in_ok-drawn.ensures.batch _ _ _ c.in_ok-replayed.ensures.ok
+    (claim_begun g.EF.Field.ops (λ x. g.EF.Algebra.embedding (g.F.Field.number x)) g.EF.Field.number c.args.constraint _ _ _ c.claimed_sum.ensures.number c.with_claim-claim.ensures) c.in_ok-drawn.ensures.batch _ _ _ c.in_ok-replayed.ensures.ok
 
 pub returns-clause-claims : goal.returns-clause-claims
 returns-clause-claims g c =
     same_claims _ _ _ _ _ _ _ _ _ _ _ _ _ _ _ _ _ _ _ _ _ _ _ c.requires.messages c.requires.witnesses c.requires.rules
     (ap (λ t. t ++ words (quadratic_seed g.EF.ExtensionField.DEGREE evaluation c.args.pow_bits c.args.folding_factor)) c.requires.history)
-    (claim_begun g.EF.Field.ops g.EF.Field.number c.args.constraint _ _ _ c.claimed_sum.ensures.number c.with_claim-claim.ensures) c.in_ok-drawn.ensures.batch _ _ _ c.in_ok-replayed.ensures.ok
+    (claim_begun g.EF.Field.ops (λ x. g.EF.Algebra.embedding (g.F.Field.number x)) g.EF.Field.number c.args.constraint _ _ _ c.claimed_sum.ensures.number c.with_claim-claim.ensures) c.in_ok-drawn.ensures.batch _ _ _ c.in_ok-replayed.ensures.ok
 
 pub returns-in_err-replayed-clause-causes : goal.returns-in_err-replayed-clause-causes
 returns-in_err-replayed-clause-causes g c =
     let same_history = ap (λ t. t ++ words (quadratic_seed g.EF.ExtensionField.DEGREE evaluation c.args.pow_bits c.args.folding_factor)) c.requires.history in
     let kept = c.compute_sumcheck_polynomials.new.sumcheck_data in
     let batch = c.in_ok-drawn.ensures.batch in
-    let rounds = message_count _ _ _ _ _ _ _ _ _ _ _ _ _ _ _ _ _ _ _ _ _ _ _ c.requires.messages c.requires.witnesses c.requires.rules same_history (claim_begun g.EF.Field.ops g.EF.Field.number c.args.constraint _ _ _ c.claimed_sum.ensures.number c.with_claim-claim.ensures) batch c.args.folding_factor c.in_ok-drawn.ensures.fewer in
-    let found = found_count _ _ _ _ _ _ _ _ _ _ _ _ _ _ _ _ _ _ _ _ _ _ _ c.requires.messages c.requires.witnesses c.requires.rules same_history (claim_begun g.EF.Field.ops g.EF.Field.number c.args.constraint _ _ _ c.claimed_sum.ensures.number c.with_claim-claim.ensures) batch c.args.folding_factor c.in_ok-drawn.ensures.fewer in
+    let rounds = message_count _ _ _ _ _ _ _ _ _ _ _ _ _ _ _ _ _ _ _ _ _ _ _ c.requires.messages c.requires.witnesses c.requires.rules same_history (claim_begun g.EF.Field.ops (λ x. g.EF.Algebra.embedding (g.F.Field.number x)) g.EF.Field.number c.args.constraint _ _ _ c.claimed_sum.ensures.number c.with_claim-claim.ensures) batch c.args.folding_factor c.in_ok-drawn.ensures.fewer in
+    let found = found_count _ _ _ _ _ _ _ _ _ _ _ _ _ _ _ _ _ _ _ _ _ _ _ c.requires.messages c.requires.witnesses c.requires.rules same_history (claim_begun g.EF.Field.ops (λ x. g.EF.Algebra.embedding (g.F.Field.number x)) g.EF.Field.number c.args.constraint _ _ _ c.claimed_sum.ensures.number c.with_claim-claim.ensures) batch c.args.folding_factor c.in_ok-drawn.ensures.fewer in
     elim c.in_err-replayed.ensures.causes [
       | inl other ↦ absurd (other (kept.polynomial_evaluations.ok.0 ∙ sym (length-map _ _) ∙ rounds))
       | inr more ↦ elim more [
@@ -41,7 +41,7 @@ returns-in_err-replayed-clause-causes g c =
           | inl memory ↦ (let none : c.in_err-replayed.field-0.0 ≡ NoMemory = cc in out_of_memory _ (rw none at c.from_residual-in_err-replayed.ensures.1))
           | inr invalid ↦
               let named = invalid_is _ invalid in
-              absurd (none_invalid _ _ _ _ _ _ _ _ _ _ _ _ _ _ _ _ _ _ _ _ _ _ _ c.requires.messages c.requires.witnesses c.requires.rules same_history (claim_begun g.EF.Field.ops g.EF.Field.number c.args.constraint _ _ _ c.claimed_sum.ensures.number c.with_claim-claim.ensures) batch
+              absurd (none_invalid _ _ _ _ _ _ _ _ _ _ _ _ _ _ _ _ _ _ _ _ _ _ _ c.requires.messages c.requires.witnesses c.requires.rules same_history (claim_begun g.EF.Field.ops (λ x. g.EF.Algebra.embedding (g.F.Field.number x)) g.EF.Field.number c.args.constraint _ _ _ c.claimed_sum.ensures.number c.with_claim-claim.ensures) batch
               named.0 _ _ (c.in_err-replayed.ensures.invalid named.0 named.1 named.2).1)
         ]
       ]

@@ -4,12 +4,17 @@ use Rattle.std.proofs.lemmas.List.{length-map, map_push}
 use Rattle.std.proofs.lemmas.Iterator.Consumers.{YieldsList-from_first, YieldsList-turn}
 use Rattle.sc_definitions.specs.Ring.{Ops}
 use Rattle.sc_definitions.specs.Tables.{value}
-use Rattle.sc_definitions.specs.Statements.{Statement, equality, arity_of, IsTrueOf, AllTrueOf}
+use Rattle.sc_definitions.specs.Statements.{Statement, equality, arity_of, true_value, IsTrueOf, AllTrueOf}
+use Rattle.sc_definitions.proofs.StatementLaws.{true_value-equality}
 use Rattle.sc_table.specs.Polys.{table_of}
 use Rattle.sc_statements.specs.EqIterators.{pair_statement, pairs_left}
 use Rattle.sc_statements.specs.EqStatements.{eq_statements}
-use Rattle.sc_statements.proofs.FalseSteps.{other_from_ne, same_from_ne, true_value-at}
+use Rattle.sc_statements.proofs.FalseSteps.{other_from_ne, same_from_ne}
 use Rattle.sc_statements.proofs.tests.all_true.Goals as goal
+
+-- the true value of an equality statement, by the table's value at its point
+true_value-at : (o : Ops) (n : ℕ) (f : ℕ → ℕ) (zs : List ℕ) (actual : ℕ) → length zs ≡ n → actual ≡ value o f zs → true_value o n f (equality zs) ≡ actual
+true_value-at o n f zs actual arity is = ap (λ k. true_value o k f (equality zs)) (sym arity) ∙ true_value-equality o f zs ∙ sym is
 
 module _ (o : Ops) (n : ℕ) (f : ℕ → ℕ) where
   all-push : (ss : List Statement) (s : Statement) → AllTrueOf o n f ss → IsTrueOf o n f s → AllTrueOf o n f (ss ++ s ∷ [])

@@ -8,5 +8,5 @@ abbrev pub invariant-loop-constraint : goal.invariant-loop-constraint
 invariant-loop-constraint g l =
     let f = g.EF.Field in
     let rs = map f.number l.challenge in
-    plus f.ops (f.number l.sum) (constraints_value f.ops f.number (order_of l.self) rs (drop l.constraint-index l.constraints))
-    ≡ constraints_value f.ops f.number (order_of l.self) rs l.constraints
+    plus f.ops (f.number l.sum) (constraints_value f.ops (λ x. g.EF.Algebra.embedding (g.F.Field.number x)) f.number (order_of l.self) rs (drop l.constraint-index l.constraints))
+    ≡ constraints_value f.ops (λ x. g.EF.Algebra.embedding (g.F.Field.number x)) f.number (order_of l.self) rs l.constraints

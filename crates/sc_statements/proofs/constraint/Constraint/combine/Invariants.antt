@@ -9,6 +9,6 @@ invariant-loop-group g l =
     let f = g.EF.Field in
     record {
       variables : variables_of l.combined ≡ variables_of l.fn.combined;
-      combined : IsCombined (group_statements f.number) f.ops l.self.num_variables (f.number l.self.challenge) l.self.initial_power l.group-items l.group-index
+      combined : IsCombined (group_statements (λ x. g.EF.Algebra.embedding (g.F.Field.number x)) f.number) f.ops l.self.num_variables (f.number l.self.challenge) l.self.initial_power l.group-items l.group-index
           (table_of f.number l.fn.combined) (table_of f.number l.combined) (f.number l.fn.eval) (f.number l.eval) (f.number l.coefficient);
     }

@@ -11,5 +11,5 @@ loop-group-init g c =
 pub loop-group-preserved : goal.loop-group-preserved
 loop-group-preserved g c =
     let f = g.EF.Field in
-    sum-group (group_statements f.number) f.ops g.met.EF.Field.is_field.ring _ _ c.deref-group-items.result.now c.loop-group.group-index c.group-item.result _ _ _ _ _
+    sum-group (group_statements (λ x. g.EF.Algebra.embedding (g.F.Field.number x)) f.number) f.ops g.met.EF.Field.is_field.ring _ _ c.deref-group-items.result.now c.loop-group.group-index c.group-item.result _ _ _ _ _
     c.loop-group.invariant c.loop-group-test.true c.group-item.is c.add_values-coefficient.ensures.added c.add_values-coefficient.ensures.next

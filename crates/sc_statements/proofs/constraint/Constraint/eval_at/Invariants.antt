@@ -9,5 +9,5 @@ abbrev pub invariant-loop-group : goal.invariant-loop-group
 invariant-loop-group g l =
     let f = g.EF.Field in
     IsSummed f.ops (f.number l.self.challenge) l.self.initial_power
-    (flat_map (λ x. map (valued f.ops (map f.number l.row)) (group_statements f.number x)) (take l.group-index l.group-items))
+    (flat_map (λ x. map (valued f.ops (map f.number l.row)) (group_statements (λ x. g.EF.Algebra.embedding (g.F.Field.number x)) f.number x)) (take l.group-index l.group-items))
     0 (f.number l.sum) (f.number l.coefficient)

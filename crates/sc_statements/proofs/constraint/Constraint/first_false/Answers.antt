@@ -5,7 +5,7 @@ use Rattle.sc_statements.proofs.constraint.Constraint.first_false.Goals as goal
 
 pub returns-in-Some-clause-found : goal.returns-in-Some-clause-found
 returns-in-Some-clause-found g c =
-    told-found (group_statements g.EF.Field.number) group_arity _ _ _ c.deref-group-items.result.now _ c.loop-group.group-index c.loop-group.passed
+    told-found (group_statements (λ x. g.EF.Algebra.embedding (g.F.Field.number x)) g.EF.Field.number) group_arity _ _ _ c.deref-group-items.result.now _ c.loop-group.group-index c.loop-group.passed
     c.group-item.result _ c.in-Some.claim _ c.loop-group.invariant c.args.self.now.fits c.deref-group-items.ensures.value c.loop-group-test.true c.group-item.is
     c.first_false.ensures c.in-Some.is c.saturating_add.ensures
 
@@ -14,13 +14,13 @@ returns-in-Some-clause-exact g c = λ few. returns-in-Some-clause-found g c ∙ 
 
 pub loop-group-preserved : goal.loop-group-preserved
 loop-group-preserved g c =
-    IsSearched-more (group_statements g.EF.Field.number) group_arity _ _ _ c.deref-group-items.result.now _ c.loop-group.group-index c.loop-group.passed
+    IsSearched-more (group_statements (λ x. g.EF.Algebra.embedding (g.F.Field.number x)) g.EF.Field.number) group_arity _ _ _ c.deref-group-items.result.now _ c.loop-group.group-index c.loop-group.passed
     c.group-item.result _ _ _ c.loop-group.invariant c.args.self.now.fits c.deref-group-items.ensures.value c.loop-group-test.true c.group-item.is
     c.first_false.ensures c.in_default.not-Some c.len.ensures c.saturating_add-passed.ensures
 
 pub returns-clause-found : goal.returns-clause-found
 returns-clause-found g c =
-    told-none (group_statements g.EF.Field.number) group_arity _ _ _ c.deref-group-items.result.now _ c.loop-group.group-index c.loop-group.passed
+    told-none (group_statements (λ x. g.EF.Algebra.embedding (g.F.Field.number x)) g.EF.Field.number) group_arity _ _ _ c.deref-group-items.result.now _ c.loop-group.group-index c.loop-group.passed
     c.loop-group.invariant c.deref-group-items.ensures.value c.loop-group-test.false
 
 pub returns-clause-exact : goal.returns-clause-exact

@@ -6,4 +6,4 @@ use Rattle.sc_statements.proofs.constraint.Constraint.first_false.Given as goal
 abbrev pub invariant-loop-group : goal.invariant-loop-group
 invariant-loop-group g l =
     let f = g.EF.Field in
-    IsSearched (group_statements f.number) f.ops l.self.num_variables (λ b. g.EF.Algebra.embedding (table_of g.F.Field.number l.table b)) l.group-items l.group-index l.passed
+    IsSearched (group_statements (λ x. g.EF.Algebra.embedding (g.F.Field.number x)) f.number) f.ops l.self.num_variables (λ b. g.EF.Algebra.embedding (table_of g.F.Field.number l.table b)) l.group-items l.group-index l.passed

@@ -1,6 +1,7 @@
 use Rattle.std.proofs.Common.{◌≡◌, ℕ, ◌^◌, ◌<◌, Bool, true, false, not, refl, ◌∙◌, ap, arith, eqb-true}
 use Rattle.sc_table.specs.Polys.{table_of}
-use Rattle.sc_statements.proofs.BatchSteps.{AddsBatch-none, WritesBatch-cleared, entry-below}
+use Rattle.sc_table.proofs.EntryLaws.{entry-below}
+use Rattle.sc_statements.proofs.BatchSteps.{AddsBatch-none, WritesBatch-cleared}
 use Rattle.sc_statements.proofs.statement.eq.EqStatement.combine_hypercube.Goals as goal
 use Rattle.sc_statements.proofs.statement.eq.EqStatement.combine_hypercube.Goals.{then-not-this, else-not-this}
 

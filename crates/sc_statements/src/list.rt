@@ -1,0 +1,154 @@
+//! Groups of statements of one kind, and what is taken from them one statement after the other.
+
+ghost use Rattle.std.specs.Prelude.{◌≡◌, ℕ, ◌+◌, ◌^◌, ◌<◌, ◌↔◌, List, length, map, slice_index, IsTrue};
+ghost use Rattle.sc_definitions.specs.Ring.{plus, times, power};
+ghost use Rattle.sc_definitions.specs.Tables.{value};
+ghost use Rattle.sc_definitions.specs.Statements.{Statement, AllTrueOf, first_false_claim, true_values, claimed_values, weights_at, batched_weight, batched_claim};
+ghost use Rattle.sc_table.specs.Polys.{variables_of, table_of};
+ghost use Rattle.sc_statements.specs.Batches.{AddsBatch};
+ghost use Rattle.sc_statements.specs.Weights.{weight_values};
+
+use sc_definitions::FalseClaim;
+use sc_field::{Algebra, Field};
+use sc_table::{Point, Poly};
+
+/// Statements of one kind on tables of one number of variables, in order, each by its number from 0 on.
+pub trait StatementList<EF: Field>: Drop {
+    // How many variables the tables have that it speaks of.
+    ghost arity: { Self → ℕ };
+
+    // The statements, in order.
+    ghost statements: { Self → List Statement };
+
+    /// How many statements there are.
+    fn count(&self) -> usize
+        ensures { result ≡ length (statements self.now) };
+
+    /// The value that a statement claims.
+    fn claim_at(&self, index: usize) -> EF
+        requires { index < length (statements self.now) }
+        ensures { EF.number result ≡ slice_index (claimed_values (statements self.now)) index };
+
+    /// A statement's true value on a table, which has as many variables as the statements say.
+    fn truth_at<A: Field>(&self, index: usize, table: &Poly<A>) -> EF
+    where
+        EF: Algebra<A>,
+        requires index { index < length (statements self.now) }
+        requires arity { variables_of table.now ≡ arity self.now }
+        ensures { EF.number result ≡ slice_index (true_values EF.ops (arity self.now) (λ b. EF.embedding (table_of A.number table.now b)) (statements self.now)) index };
+
+    /// Adds `scale` times a statement's weights to the rows of a table, which has as many variables as the statements say.
+    fn add_weights(&self, index: usize, table: &mut Poly<EF>, scale: EF)
+        requires index { index < length (statements self.now) }
+        requires arity { variables_of table.old ≡ arity self.now }
+        ensures variables { variables_of table.new ≡ variables_of table.old }
+        ensures table { (b : ℕ) → b < 2 ^ arity self.now → table_of EF.number table.new b
+            ≡ plus EF.ops (table_of EF.number table.old b) (times EF.ops (EF.number scale) (slice_index (weights_at EF.ops (statements self.now) b) index)) };
+
+    /// The value at a point of a statement's weights, as a table. The point has as many coordinates as the tables have variables.
+    fn weight_at(&self, index: usize, row: &Point<EF>) -> EF
+        requires index { index < length (statements self.now) }
+        requires arity { length row.now ≡ arity self.now }
+        ensures { EF.number result ≡ slice_index (weight_values EF.ops (map EF.number row.now) (statements self.now)) index };
+}
+
+// The first statement that is false of the table, numbered from 0 on. It takes no memory.
+pub(crate) fn first_false<A: Field, EF: Algebra<A>, S: StatementList<EF>>(
+    statements: &S,
+    table: &Poly<A>,
+) -> Option<FalseClaim>
+    requires { variables_of table.now ≡ S.arity statements.now }
+    ensures { result ≡ first_false_claim EF.ops (S.arity statements.now) (λ b. EF.embedding (table_of A.number table.now b)) 0 (S.statements statements.now) }
+{
+    for i in 0..statements.count() {
+        let claimed = statements.claim_at(i);
+        let actual: EF = statements.truth_at(i, table);
+        if actual != claimed {
+            return Some(FalseClaim {
+                statement: i,
+                claimed: claimed.index(),
+                actual: actual.index(),
+            });
+        }
+    }
+    None
+}
+
+// Whether every statement is true of the table. It takes no memory.
+pub(crate) fn all_true<A: Field, EF: Algebra<A>, S: StatementList<EF>>(
+    statements: &S,
+    table: &Poly<A>,
+) -> bool
+    requires { variables_of table.now ≡ S.arity statements.now }
+    ensures { IsTrue result ↔ AllTrueOf EF.ops (S.arity statements.now) (λ b. EF.embedding (table_of A.number table.now b)) (S.statements statements.now) }
+{
+    first_false(statements, table).is_none()
+}
+
+// Adds the claimed values to the sum, that of the first statement times `first`, and that of each next one times the challenge once more. The
+// answer is the factor of a statement behind the last: a factor and no number of its power, since powers over groups may pass any type.
+pub(crate) fn add_values<EF: Field, S: StatementList<EF>>(
+    statements: &S,
+    sum: &mut EF,
+    challenge: EF,
+    first: EF,
+) -> EF
+    ensures added { (p : ℕ) → EF.number first ≡ power EF.ops (EF.number challenge) p →
+        EF.number sum.new ≡ plus EF.ops (EF.number sum.old) (batched_claim EF.ops (EF.number challenge) p (S.statements statements.now)) }
+    ensures next { (p : ℕ) → EF.number first ≡ power EF.ops (EF.number challenge) p →
+        EF.number result ≡ power EF.ops (EF.number challenge) (p + length (S.statements statements.now)) }
+{
+    let mut coefficient = first;
+    for i in 0..statements.count() {
+        *sum = sum.add(coefficient.mul(statements.claim_at(i)));
+        coefficient = coefficient.mul(challenge);
+    }
+    coefficient
+}
+
+// The same, with the weights, which are added to the rows of a table.
+pub(crate) fn add_batch<EF: Field, S: StatementList<EF>>(
+    statements: &S,
+    weights: &mut Poly<EF>,
+    sum: &mut EF,
+    challenge: EF,
+    first: EF,
+) -> EF
+    requires { variables_of weights.old ≡ S.arity statements.now }
+    ensures variables { variables_of weights.new ≡ variables_of weights.old }
+    ensures added { (p : ℕ) → EF.number first ≡ power EF.ops (EF.number challenge) p →
+        AddsBatch EF.ops (S.arity statements.now) (EF.number challenge) p (S.statements statements.now)
+        (table_of EF.number weights.old) (table_of EF.number weights.new) (EF.number sum.old) (EF.number sum.new) }
+    ensures next { (p : ℕ) → EF.number first ≡ power EF.ops (EF.number challenge) p →
+        EF.number result ≡ power EF.ops (EF.number challenge) (p + length (S.statements statements.now)) }
+{
+    let mut coefficient = first;
+    for i in 0..statements.count() {
+        statements.add_weights(i, weights, coefficient);
+        coefficient = coefficient.mul(challenge);
+    }
+    add_values(statements, sum, challenge, first)
+}
+
+// Adds the values at `row` of the weights to the sum, with the same factors and the same answer.
+pub(crate) fn add_weights_at<EF: Field, S: StatementList<EF>>(
+    statements: &S,
+    sum: &mut EF,
+    row: &Point<EF>,
+    challenge: EF,
+    first: EF,
+) -> EF
+    requires { length row.now ≡ S.arity statements.now }
+    ensures added { (p : ℕ) → EF.number first ≡ power EF.ops (EF.number challenge) p →
+        EF.number sum.new ≡ plus EF.ops (EF.number sum.old)
+        (value EF.ops (batched_weight EF.ops (EF.number challenge) p (S.statements statements.now)) (map EF.number row.now)) }
+    ensures next { (p : ℕ) → EF.number first ≡ power EF.ops (EF.number challenge) p →
+        EF.number result ≡ power EF.ops (EF.number challenge) (p + length (S.statements statements.now)) }
+{
+    let mut coefficient = first;
+    for i in 0..statements.count() {
+        *sum = sum.add(coefficient.mul(statements.weight_at(i, row)));
+        coefficient = coefficient.mul(challenge);
+    }
+    coefficient
+}

@@ -1,0 +1,10 @@
+pub mod Halves
+pub mod PowerSteps
+pub mod EqualitySteps
+pub mod EqualityValues
+pub mod ProductSteps
+pub mod NextSteps
+pub mod NextValues
+pub mod Written
+pub mod SelectReads
+pub mod NextReads

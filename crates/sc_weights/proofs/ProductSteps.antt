@@ -1,0 +1,91 @@
+-- Products of coordinates, by halves.
+use Rattle.std.proofs.Common.{◌≡◌, ℕ, suc, ◌+◌, ◌^◌, ◌<◌, List, [], ◌∷◌, length, map, sym, ◌∙◌, ap, refl, arith, ◌⊎◌, ⊎_elim}
+use Rattle.sc_definitions.specs.Ring.{Ops, IsRing, element, plus, times, minus}
+use Rattle.sc_definitions.specs.Tables.{sum_below, monomial, inner, value}
+use Rattle.sc_definitions.proofs.RingLaws.{element-small, times-one, times_comm, times_assoc}
+use Rattle.sc_definitions.proofs.Sums.{sum-same, times-sum}
+use Rattle.sc_definitions.proofs.Identity.{atom, nought, unit, ◌⊕◌, ◌⊗◌, Agree, identity}
+use Rattle.sc_definitions.proofs.TableLaws.{inner-halves}
+use Rattle.sc_definitions.proofs.ValueLaws.{element-value, value-monomial_none, value-monomial_more}
+use Rattle.sc_definitions.proofs.PlacedLaws.{monomial-low, monomial-high}
+
+module _ (o : Ops) (ring : IsRing o) (z : ℕ) (zs all : List ℕ) (split : all ≡ z ∷ zs) where
+  -- what a half gains
+  pub gain-low : (scale b : ℕ) → b < 2 ^ length zs → times o scale (monomial o zs b) ≡ times o scale (monomial o all b)
+  unfolding Agree
+  gain-low scale b low =
+      identity o ring (scale ∷ monomial o zs b ∷ []) (atom 0 ⊗ atom 1) (atom 0 ⊗ (unit ⊗ atom 1)) tt tt refl
+      ∙ ap (times o scale) (sym (ap (λ l. monomial o l b) split ∙ monomial-low o ring z zs b low))
+
+  pub gain-high : (scale b : ℕ) → b < 2 ^ length zs → times o (times o scale z) (monomial o zs b) ≡ times o scale (monomial o all (2 ^ length zs + b))
+  unfolding Agree
+  gain-high scale b low =
+      identity o ring (scale ∷ z ∷ monomial o zs b ∷ []) ((atom 0 ⊗ atom 1) ⊗ atom 2) (atom 0 ⊗ (atom 1 ⊗ atom 2)) tt tt refl
+      ∙ ap (times o scale) (sym (ap (λ l. monomial o l (2 ^ length zs + b)) split ∙ monomial-high o ring z zs b low))
+
+  -- the sum over both halves
+  pub inner-monomial : (f low high : ℕ → ℕ) → ((b : ℕ) → b < 2 ^ length zs → low b ≡ f b) → ((b : ℕ) → b < 2 ^ length zs → high b ≡ f (2 ^ length zs + b)) →
+      plus o (inner o (length zs) low (monomial o zs)) (times o (inner o (length zs) high (monomial o zs)) z) ≡ inner o (length all) f (monomial o all)
+  unfolding inner Agree
+  inner-monomial f low high low_is high_is =
+      let n = 2 ^ length zs in
+      let S = sum_below o n (λ b. times o (low b) (monomial o zs b)) in
+      let T = sum_below o n (λ b. times o (high b) (monomial o zs b)) in
+      ap (plus o S) (identity o ring (T ∷ z ∷ []) (atom 0 ⊗ atom 1) (atom 1 ⊗ atom 0) tt tt refl ∙ times-sum o ring z n (λ b. times o (high b) (monomial o zs b)))
+      ∙ ap (λ s. plus o s (sum_below o n (λ b. times o z (times o (high b) (monomial o zs b))))) (sum-same o n _ _ (λ b below.
+      ap (λ k. times o k (monomial o zs b)) (low_is b below)
+      ∙ identity o ring (f b ∷ monomial o zs b ∷ []) (atom 0 ⊗ atom 1) (atom 0 ⊗ (unit ⊗ atom 1)) tt tt refl
+      ∙ ap (times o (f b)) (sym (monomial-low o ring z zs b below))))
+      ∙ ap (plus o (sum_below o n (λ b. times o (f b) (monomial o (z ∷ zs) b)))) (sum-same o n _ _ (λ b below.
+      ap (λ k. times o z (times o k (monomial o zs b))) (high_is b below)
+      ∙ identity o ring (f (n + b) ∷ z ∷ monomial o zs b ∷ []) (atom 1 ⊗ (atom 0 ⊗ atom 2)) (atom 0 ⊗ (atom 1 ⊗ atom 2)) tt tt refl
+      ∙ ap (times o (f (n + b))) (sym (monomial-high o ring z zs b below))))
+      ∙ sym (inner-halves o ring (length zs) f (monomial o (z ∷ zs)))
+      ∙ ap (λ l. inner o (length l) f (monomial o l)) (sym split)
+
+module _ (o : Ops) (ring : IsRing o) where
+  -- of no coordinate
+  pub gain-none : (scale : ℕ) (zs : List ℕ) → length zs < 1 → times o scale (monomial o zs 0) ≡ element o scale
+  unfolding monomial
+  gain-none scale [] none = times-one o ring scale
+  gain-none scale (z ∷ zs) none = absurd (omega (arith, none))
+
+  pub inner-none : (f : ℕ → ℕ) (zs : List ℕ) → length zs < 1 → f 0 < o.size → f 0 ≡ inner o (length zs) f (monomial o zs)
+  unfolding inner sum_below monomial Agree
+  inner-none f [] none low = sym (identity o ring (f 0 ∷ []) (nought ⊕ atom 0 ⊗ unit) (atom 0 ⊗ unit) tt tt refl ∙ times-one o ring (f 0) ∙ element-small o ring (f 0) low)
+  inner-none f (z ∷ zs) none low = absurd (omega (arith, none))
+
+-- ---- the value at a point, one coordinate after the other, the first one first
+
+-- With what the coordinates before the rest make, the value of the rest makes that of all.
+pub record IsPassed (o : Ops) (all_z all_x zs xs : List ℕ) (product : ℕ) : Type 0 where
+  pub size : length zs ≡ length xs
+  pub makes : times o product (value o (monomial o zs) xs) ≡ value o (monomial o all_z) all_x
+
+module _ (o : Ops) (ring : IsRing o) where
+  pub passed-none : (zs xs : List ℕ) (product : ℕ) → length zs ≡ length xs → product ≡ 1 → IsPassed o zs xs zs xs product
+  passed-none zs xs product size is = record {
+    size = size;
+    makes = ap (λ k. times o k (value o (monomial o zs) xs)) is ∙ times_comm o ring 1 (value o (monomial o zs) xs) ∙ times-one o ring (value o (monomial o zs) xs)
+        ∙ element-value o ring (monomial o zs) xs;
+  }
+
+  pub passed-more : (all_z all_x zs xs : List ℕ) (z x product product' : ℕ) → IsPassed o all_z all_x (z ∷ zs) (x ∷ xs) product →
+      product' ≡ times o product (plus o 1 (times o x (minus o z 1))) → IsPassed o all_z all_x zs xs product'
+  passed-more all_z all_x zs xs z x product product' so_far is =
+      let size : length zs ≡ length xs = omega (arith, so_far.size) in
+      record {
+        size = size;
+        makes = ap (λ k. times o k (value o (monomial o zs) xs)) is ∙ times_assoc o ring product (plus o 1 (times o x (minus o z 1))) (value o (monomial o zs) xs)
+            ∙ ap (times o product) (sym (value-monomial_more o ring z x zs xs size)) ∙ so_far.makes;
+      }
+
+  pub passed-all : {X Y : Type 0} (of : X → ℕ) (number : Y → ℕ) (all_z all_x : List ℕ) (zs : List X) (xs : List Y) (product : ℕ) → product < o.size → (zs ≡ []) ⊎ (xs ≡ []) →
+      IsPassed o all_z all_x (map of zs) (map number xs) product → product ≡ value o (monomial o all_z) all_x
+  passed-all of number all_z all_x [] [] product low none passed =
+      sym (times-one o ring product ∙ element-small o ring product low) ∙ ap (times o product) (sym (value-monomial_none o ring)) ∙ passed.makes
+  passed-all of number all_z all_x [] (x ∷ xs) product low none passed = let size : 0 ≡ suc (length (map number xs)) = passed.size in absurd (omega (arith, size))
+  passed-all of number all_z all_x (z ∷ zs) [] product low none passed = let size : suc (length (map of zs)) ≡ 0 = passed.size in absurd (omega (arith, size))
+  passed-all of number all_z all_x (z ∷ zs) (x ∷ xs) product low none passed = absurd (⊎_elim
+      (λ e. let size : length (z ∷ zs) ≡ 0 = ap length e in omega (arith, size))
+      (λ e. let size : length (x ∷ xs) ≡ 0 = ap length e in omega (arith, size)) none)

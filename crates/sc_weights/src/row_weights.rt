@@ -1,0 +1,35 @@
+//! What weights of rows are.
+
+ghost use Rattle.std.specs.Prelude.{◌≡◌, ℕ, ◌^◌, ◌<◌, length, map};
+ghost use Rattle.sc_definitions.specs.Ring.{plus, times};
+ghost use Rattle.sc_definitions.specs.Tables.{value};
+ghost use Rattle.sc_definitions.specs.Statements.{Kind, arity_of, weight_of, true_value};
+ghost use Rattle.sc_table.specs.Polys.{variables_of, table_of};
+
+use sc_field::{Algebra, Field};
+use sc_table::{Point, Poly};
+
+/// The weights that a statement has at the rows of a table.
+pub trait RowWeights<EF: Field>: Drop {
+    // What the statement speaks of, its elements by their numbers.
+    ghost kind: { Self → Kind };
+
+    /// Adds `scale` times the weights to the rows of a table, which has as many variables as the statement's point.
+    fn add_to(&self, table: &mut Poly<EF>, scale: EF)
+        requires { arity_of (variables_of table.old) (kind self.now) ≡ variables_of table.old }
+        ensures variables { variables_of table.new ≡ variables_of table.old }
+        ensures table { (b : ℕ) → b < 2 ^ variables_of table.old → table_of EF.number table.new b
+            ≡ plus EF.ops (table_of EF.number table.old b) (times EF.ops (EF.number scale) (weight_of EF.ops (kind self.now) b)) };
+
+    /// The sum over all rows of the table's entry times the weight. The table has as many variables as the statement's point.
+    fn true_value<A: Field>(&self, table: &Poly<A>) -> EF
+    where
+        EF: Algebra<A>,
+        requires { arity_of (variables_of table.now) (kind self.now) ≡ variables_of table.now }
+        ensures { EF.number result ≡ true_value EF.ops (variables_of table.now) (λ b. EF.embedding (table_of A.number table.now b)) (kind self.now) };
+
+    /// The value of the weights, as a table, at a point of as many coordinates as the statement's own.
+    fn value_at(&self, row: &Point<EF>) -> EF
+        requires { arity_of (length row.now) (kind self.now) ≡ length row.now }
+        ensures { EF.number result ≡ value EF.ops (weight_of EF.ops (kind self.now)) (map EF.number row.now) };
+}
