@@ -5,7 +5,7 @@ ghost use Rattle.sc_definitions.specs.Ring.{plus};
 ghost use Rattle.sc_definitions.specs.Statements.{successor, claims, AllTrueOf, true_values, claimed_values, batched_claim};
 ghost use Rattle.sc_table.specs.Polys.{variables_of, table_of};
 ghost use Rattle.sc_table.specs.Strategy.{order_of};
-ghost use Rattle.sc_statements.specs.Batches.{AddsBatch, IsUnchanged};
+ghost use Rattle.sc_statements.specs.Batches.{AddsBatch};
 
 use crate::evaluated::EvaluatedConstraint;
 use crate::list::{StatementList, add_batch, add_values, all_true};
@@ -168,7 +168,7 @@ impl<EF: Field> NextStatement<EF> {
     /// the power `shift + i` of the challenge: the table gains their weights, and the sum the claimed values.
     ///
     /// The weights are made where they are added, in time linear in the table's length for each statement, so no memory is taken;
-    /// `NoMemory` would leave both as they were.
+    /// `NoMemory` never comes.
     pub fn combine(
         &self,
         _alloc: Global,
@@ -181,8 +181,7 @@ impl<EF: Field> NextStatement<EF> {
         ensures variables { variables_of acc_weights.new ≡ variables_of acc_weights.old }
         ensures added { OnOk result (AddsBatch EF.ops (next_arity self.now) (EF.number challenge) shift (next_statements EF.number self.now)
             (table_of EF.number acc_weights.old) (table_of EF.number acc_weights.new) (EF.number acc_sum.old) (EF.number acc_sum.new)) }
-        ensures refused { OnErr result (IsUnchanged (next_arity self.now)
-            (table_of EF.number acc_weights.old) (table_of EF.number acc_weights.new) (EF.number acc_sum.old) (EF.number acc_sum.new)) }
+        ensures answered { IsOk result }
     {
         let first = challenge.exp_u64(shift as u64);
         let _next = add_batch(self, acc_weights, acc_sum, challenge, first);

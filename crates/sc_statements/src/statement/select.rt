@@ -5,7 +5,7 @@ ghost use Rattle.std.specs.Iterator.{YieldsFirstBy, item_count};
 ghost use Rattle.sc_definitions.specs.Ring.{plus};
 ghost use Rattle.sc_definitions.specs.Statements.{powers, products, claims, arity_of, AllTrueOf, true_values, claimed_values, batched_claim};
 ghost use Rattle.sc_table.specs.Polys.{variables_of, table_of};
-ghost use Rattle.sc_statements.specs.Batches.{AddsBatch, IsUnchanged};
+ghost use Rattle.sc_statements.specs.Batches.{AddsBatch};
 
 use crate::list::{StatementList, add_batch, add_values, all_true};
 use crate::weights::Weights;
@@ -211,7 +211,7 @@ impl<F: Field, EF: ExtensionField<F>> SelectStatement<F, EF> {
     /// the power `shift + i` of the challenge: the table gains their weights, and the sum the claimed values.
     ///
     /// The weights are made where they are added, in time linear in the table's length for each statement, so no memory is taken;
-    /// `NoMemory` would leave both as they were.
+    /// `NoMemory` never comes.
     pub fn combine(
         &self,
         _alloc: Global,
@@ -224,8 +224,7 @@ impl<F: Field, EF: ExtensionField<F>> SelectStatement<F, EF> {
         ensures variables { variables_of acc_weights.new ≡ variables_of acc_weights.old }
         ensures added { OnOk result (AddsBatch EF.ops (select_arity self.now) (EF.number challenge) shift (select_statements (λ x. EF.embedding (F.number x)) EF.number self.now)
             (table_of EF.number acc_weights.old) (table_of EF.number acc_weights.new) (EF.number acc_sum.old) (EF.number acc_sum.new)) }
-        ensures refused { OnErr result (IsUnchanged (select_arity self.now)
-            (table_of EF.number acc_weights.old) (table_of EF.number acc_weights.new) (EF.number acc_sum.old) (EF.number acc_sum.new)) }
+        ensures answered { IsOk result }
     {
         let first = challenge.exp_u64(shift as u64);
         let _next = add_batch(self, acc_weights, acc_sum, challenge, first);
