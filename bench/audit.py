@@ -1,9 +1,10 @@
 #!/usr/bin/env python3
 """Measures `audit` on a job with one equality claim, for one program or for several side by side.
 
-usage: bench/audit.py [--variables N] [--repeats N] [--suffix] [--hash] [--bits N] [--seed N] [--check] PROGRAM [PROGRAM ..]
+usage: bench/audit.py [--variables N] [--repeats N] [--kinds] [--suffix] [--hash] [--bits N] [--seed N] [--check] PROGRAM [PROGRAM ..]
 
-The job is built in prefix order, or with --suffix in suffix order, under a script of draws, or with --hash under the hash challenger; with --bits each
+With --kinds the job has one claim of each kind: an equality, a successor in the slot of a selector of one coordinate, a
+scalar and a direct point. The job is built in prefix order, or with --suffix in suffix order, under a script of draws, or with --hash under the hash challenger; with --bits each
 round has a test of N bits, which is for the hash challenger alone. With --check the rounds and witnesses that the first program builds are handed in as
 a proof. With --seed the claim's point is drawn from another seed: at 16 bits a round finds no witness in 37 of 100 cases, which ends a build, and 18
 rounds have one each in 3 of 10,000; with 18 variables they do for --seed 3179.
@@ -25,6 +26,50 @@ def value_at(table, point):
     return table[0]
 
 
+def equality_weights(point):
+    weights = [1]
+    for c in point:
+        weights = [x for w in weights for x in (w * (1 - c) % P, w * c % P)]
+    return weights
+
+
+def successor_weights(point):
+    weights = equality_weights(point)
+    return [0] + weights[:-2] + [(weights[-2] + weights[-1]) % P]
+
+
+def powers(scalar, count):
+    weights = [1]
+    while len(weights) < count:
+        weights.append(weights[-1] * scalar % P)
+    return weights
+
+
+def products(point):
+    weights = [1]
+    for c in point:
+        weights = [x for w in weights for x in (w, w * c % P)]
+    return weights
+
+
+def groups(table, point, rng, given):
+    equality = {"kind": "eq", "claims": [{"point": point, "value": value_at(table, point)}]}
+    if not given.kinds:
+        return [equality]
+    def drawn(count):
+        return [rng.randrange(P) for _ in range(count)]
+    def value(weights):
+        return sum(w * x for w, x in zip(weights, table)) % P
+    selector, rest, scalar, direct = drawn(1), drawn(len(point) - 1), rng.randrange(P), drawn(len(point))
+    slots = [s * w % P for s in equality_weights(selector) for w in successor_weights(rest)]
+    return [
+        equality,
+        {"kind": "next", "claims": [{"selector": selector, "point": rest, "order": "prefix", "value": value(slots)}]},
+        {"kind": "select", "scalars": [{"at": scalar, "value": value(powers(scalar, len(table)))}]},
+        {"kind": "select", "points": [{"at": direct, "value": value(products(direct))}]},
+    ]
+
+
 def job(given, mode):
     variables = given.variables
     rng = random.Random(variables)
@@ -38,7 +83,7 @@ def job(given, mode):
         "challenger": "hash" if given.hash else script,
         "order": "suffix" if given.suffix else "prefix",
         "bits": given.bits, "table": table, "variables": variables,
-        "groups": [{"kind": "eq", "claims": [{"point": point, "value": value_at(table, point)}]}],
+        "groups": groups(table, point, rng, given),
         "batching": 40503, "mode": mode,
     }, separators=(",", ":"))
 
@@ -72,6 +117,7 @@ def main():
     arguments = argparse.ArgumentParser(description=__doc__, formatter_class=argparse.RawDescriptionHelpFormatter)
     arguments.add_argument("--variables", type=int, default=20)
     arguments.add_argument("--repeats", type=int, default=7)
+    arguments.add_argument("--kinds", action="store_true")
     arguments.add_argument("--suffix", action="store_true")
     arguments.add_argument("--hash", action="store_true")
     arguments.add_argument("--bits", type=int, default=0)

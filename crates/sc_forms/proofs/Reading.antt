@@ -1,5 +1,5 @@
 -- Lists of values that are read one by one.
-use Rattle.std.proofs.Common.{◌≡◌, ℕ, zero, suc, ◌+◌, ◌<◌, List, [], ◌∷◌, ◌++◌, length, get_or, take, drop, map, Option, Some, None, option_map, option_and_then, refl, sym, ap, ◌∙◌, arith, add-one, inl, inr, ◌==◌, if◌then◌else◌}
+use Rattle.std.proofs.Common.{◌≡◌, ℕ, zero, suc, ◌+◌, ◌<◌, List, [], ◌∷◌, ◌++◌, length, get_or, take, map, Option, Some, None, option_map, option_and_then, refl, sym, ap, ◌∙◌, arith, add-one, inl, inr, ◌==◌, if◌then◌else◌}
 use Rattle.std.proofs.lemmas.Option.{same_Some}
 use Rattle.std.proofs.lemmas.Bool.{eq-eqb}
 use Rattle.std.proofs.lemmas.Bool.Decides.{eqb_tells}
@@ -7,8 +7,7 @@ use Rattle.serde_json.specs.Data.{Data}
 use Rattle.serde_json.specs.View.{view, items_view}
 use Rattle.serde_json.specs.declared.value.Value.{Value}
 use Rattle.serde_json.specs.Find.{as_array}
-use Rattle.std.specs.Prelude.{is_some, ◌≤◌}
-use Rattle.sc_forms.specs.Forms.{first_other, first_other_form, all_of, both_of, list_of, list_form, list_of_length_form, pair_form}
+use Rattle.sc_forms.specs.Forms.{all_of, both_of, list_of, list_form, list_of_length_form, pair_form}
 
 -- one of them is not of the form
 pub all_of_none : {A B : Type 0} (f : A → Option B) (xs : List A) (i : ℕ) (d : A) → i < length xs → f (get_or xs i d) ≡ None → all_of f xs ≡ None
@@ -45,53 +44,7 @@ all_of_none_read f xs i x h is e = all_of_none f xs i x h (ap f (sym is) ∙ e)
 pub all_of_more_read : {A B : Type 0} (f : A → Option B) (xs : List A) (ys : List B) (y : B) (i : ℕ) (x : A) → i < length xs → x ≡ get_or xs i x → all_of f (take i xs) ≡ Some ys → f x ≡ Some y → all_of f (take (i + 1) xs) ≡ Some (ys ++ y ∷ [])
 all_of_more_read f xs ys y i x h is before e = rw add-one (all_of_more f xs ys y i x h before (ap f (sym is) ∙ e))
 
--- ---- the first item that is not of a form
-
-first_other-pass : {A B : Type 0} (f : A → Option B) (xs : List A) (i : ℕ) (d : A) (y : B) → i < length xs → f (get_or xs i d) ≡ Some y →
-    first_other f (drop i xs) ≡ first_other f (drop (suc i) xs)
-first_other-pass f [] i d y h e = absurd (omega arith)
-first_other-pass f (x ∷ xs) zero d y h e = rw e refl
-first_other-pass f (x ∷ xs) (suc i) d y h e = first_other-pass f xs i d y (omega arith) e
-
-first_other-stop : {A B : Type 0} (f : A → Option B) (xs : List A) (i : ℕ) (d : A) → i < length xs → f (get_or xs i d) ≡ None →
-    first_other f (drop i xs) ≡ Some (get_or xs i d)
-first_other-stop f [] i d h e = absurd (omega arith)
-first_other-stop f (x ∷ xs) zero d h e = rw e refl
-first_other-stop f (x ∷ xs) (suc i) d h e = first_other-stop f xs i d (omega arith) e
-
--- an item that was read at an index is of the form
-pub first_other-passed : {A B : Type 0} (f : A → Option B) (xs : List A) (i : ℕ) (x : A) (y : B) → i < length xs → x ≡ get_or xs i x → f x ≡ Some y →
-    first_other f xs ≡ first_other f (drop i xs) → first_other f xs ≡ first_other f (drop (i + 1) xs)
-first_other-passed f xs i x y h is e before = before ∙ rw add-one (first_other-pass f xs i x y h (ap f (sym is) ∙ e))
-
--- it is the first that is not
-pub first_other-found : {A B C : Type 0} (f : A → Option B) (g : A → Option C) (xs : List A) (i : ℕ) (x : A) → i < length xs → x ≡ get_or xs i x → f x ≡ None →
-    first_other f xs ≡ first_other f (drop i xs) → option_and_then g (first_other f xs) ≡ g x
-first_other-found f g xs i x h is e before = ap (option_and_then g) (before ∙ first_other-stop f xs i x h (ap f (sym is) ∙ e)) ∙ ap g (sym is)
-
-none_left : {A B : Type 0} (f : A → Option B) (xs : List A) (i : ℕ) → length xs ≤ i → first_other f (drop i xs) ≡ None
-none_left f [] zero past = refl
-none_left f [] (suc i) past = refl
-none_left f (x ∷ xs) zero past = absurd (omega (arith, past))
-none_left f (x ∷ xs) (suc i) past = none_left f xs i (omega (arith, past))
-
--- each is of the form
-pub first_other-none : {A B C : Type 0} (f : A → Option B) (g : A → Option C) (xs : List A) (i : ℕ) → length xs ≤ i →
-    first_other f xs ≡ first_other f (drop i xs) → option_and_then g (first_other f xs) ≡ None
-first_other-none f g xs i past before = ap (option_and_then g) (before ∙ none_left f xs i past)
-
-first_other-view : {B C : Type 0} (f : Data → Option B) (g : Data → Option C) (vs : List Value) →
-    option_and_then g (first_other f (map view vs)) ≡ option_and_then (λ x. g (view x)) (first_other (λ x. f (view x)) vs)
-first_other-view f g [] = refl
-first_other-view f g (v ∷ vs) =
-    let later = first_other-view f g vs in
-    elim (f (view v)) as (λ o. option_and_then g (if is_some o then first_other f (map view vs) else Some (view v))
-    ≡ option_and_then (λ x. g (view x)) (if is_some o then first_other (λ x. f (view x)) vs else Some v)) [ None ↦ refl | Some y ↦ later ]
-
--- a value that is a list, at its items
-pub first_other_form_of : {B C : Type 0} (f : Data → Option B) (g : Data → Option C) (d : Data) (vs : List Value) (r : Option C) → as_array d ≡ Some (items_view vs) →
-    option_and_then (λ x. g (view x)) (first_other (λ x. f (view x)) vs) ≡ r → first_other_form f g d ≡ r
-first_other_form_of f g d vs r is e = rw (is, list_of-items_view vs) (first_other-view f g vs ∙ e)
+-- ---- lists
 
 -- a value that is a list, at its items
 pub list_form_of : {B : Type 0} (f : Data → Option B) (d : Data) (vs : List Value) (r : Option (List B)) → as_array d ≡ Some (items_view vs) → all_of (λ x. f (view x)) vs ≡ r → list_form f d ≡ r

@@ -49,15 +49,6 @@ list_form form d = option_and_then (λ ds. all_of form (list_of ds)) (as_array d
 abbrev pub list_of_length_form : {B : Type 0} → (Data → Option B) → ℕ → Data → Option (List B)
 list_of_length_form form count d = option_and_then (λ xs. if length xs == count then Some xs else None) (list_form form d)
 
--- the first item that is not of the form
-abbrev pub first_other : {A B : Type 0} → (A → Option B) → List A → Option A
-first_other form [] = None
-first_other form (x ∷ xs) = if is_some (form x) then first_other form xs else Some x
-
--- a list with an item that is not of the one form, the first of which is of the other: what that one is read as
-abbrev pub first_other_form : {B C : Type 0} → (Data → Option B) → (Data → Option C) → Data → Option C
-first_other_form form other d = option_and_then other (option_and_then (λ ds. first_other form (list_of ds)) (as_array d))
-
 -- two items of a form, and no third
 abbrev pub both_of : {A B : Type 0} → (A → Option B) → List A → Option (B × B)
 both_of form [] = None

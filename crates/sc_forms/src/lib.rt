@@ -17,6 +17,6 @@ mod tests;
 pub use either::{Either, NoForm};
 pub use form::{Form, Misread, is_object, member};
 pub use input::{NoValue, read_value};
-pub use lists::{FirstOther, ListOf, ListOfLength, PairOf};
+pub use lists::{ListOf, ListOfLength, PairOf};
 pub use literal::Literal;
 pub use numbers::{AtMost, Below, Unsigned};

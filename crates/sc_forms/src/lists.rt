@@ -1,7 +1,7 @@
 // Forms of lists.
-ghost use Rattle.std.specs.Prelude.{◌≡◌, All, length, Some, None, option_and_then, IfOk, IsErrOf};
+ghost use Rattle.std.specs.Prelude.{◌≡◌, All, length, Some, None, IfOk, IsErrOf};
 ghost use Rattle.serde_json.specs.View.{view};
-ghost use Rattle.sc_forms.specs.Forms.{all_of, first_other, first_other_form, list_form, list_of_length_form, pair_form};
+ghost use Rattle.sc_forms.specs.Forms.{all_of, list_form, list_of_length_form, pair_form};
 
 use crate::{Form, Misread};
 use sc_table::Row;
@@ -25,14 +25,6 @@ pub struct ListOfLength<F> {
 #[derive(Clone, Copy, Debug, PartialEq, Eq)]
 pub struct PairOf<F> {
     pub item: F,
-}
-
-/// A list with an item that is not of the one form, the first of which is of the other. What that one is
-/// read as is what the list is read as.
-#[derive(Clone, Copy, Debug, PartialEq, Eq)]
-pub struct FirstOther<F, L> {
-    pub item: F,
-    pub other: L,
 }
 
 impl<F: Form> Form for ListOf<F> {
@@ -86,44 +78,6 @@ impl<F: Form> Form for PairOf<F> {
         let right = self.item.read(alloc, &items[1])?;
         Ok((left, right))
     }
-}
-
-impl<F: Form, L: Form> Form for FirstOther<F, L> {
-    type Out = L::Out;
-
-    ghost reads = { λ form. first_other_form (F.reads form.item) (L.reads form.other) };
-
-    ghost fits = { λ form. L.fits form.other };
-
-    fn read(&self, alloc: Global, value: &Value) -> Result<L::Out, Misread> {
-        let Some(items) = value.as_array() else {
-            return Err(Misread::NotOfForm);
-        };
-        read_first_other(alloc, &self.item, &self.other, items)
-    }
-}
-
-// The first item that is not of the one form, in the other.
-fn read_first_other<F: Form, L: Form>(
-    alloc: Global,
-    form: &F,
-    other: &L,
-    items: &[Value],
-) -> Result<L::Out, Misread>
-    ensures ok { IfOk result (λ y. option_and_then (λ x. L.reads other.now (view x))
-        (first_other (λ x. F.reads form.now (view x)) items.now) ≡ Some y) }
-    ensures not_of_form { IsErrOf result Misread.NotOfForm → option_and_then (λ x. L.reads other.now (view x))
-        (first_other (λ x. F.reads form.now (view x)) items.now) ≡ None }
-    ensures fits { IfOk result (L.fits other.now) }
-{
-    for item in items {
-        match form.read(alloc, item) {
-            Ok(_) => {}
-            Err(Misread::NoMemory) => return Err(Misread::NoMemory),
-            Err(Misread::NotOfForm) => return other.read(alloc, item),
-        }
-    }
-    Err(Misread::NotOfForm)
 }
 
 // Each item in turn, in a form. The room for all of them is taken at once.

@@ -3,8 +3,8 @@ ghost use Rattle.std.specs.Prelude.{codes, option_and_then, option_map};
 ghost use Rattle.sc_forms.specs.Forms.{below_form, list_form, member_form};
 
 use crate::{
-    AtMost, Below, Either, FirstOther, Form, ListOf, ListOfLength, Literal, Misread, NoForm,
-    NoValue, PairOf, Unsigned, is_object, member, read_value,
+    AtMost, Below, Either, Form, ListOf, ListOfLength, Literal, Misread, NoForm, NoValue, PairOf,
+    Unsigned, is_object, member, read_value,
 };
 use sc_table::Row;
 use serde_json::Value;
@@ -285,25 +285,6 @@ fn one_of_two_forms_or_none_at_all(rt: HostRuntime) -> Result<(), Fail> {
             Err(Misread::NotOfForm),
             "{text}"
         );
-    }
-    Ok(())
-}
-
-#[test]
-fn the_first_item_of_another_form_is_read(rt: HostRuntime) -> Result<(), Fail> {
-    let list = FirstOther {
-        item: Literal { text: "eq" },
-        other: Below { bound: 10 },
-    };
-    for (text, want) in [
-        ("[\"eq\",7,8]", Ok(7)),
-        ("[7,\"eq\"]", Ok(7)),
-        ("[\"eq\",\"next\",7]", Err(Misread::NotOfForm)),
-        ("[\"eq\",\"eq\"]", Err(Misread::NotOfForm)),
-        ("[]", Err(Misread::NotOfForm)),
-        ("7", Err(Misread::NotOfForm)),
-    ] {
-        assert_eq!(rt; read_text(rt.alloc(), &list, text)?, want, "{text}");
     }
     Ok(())
 }

@@ -22,7 +22,7 @@ use Rattle.sc_audit.specs.Audits.{begun, figures_from}
 use Rattle.sumcheck_run.specs.declared.job.Job.{Job}
 use Rattle.sumcheck_run.specs.declared.job.Mode.TheVariants.{Build}
 use Rattle.sumcheck_run.specs.declared.reply.Outcome.TheVariants.{Holds, NoWitness}
-use Rattle.sumcheck_run.specs.Job.{field_size}
+use Rattle.sumcheck_run.specs.Elements.{field_size}
 use Rattle.sumcheck_run.specs.Reply.{no_witness}
 use Rattle.sumcheck_run.specs.Witnesses.{honest_rounds}
 use Rattle.sumcheck_run.specs.Report.{field, task_of, case_of, rules_of, finding_reply, figure_lines, or_no_witness, rounds_of, rounds_reply, reply_by, case_reply, judge}

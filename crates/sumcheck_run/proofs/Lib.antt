@@ -1,5 +1,5 @@
+pub mod GroupLaws
 pub mod LineLaws
-pub mod Joined
 pub mod WitnessLaws
 pub mod BuildReplies
 pub mod ReportLaws

@@ -7,7 +7,8 @@ use Rattle.sumcheck_run.specs.declared.command.Command.{Command}
 use Rattle.sumcheck_run.specs.declared.command.Command.TheVariants.{Audit}
 use Rattle.sumcheck_run.specs.declared.job.Job.{Job}
 use Rattle.sumcheck_run.specs.Reply.{Reply, code_of, no_witness, proof_refused, refused, usage}
-use Rattle.sumcheck_run.specs.Job.{field_size, job_of}
+use Rattle.sumcheck_run.specs.Elements.{field_size}
+use Rattle.sumcheck_run.specs.Job.{job_of}
 use Rattle.sumcheck_run.specs.declared.member.Misfit.{Misfit}
 use Rattle.sc_definitions.specs.Events.{own_extension}
 use Rattle.sc_audit.specs.declared.error.AuditError.{AuditError}

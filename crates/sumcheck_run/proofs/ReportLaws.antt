@@ -19,8 +19,9 @@ use Rattle.sc_audit.specs.Refusals.{refusal_of}
 use Rattle.sc_audit.specs.Figures.{Figures, holds, figures_of}
 use Rattle.sc_audit.specs.Audits.{begun, AreRounds, Plays, IsAudited, IsLucky, IsFailing, IsUnground, IsCaused}
 use Rattle.sumcheck_run.specs.declared.job.Job.{Job}
-use Rattle.sumcheck_run.specs.Job.{field_size}
-use Rattle.sumcheck_run.specs.Report.{field, statement_of, task_of, case_of, rules_of, refusal_reply, finding_reply, figures_reply, figure_lines, or_no_witness, unless_failing, passing_rounds, rounds_of, rounds_reply, reply_by, case_reply, judge}
+use Rattle.sumcheck_run.specs.Elements.{field_size}
+use Rattle.sumcheck_run.specs.Statements.{all_claims}
+use Rattle.sumcheck_run.specs.Report.{field, task_of, case_of, rules_of, refusal_reply, finding_reply, figures_reply, figure_lines, or_no_witness, unless_failing, passing_rounds, rounds_of, rounds_reply, reply_by, case_reply, judge}
 use Rattle.sumcheck_run.proofs.WitnessLaws.{AreLow, honest_rounds-whole, honest_rounds-none, none_passes, first_failing-at, first_failing-none}
 use Rattle.sumcheck_run.proofs.BuildReplies.{all-true, built-finding}
 
@@ -31,7 +32,7 @@ entries-numbers number xs ns is = ap (λ ys b. slice_index ys b) is
 
 -- the case of elements is that of their numbers
 pub asked-case : {X : Type 0} (number : X → ℕ) (xs : List X) (bits n : ℕ) (ss : List Statement) (c i : ℕ) (t : Task) (job : Job) →
-    map number xs ≡ job.table → bits ≡ job.bits → n ≡ job.variables → ss ≡ map statement_of job.claims → c ≡ job.batching → i ≡ 0 → t ≡ task_of job.mode →
+    map number xs ≡ job.table → bits ≡ job.bits → n ≡ job.variables → ss ≡ all_claims job.groups → c ≡ job.batching → i ≡ 0 → t ≡ task_of job.mode →
     ◌≡◌ {A = Case} (record {
       rows = length xs;
       bits = bits;

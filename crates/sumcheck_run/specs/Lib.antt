@@ -1,5 +1,7 @@
 pub mod Reply
 pub mod Members
+pub mod Elements
+pub mod Groups
 pub mod Job
 pub mod Lines
 pub mod Statements

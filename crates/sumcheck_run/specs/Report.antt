@@ -5,7 +5,6 @@ use Rattle.sc_definitions.specs.Ring.{Ops}
 use Rattle.sc_definitions.specs.Residues.{residues}
 use Rattle.sc_definitions.specs.Tables.{evaluation, rows_of}
 use Rattle.sc_definitions.specs.declared.events.Event.{Event}
-use Rattle.sc_definitions.specs.Statements.{equality, Statement, claims}
 use Rattle.sc_definitions.specs.Events.{Rules, Extension, own_extension}
 use Rattle.sc_definitions.specs.Scripted.{scripted_rules}
 use Rattle.sc_definitions.specs.Transcript.{Round}
@@ -25,12 +24,12 @@ use Rattle.sumcheck_run.specs.declared.reply.Outcome.TheVariants.{Holds, Refuted
 use Rattle.sumcheck_run.specs.declared.job.Job.{Job}
 use Rattle.sumcheck_run.specs.declared.job.Challenger.{Challenger}
 use Rattle.sumcheck_run.specs.declared.job.Challenger.TheVariants.{Scripted, Hash}
-use Rattle.sumcheck_run.specs.declared.job.EqualityClaim.{EqualityClaim}
 use Rattle.sumcheck_run.specs.declared.job.Proof.{Proof}
 use Rattle.sumcheck_run.specs.declared.job.Mode.{Mode}
 use Rattle.sumcheck_run.specs.declared.job.Mode.TheVariants.{Build, Check}
 use Rattle.sumcheck_run.specs.Reply.{Reply, no_witness, proof_refused, refused}
-use Rattle.sumcheck_run.specs.Job.{field_size}
+use Rattle.sumcheck_run.specs.Elements.{field_size}
+use Rattle.sumcheck_run.specs.Statements.{all_claims}
 use Rattle.sumcheck_run.specs.Witnesses.{honest_rounds, first_failing}
 use Rattle.sumcheck_run.specs.Lines.{claim_line, round_lines, residual_line, eval_line, weight_line, holds_line, refuted_line, unbuilt_text, shape_fault_text, fit_fault_text, false_claim_text, missing_text, rounds_text, witnesses_text, witness_text}
 
@@ -40,10 +39,6 @@ use Rattle.sumcheck_run.specs.Lines.{claim_line, round_lines, residual_line, eva
 abbrev pub field : Ops
 field = residues field_size
 
--- that the table's value at the point is the claimed one
-abbrev pub statement_of : EqualityClaim → Statement
-statement_of c = claims (equality c.point) c.value
-
 -- the job's problem: a table of values, with its statements batched from the power 0 on
 abbrev pub problem_of : Job → Problem
 problem_of job = record {
@@ -51,7 +46,7 @@ problem_of job = record {
   order = order_of job.order;
   variables = job.variables;
   table = rows_of job.table;
-  statements = map statement_of job.claims;
+  statements = all_claims job.groups;
   batching = job.batching;
   initial = 0;
 }

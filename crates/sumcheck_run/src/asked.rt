@@ -21,7 +21,7 @@ pub(crate) fn audit_job<F: Field>(alloc: Global, job: &Job) -> Result<AuditJob<F
     let batching = F::element(job.batching);
     Ok(AuditJob {
         table: elements(alloc, job.table.as_slice())?,
-        constraint: constraint_of(alloc, job.claims.as_slice(), variables, batching)?,
+        constraint: constraint_of(alloc, job.groups.as_slice(), variables, batching)?,
         order: job.order,
         pow_bits: job.bits as usize,
         mode: audit_mode(alloc, &job.mode)?,

@@ -1,4 +1,7 @@
 //! What a job says.
+ghost use Rattle.std.specs.Prelude.{◌≡◌, length};
+ghost use Rattle.sumcheck_run.specs.Statements.{group_claims};
+
 use sc_table::{Row, VariableOrder};
 
 /// A scripted challenger: its draws, and for each test the witnesses that pass, all by their numbers.
@@ -26,6 +29,67 @@ pub struct EqualityClaim {
     pub point: Row<u64>,
     /// The claimed value.
     pub value: u64,
+}
+
+/// The claim that the table has a value at a point through the successor map, in the slot of a selector.
+///
+/// The selector's and the point's coordinates are together as many as the table has variables, and in each list the one of the highest row
+/// digit stands first.
+#[derive(Drop)]
+pub struct SuccessorClaim {
+    /// The selector's coordinates.
+    pub selector: Row<u64>,
+    /// The point's coordinates.
+    pub point: Row<u64>,
+    /// Whether the selector fixes the highest row digits, by `Prefix`, or the lowest.
+    pub order: VariableOrder,
+    /// The claimed value.
+    pub value: u64,
+}
+
+/// The claim that the sum of the table's entries times the powers of a scalar has a value.
+#[derive(Drop)]
+pub struct ScalarClaim {
+    /// The scalar.
+    pub scalar: u64,
+    /// The claimed value.
+    pub value: u64,
+}
+
+/// The claim that the sum of the table's entries times products of a point's coordinates has a value.
+#[derive(Drop)]
+pub struct ProductClaim {
+    /// The point's coordinates, the one of the highest row digit first.
+    pub point: Row<u64>,
+    /// The claimed value.
+    pub value: u64,
+}
+
+/// A group of claims of one kind, in order.
+#[derive(Drop)]
+pub enum Group {
+    /// Values at points.
+    Equality(Row<EqualityClaim>),
+    /// Values through the successor map.
+    Successor(Row<SuccessorClaim>),
+    /// Sums times the powers of scalars.
+    Scalars(Row<ScalarClaim>),
+    /// Sums times products of coordinates.
+    Products(Row<ProductClaim>),
+}
+
+impl Group {
+    /// How many claims there are.
+    pub fn len(&self) -> usize
+        ensures { result ≡ length (group_claims self.now) }
+    {
+        match self {
+            Group::Equality(claims) => claims.len(),
+            Group::Successor(claims) => claims.len(),
+            Group::Scalars(claims) => claims.len(),
+            Group::Products(claims) => claims.len(),
+        }
+    }
 }
 
 /// A proof that is handed in, by the numbers of its elements.
@@ -59,8 +123,8 @@ pub struct Job {
     pub table: Row<u64>,
     /// How many coordinates the points of the claims have, at most 64.
     pub variables: u64,
-    /// The claims of all groups, in order, at most 4,096.
-    pub claims: Row<EqualityClaim>,
+    /// The groups of claims, in order, with at most 4,096 claims in all.
+    pub groups: Row<Group>,
     /// The element whose powers batch the statements.
     pub batching: u64,
     /// What is done.

@@ -7,6 +7,7 @@
 mod asked;
 mod command;
 mod elements;
+mod groups;
 mod job;
 mod lines;
 mod member;
@@ -18,7 +19,10 @@ mod report;
 mod statements;
 
 pub use command::{Command, needs_input, read_command};
-pub use job::{Challenger, EqualityClaim, Job, Mode, Proof, Script};
+pub use job::{
+    Challenger, EqualityClaim, Group, Job, Mode, ProductClaim, Proof, ScalarClaim, Script,
+    SuccessorClaim,
+};
 pub use member::{Member, Misfit, Unread};
 pub use program::{Status, run};
 pub use reading::read_job;

@@ -1,8 +1,8 @@
 //! From bytes to bytes.
 ghost use Rattle.std.specs.Prelude.{◌≡◌, ◌⊎◌, ◌<◌, ◌≤◌, ◌+◌, List, ℕ, Some, None, false, map, string_bytes, IfOk, IsOk, IsErrOf};
 ghost use Rattle.sc_streams.specs.Faults.{HasRisen};
-ghost use Rattle.sumcheck_run.specs.Program.{audit_reply, bad_json, command_of, job_reply, json_reply, max_input, reads_input, reply_of, too_long};
-ghost use Rattle.sumcheck_run.specs.Reply.{code_of, refused};
+ghost use Rattle.sumcheck_run.specs.Program.{audit_reply, bad_json, command_of, json_reply, max_input, reads_input, reply_of, too_long};
+ghost use Rattle.sumcheck_run.specs.Reply.{refused};
 ghost use Rattle.sumcheck_run.specs.Members.{misfit_text};
 ghost use Rattle.sumcheck_run.specs.Run.{IsAnswered, IsCutShort, IsRead, WritesReply};
 

@@ -1,25 +1,21 @@
 //! The job that a JSON value describes, or the first member that is not of its built form.
-ghost use Rattle.std.specs.Prelude.{◌≡◌, ◌<◌, ◌≤◌, All, Option, Some, None, Ok, Err, IfOk, IsErrOf, length, flat_map};
+ghost use Rattle.std.specs.Prelude.{◌≡◌, ◌<◌, Option, Some, None, Ok, Err, IfOk};
 ghost use Rattle.serde_json.specs.View.{view};
-ghost use Rattle.sc_forms.specs.Forms.{either_form, literal_form};
-ghost use Rattle.sumcheck_run.specs.Job.{JobFits, ProofFits, ModeFits, ScriptFits, ChallengerFits, challenger_form, check_form, claim_form, field_size, group_form, groups_form, job_of, later_build_form, later_group_form, mode_form, most_statements, needed_groups, order_form, proof_form, script_form};
-ghost use Rattle.sumcheck_run.specs.Statements.{EqualityFits};
+ghost use Rattle.sumcheck_run.specs.Elements.{field_size, order_form};
+ghost use Rattle.sumcheck_run.specs.Job.{JobFits, ProofFits, ModeFits, ScriptFits, ChallengerFits, challenger_form, check_form, job_of, later_build_form, mode_form, proof_form, script_form};
 
-use crate::job::{Challenger, EqualityClaim, Job, Mode, Proof, Script};
+use crate::groups::GroupsForm;
+use crate::job::{Challenger, Job, Mode, Proof, Script};
 use crate::member::{Member, Misfit, Unread, need};
 use sc_forms::{
-    AtMost, Below, Either, FirstOther, Form, ListOf, ListOfLength, Literal, Misread, NoForm,
-    PairOf, is_object, member,
+    AtMost, Below, Either, Form, ListOf, Literal, Misread, NoForm, PairOf, is_object, member,
 };
-use sc_table::{Row, VariableOrder};
+use sc_table::VariableOrder;
 use serde_json::Value;
 use std::alloc::Global;
 
 // The size of the jobs' field.
 const FIELD_SIZE: u64 = 65537;
-
-// The greatest number of statements in a job.
-const MOST_STATEMENTS: usize = 4096;
 
 // The greatest number of a point's coordinates.
 const MOST_VARIABLES: u64 = 64;
@@ -27,8 +23,8 @@ const MOST_VARIABLES: u64 = 64;
 // The greatest difficulty that a job can name.
 const MOST_BITS: u64 = 65535;
 
-// An element of the jobs' field, by its number.
-const ELEMENT: Below = Below { bound: FIELD_SIZE };
+/// An element of the jobs' field, by its number.
+pub(crate) const ELEMENT: Below = Below { bound: FIELD_SIZE };
 
 #[derive(Clone, Copy)]
 struct ScriptForm;
@@ -67,9 +63,9 @@ impl Form for ChallengerForm {
     }
 }
 
-// Which variable a round binds, by its name.
+/// Which variable a round binds, or on which side a selector stands, by its name.
 #[derive(Clone, Copy)]
-struct OrderForm;
+pub(crate) struct OrderForm;
 
 impl Form for OrderForm {
     type Out = VariableOrder;
@@ -83,93 +79,6 @@ impl Form for OrderForm {
             _ => Err(Misread::NotOfForm),
         }
     }
-}
-
-#[derive(Clone, Copy)]
-struct ClaimForm {
-    variables: usize,
-}
-
-impl Form for ClaimForm {
-    type Out = EqualityClaim;
-
-    ghost reads = { λ form. claim_form form.variables };
-
-    ghost fits = { λ form claim. EqualityFits field_size form.variables claim };
-
-    fn read(&self, alloc: Global, value: &Value) -> Result<EqualityClaim, Misread> {
-        let coordinates = ListOfLength {
-            item: ELEMENT,
-            length: self.variables,
-        };
-        let point = member(alloc, &coordinates, value, "point")?;
-        let claimed = member(alloc, &ELEMENT, value, "value")?;
-        Ok(EqualityClaim {
-            point,
-            value: claimed,
-        })
-    }
-}
-
-#[derive(Clone, Copy)]
-struct GroupForm {
-    variables: usize,
-}
-
-impl Form for GroupForm {
-    type Out = Row<EqualityClaim>;
-
-    ghost reads = { λ form. group_form form.variables };
-
-    ghost fits = { λ form claims. All (EqualityFits field_size form.variables) claims };
-
-    fn read(&self, alloc: Global, value: &Value) -> Result<Row<EqualityClaim>, Misread> {
-        member(alloc, &Literal { text: "eq" }, value, "kind")?;
-        let claims = ListOf {
-            item: ClaimForm {
-                variables: self.variables,
-            },
-        };
-        member(alloc, &claims, value, "claims")
-    }
-}
-
-#[derive(Clone, Copy)]
-struct GroupsForm {
-    variables: usize,
-}
-
-impl Form for GroupsForm {
-    type Out = Row<EqualityClaim>;
-
-    ghost reads = { λ form. groups_form form.variables };
-
-    ghost fits = { λ form claims. All (EqualityFits field_size form.variables) claims };
-
-    fn read(&self, alloc: Global, value: &Value) -> Result<Row<EqualityClaim>, Misread> {
-        let groups = ListOf {
-            item: GroupForm {
-                variables: self.variables,
-            },
-        };
-        let claims = joined(alloc, groups.read(alloc, value)?)?;
-        if claims.len() > MOST_STATEMENTS {
-            return Err(Misread::NotOfForm);
-        }
-        Ok(claims)
-    }
-}
-
-// The claims of all groups in one list.
-fn joined(alloc: Global, groups: Row<Row<EqualityClaim>>) -> Result<Row<EqualityClaim>, Misread>
-    ensures joined { IfOk result (λ claims. claims ≡ flat_map (λ group. group) groups) }
-    ensures memory { ¬ IsErrOf result Misread.NotOfForm }
-{
-    let mut claims = Vec::new(alloc);
-    for group in groups.into_vec() {
-        claims.append(&mut group.into_vec())?;
-    }
-    Ok(Row::new(claims))
 }
 
 #[derive(Clone, Copy)]
@@ -258,24 +167,6 @@ impl Form for LaterBuildForm {
     }
 }
 
-// The kind of a group that is not built yet.
-#[derive(Clone, Copy)]
-struct LaterGroupForm;
-
-impl Form for LaterGroupForm {
-    type Out = ();
-
-    ghost reads = { λ _. later_group_form };
-
-    fn read(&self, alloc: Global, value: &Value) -> Result<(), Misread> {
-        let kinds = Either {
-            left: Literal { text: "next" },
-            right: Literal { text: "select" },
-        };
-        member(alloc, &kinds, value, "kind")
-    }
-}
-
 /// The job that a value describes, or its first member that is not of its built form.
 pub fn read_job(alloc: Global, value: &Value) -> Result<Job, Unread>
     ensures job { IfOk result (λ job. job_of (view value.now) ≡ Ok job) }
@@ -312,7 +203,10 @@ pub fn read_job(alloc: Global, value: &Value) -> Result<Job, Unread>
         most: MOST_VARIABLES,
     };
     let variables = need(alloc, &most, &NoForm, value, Member::Variables)?;
-    let claims = read_groups(alloc, value, variables as usize)?;
+    let groups = GroupsForm {
+        variables: variables as usize,
+    };
+    let groups = need(alloc, &groups, &NoForm, value, Member::Groups)?;
     let batching = need(alloc, &ELEMENT, &NoForm, value, Member::Batching)?;
     let mode = need(alloc, &ModeForm, &LaterBuildForm, value, Member::Mode)?;
     Ok(Job {
@@ -321,28 +215,8 @@ pub fn read_job(alloc: Global, value: &Value) -> Result<Job, Unread>
         bits,
         table,
         variables,
-        claims,
+        groups,
         batching,
         mode,
     })
-}
-
-// The claims of all groups of a job.
-fn read_groups(alloc: Global, value: &Value, variables: usize) -> Result<Row<EqualityClaim>, Unread>
-    ensures ok { IfOk result (λ claims. needed_groups variables (view value.now) ≡ Ok claims) }
-    ensures misfit { (fault : Misfit) → result ≡ Err (Unread.Misfit fault)
-        → needed_groups variables (view value.now) ≡ Err fault }
-    ensures fits { IfOk result (λ claims. All (EqualityFits field_size variables) claims) }
-{
-    let later = FirstOther {
-        item: GroupForm { variables },
-        other: LaterGroupForm,
-    };
-    need(
-        alloc,
-        &GroupsForm { variables },
-        &later,
-        value,
-        Member::Groups,
-    )
 }

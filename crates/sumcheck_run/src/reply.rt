@@ -1,5 +1,5 @@
 //! What a command line and an input are answered.
-ghost use Rattle.std.specs.Prelude.{◌≡◌, ◌≤◌, ◌++◌, codes, string_bytes, IfOk};
+ghost use Rattle.std.specs.Prelude.{◌≡◌, ◌≤◌, string_bytes, IfOk};
 ghost use Rattle.sumcheck_run.specs.Reply.{Reply, code_of, no_witness, proof_refused, refused, usage};
 
 use sc_field::NoMemory;

@@ -6,7 +6,8 @@ ghost use Rattle.sc_rounds.specs.Data.{pair_of};
 ghost use Rattle.sc_audit.specs.Cases.{case_in};
 ghost use Rattle.sc_audit.specs.Figures.{figures_in, finding_in};
 ghost use Rattle.sc_audit.specs.Refusals.{refusal_of};
-ghost use Rattle.sumcheck_run.specs.Job.{JobFits, ScriptFits, field_size};
+ghost use Rattle.sumcheck_run.specs.Elements.{field_size};
+ghost use Rattle.sumcheck_run.specs.Job.{JobFits, ScriptFits};
 ghost use Rattle.sumcheck_run.specs.Lines.{round_lines};
 ghost use Rattle.sumcheck_run.specs.Report.{case_of, case_reply, field, figure_lines, figures_reply, finding_reply, judge, rules_of};
 

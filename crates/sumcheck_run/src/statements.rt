@@ -2,32 +2,66 @@
 ghost use Rattle.std.specs.Prelude.{◌≡◌, All, IfOk, map};
 ghost use Rattle.sc_statements.specs.Constraints.{constraint_arity, constraint_challenge, constraint_power, constraint_statements};
 ghost use Rattle.sc_statements.specs.EqStatements.{eq_arity, eq_statements};
-ghost use Rattle.sumcheck_run.specs.Statements.{EqualityFits};
-ghost use Rattle.sumcheck_run.specs.Report.{statement_of};
+ghost use Rattle.sc_statements.specs.Groups.{group_arity, group_statements};
+ghost use Rattle.sc_statements.specs.NextStatements.{next_arity, next_statements};
+ghost use Rattle.sc_statements.specs.SelectStatements.{select_arity, select_statements};
+ghost use Rattle.sumcheck_run.specs.Statements.{EqualityFits, GroupFits, ProductFits, ScalarFits, SuccessorFits, all_claims, equality_statement, group_claims, product_statement, scalar_statement, successor_statement};
 
 use crate::elements::elements;
-use crate::job::EqualityClaim;
+use crate::job::{EqualityClaim, Group, ProductClaim, ScalarClaim, SuccessorClaim};
 use sc_field::{Field, NoMemory};
-use sc_statements::{Constraint, EqStatement, Statements};
+use sc_statements::{Constraint, EqStatement, NextStatement, SelectStatement, Statements};
 use sc_table::Point;
 use std::alloc::Global;
 
-/// The claims on tables of so many variables as statements in one group, with the element whose powers batch them.
+/// The groups of claims on tables of so many variables as groups of statements, with the element whose powers batch them.
 pub(crate) fn constraint_of<F: Field>(
     alloc: Global,
-    claims: &[EqualityClaim],
+    groups: &[Group],
     variables: usize,
     batching: F,
 ) -> Result<Constraint<F, F>, NoMemory>
-    requires { All (EqualityFits F.ops.size variables) claims.now }
-    ensures statements { IfOk result (λ c. constraint_statements F.number F.number c ≡ map statement_of claims.now) }
+    requires { All (GroupFits F.ops.size variables) groups.now }
+    ensures statements { IfOk result (λ c. constraint_statements F.number F.number c ≡ all_claims groups.now) }
     ensures arity { IfOk result (λ c. constraint_arity c ≡ variables) }
     ensures challenge { IfOk result (λ c. constraint_challenge F.number c ≡ F.number batching) }
     ensures power { IfOk result (λ c. constraint_power c ≡ 0) }
 {
-    let statement = equality_of(alloc, claims, variables)?;
-    let groups = vec![in alloc; Statements::Eq(statement)]?;
-    Ok(Constraint::new(batching, variables, groups))
+    let mut made = Vec::with_capacity(alloc, groups.len())?;
+    for group in groups {
+        made.push(statements_of(alloc, group, variables)?)?;
+    }
+    Ok(Constraint::new(batching, variables, made))
+}
+
+// The claims of a group as statements.
+fn statements_of<F: Field>(
+    alloc: Global,
+    group: &Group,
+    variables: usize,
+) -> Result<Statements<F, F>, NoMemory>
+    requires { GroupFits F.ops.size variables group.now }
+    ensures statements { IfOk result (λ g. group_statements F.number F.number g ≡ group_claims group.now) }
+    ensures arity { IfOk result (λ g. group_arity g ≡ variables) }
+{
+    match group {
+        Group::Equality(claims) => {
+            let statement = equality_of(alloc, claims.as_slice(), variables)?;
+            Ok(Statements::Eq(statement))
+        }
+        Group::Successor(claims) => {
+            let statement = successor_of(alloc, claims.as_slice(), variables)?;
+            Ok(Statements::Next(statement))
+        }
+        Group::Scalars(claims) => {
+            let statement = scalars_of(alloc, claims.as_slice(), variables)?;
+            Ok(Statements::Select(statement))
+        }
+        Group::Products(claims) => {
+            let statement = products_of(alloc, claims.as_slice(), variables)?;
+            Ok(Statements::Select(statement))
+        }
+    }
 }
 
 // The claims as statements that the table has a value at a point.
@@ -37,13 +71,68 @@ fn equality_of<F: Field>(
     variables: usize,
 ) -> Result<EqStatement<F>, NoMemory>
     requires { All (EqualityFits F.ops.size variables) claims.now }
-    ensures statements { IfOk result (λ s. eq_statements F.number s ≡ map statement_of claims.now) }
+    ensures statements { IfOk result (λ s. eq_statements F.number s ≡ map equality_statement claims.now) }
     ensures arity { IfOk result (λ s. eq_arity s ≡ variables) }
 {
     let mut statement = EqStatement::initialize(alloc, variables);
     for claim in claims {
         let coords = elements(alloc, claim.point.as_slice())?;
         statement.add_evaluated_constraint(Point::new(coords), F::element(claim.value))?;
+    }
+    Ok(statement)
+}
+
+// The claims as statements that the table has a value through the successor map.
+fn successor_of<F: Field>(
+    alloc: Global,
+    claims: &[SuccessorClaim],
+    variables: usize,
+) -> Result<NextStatement<F>, NoMemory>
+    requires { All (SuccessorFits F.ops.size variables) claims.now }
+    ensures statements { IfOk result (λ s. next_statements F.number s ≡ map successor_statement claims.now) }
+    ensures arity { IfOk result (λ s. next_arity s ≡ variables) }
+{
+    let mut statement = NextStatement::initialize(alloc, variables);
+    for claim in claims {
+        let selector = Point::new(elements(alloc, claim.selector.as_slice())?);
+        let point = Point::new(elements(alloc, claim.point.as_slice())?);
+        let value = F::element(claim.value);
+        statement.add_evaluated_constraint(selector, point, value, claim.order)?;
+    }
+    Ok(statement)
+}
+
+// The claims as statements that a scalar's powers select a value.
+fn scalars_of<F: Field>(
+    alloc: Global,
+    claims: &[ScalarClaim],
+    variables: usize,
+) -> Result<SelectStatement<F, F>, NoMemory>
+    requires { All (ScalarFits F.ops.size) claims.now }
+    ensures statements { IfOk result (λ s. select_statements F.number F.number s ≡ map scalar_statement claims.now) }
+    ensures arity { IfOk result (λ s. select_arity s ≡ variables) }
+{
+    let mut statement = SelectStatement::initialize(alloc, variables);
+    for claim in claims {
+        statement.add_constraint(F::element(claim.scalar), F::element(claim.value))?;
+    }
+    Ok(statement)
+}
+
+// The claims as statements that a direct point's products select a value.
+fn products_of<F: Field>(
+    alloc: Global,
+    claims: &[ProductClaim],
+    variables: usize,
+) -> Result<SelectStatement<F, F>, NoMemory>
+    requires { All (ProductFits F.ops.size variables) claims.now }
+    ensures statements { IfOk result (λ s. select_statements F.number F.number s ≡ map product_statement claims.now) }
+    ensures arity { IfOk result (λ s. select_arity s ≡ variables) }
+{
+    let mut statement = SelectStatement::initialize(alloc, variables);
+    for claim in claims {
+        let point = Point::new(elements(alloc, claim.point.as_slice())?);
+        statement.add_point_constraint(point, F::element(claim.value))?;
     }
     Ok(statement)
 }

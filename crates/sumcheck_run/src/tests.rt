@@ -1,5 +1,6 @@
 //! Whole runs over memory.
 mod jobs;
+mod kinds;
 
 use crate::{MemSink, MemSource, PlainSource, Source, StdSink, StdSource, run};
 use jobs::{
@@ -462,19 +463,24 @@ fn what_is_past_one_byte_more_than_the_limit_stays_unread(rt: HostRuntime) -> Re
     Ok(())
 }
 
-// A job of groups of so many claims each, all of them true.
+// A job of groups of so many claims each, all of them true: one at points, and behind it one at scalars.
 fn job_of_groups(alloc: Global, counts: &[usize]) -> Result<String, AllocError> {
     let mut groups = String::new(alloc);
     for (i, count) in counts.iter().enumerate() {
         if i > 0 {
             groups.push_str(",")?;
         }
-        groups.push_str(r#"{"kind":"eq","claims":["#)?;
+        let (head, claim) = if i == 0 {
+            (r#"{"kind":"eq","claims":["#, r#"{"point":[],"value":7}"#)
+        } else {
+            (r#"{"kind":"select","scalars":["#, r#"{"at":5,"value":7}"#)
+        };
+        groups.push_str(head)?;
         for j in 0..*count {
             if j > 0 {
                 groups.push_str(",")?;
             }
-            groups.push_str(r#"{"point":[],"value":7}"#)?;
+            groups.push_str(claim)?;
         }
         groups.push_str("]}")?;
     }

@@ -154,14 +154,14 @@ pub(super) const CHANGES: [(&str, &str, &str); 81] = [
     (r#""bits":0"#, r#""bits":1.5"#, "bad-job bits"),
     (r#""bits":0"#, r#""bits":null"#, "bad-job bits"),
     (r#""bits":0"#, r#""bits":"0""#, "bad-job bits"),
-    (r#""eq""#, r#""next""#, "unbuilt groups"),
-    (r#""eq""#, r#""select""#, "unbuilt groups"),
+    (r#""eq""#, r#""next""#, "bad-job groups"),
+    (r#""eq""#, r#""select""#, "bad-job groups"),
     (r#""eq""#, r#""equal""#, "bad-job groups"),
     (r#"[{"kind":"eq""#, r#"[7,{"kind":"eq""#, "bad-job groups"),
     (
         r#"[{"kind":"eq""#,
         r#"[{"kind":"next"},7,{"kind":"eq""#,
-        "unbuilt groups",
+        "bad-job groups",
     ),
     (
         r#"[{"kind":"eq""#,

@@ -1,0 +1,14 @@
+use Rattle.std.proofs.Common.{arith, ◌≡◌}
+use Rattle.std.proofs.lemmas.List.Elements.{All-push}
+use Rattle.sc_statements.specs.Groups.{group_arity, group_statements}
+use Rattle.sumcheck_run.specs.Statements.{group_claims}
+use Rattle.sumcheck_run.proofs.GroupLaws.{flat_map-read}
+use Rattle.sumcheck_run.proofs.statements.constraint_of.Goals as goal
+
+pub loop-group-preserved : goal.loop-group-preserved
+loop-group-preserved g c = record {
+  shown = rw c.in_ok-push.ensures.items (flat_map-read (group_statements g.F.Field.number g.F.Field.number) group_claims c.loop-group.made.items c.args.groups.now
+      c.in_ok-statements_of.field-0 c.group-item.result c.loop-group.group-index (omega arith) c.group-item.is c.loop-group.invariant.shown c.in_ok-statements_of.ensures.statements);
+  arity = rw c.in_ok-push.ensures.items (All-push (λ s. group_arity s ≡ c.args.variables) c.loop-group.made.items c.in_ok-statements_of.field-0
+      c.loop-group.invariant.arity c.in_ok-statements_of.ensures.arity);
+}

@@ -1,0 +1,10 @@
+use Rattle.std.proofs.Common.{◌≡◌, All, take}
+use Rattle.sc_statements.specs.Groups.{all_statements, group_arity}
+use Rattle.sumcheck_run.specs.Statements.{all_claims}
+use Rattle.sumcheck_run.proofs.statements.constraint_of.Given as goal
+
+abbrev pub invariant-loop-group : goal.invariant-loop-group
+invariant-loop-group g l = record {
+  shown : all_statements g.F.Field.number g.F.Field.number l.made.items ≡ all_claims (take l.group-index l.groups);
+  arity : All (λ s. group_arity s ≡ l.variables) l.made.items;
+}

@@ -1,0 +1,11 @@
+use Rattle.std.proofs.Common.{◌≡◌, [], map, take}
+use Rattle.sc_statements.specs.SelectStatements.{select_arity, select_statements, scalars_of}
+use Rattle.sumcheck_run.specs.Statements.{product_statement}
+use Rattle.sumcheck_run.proofs.statements.products_of.Given as goal
+
+abbrev pub invariant-loop-claim : goal.invariant-loop-claim
+invariant-loop-claim g l = record {
+  shown : select_statements g.F.Field.number g.F.Field.number l.statement ≡ map product_statement (take l.claim-index l.claims);
+  arity : select_arity l.statement ≡ l.variables;
+  kind : scalars_of l.statement ≡ [];
+}
