@@ -1,3 +1,4 @@
 pub mod ProductLaws
 pub mod PowersLaws
 pub mod SumsLaws
+pub mod InverseLaws

@@ -1,5 +1,5 @@
 -- Powers of sums of exponents and of products, and the items of an iterator of powers.
-use Rattle.std.proofs.Common.{◌≡◌, ℕ, zero, suc, ◌+◌, ◌<◌, List, [], ◌∷◌, map, sym, ◌∙◌, ap, refl, arith}
+use Rattle.std.proofs.Common.{◌≡◌, ℕ, zero, suc, ◌<◌, List, [], ◌∷◌, map, sym, ◌∙◌, ap, refl, arith}
 use Rattle.std.specs.Iterator.{Yields}
 use Rattle.sc_definitions.specs.Ring.{Ops, IsRing, times, power}
 use Rattle.sc_definitions.proofs.RingLaws.{element-small, times_assoc, times-one}

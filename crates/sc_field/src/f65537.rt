@@ -2,9 +2,11 @@
 ghost use Rattle.std.specs.Prelude.{◌<◌, refl};
 ghost use Rattle.std.proofs.Common.{lit<, lit≤};
 ghost use Rattle.sc_definitions.specs.Residues.{residues};
-ghost use Rattle.sc_field.specs.ResiduesLaws.{residues_field, residues_two, eqb_iff};
+ghost use Rattle.sc_field.specs.ResiduesLaws.{residues_field, residues_two};
+ghost use Rattle.sc_field.specs.PrimeLaws.{eqb_iff};
 
 use crate::field::Field;
+use crate::prime::inverse_modulo;
 
 // 2^16 + 1, a prime number.
 const MODULUS: u32 = 65537;
@@ -16,7 +18,7 @@ pub struct F65537 {
     ghost below: { value < 65537 },
 }
 
-#[tactic(auto, using(crate::specs::ResiduesLaws::residues_plus, crate::specs::ResiduesLaws::residues_times, crate::specs::ResiduesLaws::residues_opposite))]
+#[tactic(auto, using(crate::specs::ResiduesLaws::prime_65537, crate::specs::ResiduesLaws::residues_plus, crate::specs::ResiduesLaws::residues_times, crate::specs::ResiduesLaws::residues_opposite))]
 impl Field for F65537 {
     ghost ops = { residues 65537 };
 
@@ -100,6 +102,16 @@ impl Field for F65537 {
             } else {
                 MODULUS - self.value
             },
+        }
+    }
+
+    fn inverse(self) -> Option<F65537> {
+        if self.value == 0 {
+            None
+        } else {
+            Some(F65537 {
+                value: inverse_modulo(self.value, MODULUS),
+            })
         }
     }
 }

@@ -1,5 +1,5 @@
 //! What a field is.
-ghost use Rattle.std.specs.Prelude.{◌≡◌, ℕ, ◌<◌, ◌≤◌, ◌^◌, ◌↔◌, true};
+ghost use Rattle.std.specs.Prelude.{◌≡◌, ℕ, ◌<◌, ◌≤◌, ◌^◌, ◌↔◌, true, IfSome};
 ghost use Rattle.sc_definitions.specs.Ring.{Ops, IsField, plus, times, opposite, minus, power};
 
 use crate::powers::Powers;
@@ -58,6 +58,11 @@ pub trait Field: Copy + Eq {
     /// Zero less `self`.
     fn neg(self) -> Self
         ensures { number result ≡ opposite ops (number self) };
+
+    /// The inverse: the element whose product with `self` is one. `None` exactly at zero.
+    fn inverse(self) -> Option<Self>
+        ensures none { (result ≡ None) ↔ (number self ≡ 0) }
+        ensures product { IfSome result (λ y. times ops (number self) (number y) ≡ 1) };
 
     /// `self` plus itself.
     fn double(self) -> Self

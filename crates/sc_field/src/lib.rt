@@ -6,16 +6,19 @@
 #![tactic(auto)]
 
 mod algebra;
+mod f257;
 mod f65537;
 mod field;
 mod laws;
 mod memory;
 mod powers;
+mod prime;
 mod representation;
 #[cfg(test)]
 mod tests;
 
 pub use algebra::{Algebra, ExtensionField};
+pub use f257::F257;
 pub use f65537::F65537;
 pub use field::Field;
 pub use laws::{field_laws, power_laws, sum_laws};
