@@ -1,5 +1,6 @@
 pub mod Ring
 pub mod Residues
+pub mod Sixteen
 pub mod Tables
 pub mod Shifts
 pub mod Polynomials

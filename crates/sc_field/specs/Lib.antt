@@ -5,3 +5,5 @@ pub mod Own
 pub mod Powers
 pub mod PrimeLaws
 pub mod ResiduesLaws
+pub mod SixteenLaws
+pub mod Tested

@@ -11,11 +11,13 @@ mod f65537;
 mod field;
 mod laws;
 mod memory;
+mod poly16;
 mod powers;
 mod prime;
 mod representation;
 #[cfg(test)]
 mod tests;
+mod tower16;
 
 pub use algebra::{Algebra, ExtensionField};
 pub use f257::F257;
@@ -23,5 +25,7 @@ pub use f65537::F65537;
 pub use field::Field;
 pub use laws::{field_laws, power_laws, sum_laws};
 pub use memory::NoMemory;
+pub use poly16::Poly16;
 pub use powers::Powers;
 pub use representation::{FromTable, IntoTranscriptField};
+pub use tower16::Tower16;
