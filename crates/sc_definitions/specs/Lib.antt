@@ -8,6 +8,7 @@ pub mod Rounds
 pub mod Messages
 pub mod Statements
 pub mod Events
+pub mod Quadratic
 pub mod Scripted
 pub mod Transcript
 pub mod Played

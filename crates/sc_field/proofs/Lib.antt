@@ -5,3 +5,4 @@ pub mod InverseLaws
 pub mod SixteenTables
 pub mod TowerTables
 pub mod PolynomialTables
+pub mod PairLaws

@@ -1,9 +1,11 @@
 pub mod F257Laws
+pub mod F257x2Laws
 pub mod Laws
 pub mod Memory
 pub mod Own
 pub mod Powers
 pub mod PrimeLaws
+pub mod QuadraticLaws
 pub mod ResiduesLaws
 pub mod SixteenLaws
 pub mod Tested

@@ -1,5 +1,5 @@
 //! The integers modulo 257.
-ghost use Rattle.std.specs.Prelude.{◌<◌, refl};
+ghost use Rattle.std.specs.Prelude.{◌≡◌, ◌%◌, ◌<◌, refl};
 ghost use Rattle.std.proofs.Common.{lit<, lit≤};
 ghost use Rattle.sc_definitions.specs.Residues.{residues};
 ghost use Rattle.sc_field.specs.F257Laws.{f257_field, f257_two};
@@ -16,6 +16,17 @@ const MODULUS: u16 = 257;
 pub struct F257 {
     pub(crate) value: u16,
     ghost below: { value < 257 },
+}
+
+impl F257 {
+    // The element of any number.
+    pub(crate) fn reduced(number: u32) -> F257
+        ensures { result.value ≡ number % 257 }
+    {
+        F257 {
+            value: (number % MODULUS as u32) as u16,
+        }
+    }
 }
 
 #[tactic(auto, using(crate::specs::F257Laws::prime_257, crate::specs::F257Laws::f257_plus, crate::specs::F257Laws::f257_times, crate::specs::F257Laws::f257_opposite))]
@@ -83,10 +94,7 @@ impl Field for F257 {
     }
 
     fn mul(self, other: F257) -> F257 {
-        let product = self.value as u32 * other.value as u32;
-        F257 {
-            value: (product % MODULUS as u32) as u16,
-        }
+        F257::reduced(self.value as u32 * other.value as u32)
     }
 
     fn neg(self) -> F257 {

@@ -7,6 +7,7 @@
 
 mod algebra;
 mod f257;
+mod f257x2;
 mod f65537;
 mod field;
 mod laws;
@@ -21,6 +22,7 @@ mod tower16;
 
 pub use algebra::{Algebra, ExtensionField};
 pub use f257::F257;
+pub use f257x2::F257x2;
 pub use f65537::F65537;
 pub use field::Field;
 pub use laws::{field_laws, power_laws, sum_laws};
