@@ -1,5 +1,6 @@
 //! Finite fields, by their numbers: what a field, an algebra over one, an extension and another
-//! representation of one are, and the integers modulo 65537.
+//! representation of one are, and five fields: the integers modulo 65537 and modulo 257, a quadratic
+//! extension of the latter, and two of 16 elements that represent each other.
 //!
 //! Each element has a number below the field's size, and the contracts speak of elements by their
 //! numbers alone.

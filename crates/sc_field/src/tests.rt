@@ -2,6 +2,10 @@
 
 ghost use Rattle.std.specs.Prelude.{◌≡◌, ◌<◌};
 
+mod integers;
+mod pairs;
+mod sixteen;
+
 use crate::algebra::{Algebra, ExtensionField};
 use crate::f65537::F65537;
 use crate::field::Field;
@@ -73,6 +77,18 @@ fn multiplies(rt: HostRuntime) -> Result<(), Fail> {
     assert_eq!(rt; of(256).mul(of(256)).index(), 65536);
     assert_eq!(rt; of(54321).mul(of(12345)).index(), 18161);
     assert_eq!(rt; of(300).square().index(), 24463);
+    Ok(())
+}
+
+// 2 * 32769 is 65538, and 3 * 21846 is 65538 too.
+#[test]
+fn inverts(rt: HostRuntime) -> Result<(), Fail> {
+    assert_eq!(rt; of(2).inverse() == Some(of(32769)), true);
+    assert_eq!(rt; of(3).inverse() == Some(of(21846)), true);
+    assert_eq!(rt; of(12345).inverse() == Some(of(31651)), true);
+    assert_eq!(rt; of(65536).inverse() == Some(of(65536)), true);
+    assert_eq!(rt; of(1).inverse() == Some(of(1)), true);
+    assert_eq!(rt; of(0).inverse().is_none(), true);
     Ok(())
 }
 
