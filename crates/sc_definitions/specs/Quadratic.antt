@@ -1,5 +1,5 @@
 -- Extensions of degree 2: the elements a + b u over a ring, where u^2 = k. Such an element has the number a + size b.
-use Rattle.std.specs.Prelude.{ℕ, ◌+◌, ◌*◌, ◌/◌, ◌%◌, List, [], ◌∷◌, slice_index}
+use Rattle.std.specs.Prelude.{ℕ, ◌+◌, ◌*◌, ◌/◌, ◌%◌, [], ◌∷◌, slice_index}
 use Rattle.sc_definitions.specs.Ring.{Ops, plus, times, opposite}
 use Rattle.sc_definitions.specs.Events.{Extension}
 

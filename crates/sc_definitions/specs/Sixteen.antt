@@ -28,7 +28,7 @@ tower = sixteen tower_product
 unfoldable pub times_x : ℕ → ℕ
 times_x n = if nat_lt n 8 then 2 * n else bit_xor (2 * n) (16 + 2 + 1)
 
--- n times the lowest bits of m, as many as `bits` says
+-- the product of n and the lowest bits of m, as many as `bits` says, where bit number i counts as x^i
 unfoldable pub product_by_bits : ℕ → ℕ → ℕ → ℕ
 product_by_bits zero m n = 0
 product_by_bits (suc bits) m n = bit_xor ((m % 2) * n) (times_x (product_by_bits bits (m / 2) n))

@@ -4,7 +4,7 @@ use Rattle.sc_definitions.specs.Ring.{IsField, element, plus, times}
 use Rattle.sc_definitions.specs.Residues.{residues}
 use Rattle.sc_definitions.specs.Quadratic.{pair, low, high, quadratic}
 use Rattle.sc_field.specs.F257Laws.{f257_field, f257_times}
-use Rattle.sc_field.specs.QuadraticLaws.{quadratic_field}
+use Rattle.sc_field.specs.QuadraticFields.{quadratic_field}
 use Rattle.sc_field.specs.Tested.{all_below, all-at}
 
 is_no_root : ℕ → Bool

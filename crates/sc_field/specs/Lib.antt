@@ -5,6 +5,7 @@ pub mod Memory
 pub mod Own
 pub mod Powers
 pub mod PrimeLaws
+pub mod QuadraticFields
 pub mod QuadraticLaws
 pub mod ResiduesLaws
 pub mod SixteenLaws

@@ -1,8 +1,8 @@
 -- The integers modulo a prime number are a field.
-use Rattle.std.proofs.Common.{◌≡◌, ℕ, zero, suc, ◌+◌, ◌-◌, ◌*◌, ◌/◌, ◌%◌, ◌<◌, ◌≤◌, ◌^◌, Bool, true, false, ◌&&◌, eqb, [], ◌∷◌, sym, ◌∙◌, ap, refl, subst, arith, ⊎_elim, ltb, ltb-true, eqb-true, eq-eqb, ◌↔◌}
+use Rattle.std.proofs.Common.{◌≡◌, ℕ, zero, suc, ◌+◌, ◌-◌, ◌*◌, ◌/◌, ◌%◌, ◌<◌, ◌≤◌, ◌^◌, Bool, true, ◌&&◌, eqb, [], ◌∷◌, sym, ◌∙◌, ap, refl, subst, arith, ⊎_elim, ltb, ltb-true, eqb-true, eq-eqb, ◌↔◌}
 use Rattle.std.proofs.Math.Nat.{mod-lt, mod-eq_of_lt, mod-add-mod, add-mod-mod, mul_comm, mul_assoc, mul-one, div-add-mod, div-add-mod', mul-mod_right}
 use Rattle.std.proofs.lemmas.Nat.{mul-mod_first, mul-mod_second, mul-mod, mul-le}
-use Rattle.std.proofs.lemmas.Bool.{cases_lt}
+use Rattle.std.proofs.lemmas.Bool.{and_parts, cases_lt}
 use Rattle.sc_definitions.specs.Ring.{IsRing, IsField, plus, times, opposite}
 use Rattle.sc_definitions.proofs.RingLaws.{opposite_below}
 use Rattle.sc_definitions.proofs.Identity.{atom, nought, ◌⊕◌, ◌⊗◌, ◌⊖◌, neg, Agree, identity}
@@ -25,15 +25,11 @@ unfoldable pub none_divides : ℕ → ℕ → Bool
 none_divides p zero = true
 none_divides p (suc n) = ltb 0 (p % (n + 2)) && none_divides p n
 
-split_and : (a b : Bool) → (a && b) ≡ true → (a ≡ true) × (b ≡ true)
-split_and true b h = (refl, h)
-split_and false b h = cc
-
 none_at : (p n d : ℕ) → none_divides p n ≡ true → d < n → 0 < p % (d + 2)
 unfolding none_divides
 none_at p zero d t low = absurd (omega arith)
 none_at p (suc n) d t low =
-    let both : (ltb 0 (p % (n + 2)) ≡ true) × (none_divides p n ≡ true) = split_and (ltb 0 (p % (n + 2))) (none_divides p n) t in
+    let both : (ltb 0 (p % (n + 2)) ≡ true) × (none_divides p n ≡ true) = and_parts (ltb 0 (p % (n + 2))) (none_divides p n) t in
     ⊎_elim (λ less. none_at p n d both.1 less)
     (λ top. let same : n ≡ d = omega arith in subst (λ k. 0 < p % (k + 2)) same (ltb-true 0 (p % (n + 2)) both.0))
     (cases_lt d n)

@@ -1,6 +1,6 @@
 -- Small rings, fields and representations, by a test of all their numbers.
 use Rattle.std.proofs.Common.{◌≡◌, ℕ, zero, suc, ◌<◌, ◌≤◌, ◌^◌, Bool, true, false, ◌&&◌, cond, eqb, ltb, ltb-true, eqb-true, ⊎_elim, inl, inr, ◌⊎◌, subst, refl, arith}
-use Rattle.std.proofs.lemmas.Bool.{cases_lt}
+use Rattle.std.proofs.lemmas.Bool.{and_parts, cases_lt}
 use Rattle.sc_definitions.specs.Ring.{Ops, IsRing, IsField, IsRingMap, IsRepresentation, plus, times}
 
 -- the test passes at each number below n
@@ -13,15 +13,11 @@ unfoldable pub some_below : ℕ → (ℕ → Bool) → Bool
 some_below zero p = false
 some_below (suc n) p = cond (p n) true (some_below n p)
 
-split_and : (a b : Bool) → (a && b) ≡ true → (a ≡ true) × (b ≡ true)
-split_and true b h = (refl, h)
-split_and false b h = cc
-
 pub all-at : (n : ℕ) (p : ℕ → Bool) → all_below n p ≡ true → (k : ℕ) → k < n → p k ≡ true
 unfolding all_below
 all-at zero p t k low = absurd (omega arith)
 all-at (suc n) p t k low =
-    let both : (p n ≡ true) × (all_below n p ≡ true) = split_and (p n) (all_below n p) t in
+    let both : (p n ≡ true) × (all_below n p ≡ true) = and_parts (p n) (all_below n p) t in
     ⊎_elim (λ less. all-at n p both.1 k less)
     (λ top. let same : n ≡ k = omega arith in subst (λ j. p j ≡ true) same both.0)
     (cases_lt k n)
@@ -76,8 +72,8 @@ module _ (o : Ops) (test : passes o ≡ true) where
   parts : (all_below o.size (one_test o) ≡ true) × ((all_below o.size (λ x. all_below o.size (two_test o x)) ≡ true)
       × (all_below o.size (λ x. all_below o.size (λ y. all_below o.size (three_test o x y))) ≡ true))
   unfolding passes
-  parts = let a = split_and (all_below o.size (one_test o)) _ test in
-      let b = split_and (all_below o.size (λ x. all_below o.size (two_test o x))) _ a.1 in (a.0, (b.0, b.1))
+  parts = let a = and_parts (all_below o.size (one_test o)) _ test in
+      let b = and_parts (all_below o.size (λ x. all_below o.size (two_test o x))) _ a.1 in (a.0, (b.0, b.1))
 
   one_parts : (x : ℕ) → x < o.size → (ltb (o.raw_opposite x) o.size ≡ true) × (eqb (o.raw_plus x 0) x ≡ true) × (eqb (o.raw_plus x (o.raw_opposite x)) 0 ≡ true)
       × (eqb (o.raw_times x 1) x ≡ true) × (cond (eqb x 0) true (some_below o.size (λ y. eqb (o.raw_times x y) 1)) ≡ true)
@@ -85,8 +81,8 @@ module _ (o : Ops) (test : passes o ≡ true) where
   one_parts x h =
       let E = cond (eqb x 0) true (some_below o.size (λ y. eqb (o.raw_times x y) 1)) in
       let D = eqb (o.raw_times x 1) x in let C = eqb (o.raw_plus x (o.raw_opposite x)) 0 in let B = eqb (o.raw_plus x 0) x in
-      let a = split_and (ltb (o.raw_opposite x) o.size) (B && (C && (D && E))) (all-at o.size (one_test o) parts.0 x h) in
-      let b = split_and B (C && (D && E)) a.1 in let c = split_and C (D && E) b.1 in let d = split_and D E c.1 in
+      let a = and_parts (ltb (o.raw_opposite x) o.size) (B && (C && (D && E))) (all-at o.size (one_test o) parts.0 x h) in
+      let b = and_parts B (C && (D && E)) a.1 in let c = and_parts C (D && E) b.1 in let d = and_parts D E c.1 in
       (a.0, b.0, c.0, d.0, d.1)
 
   two_parts : (x y : ℕ) → x < o.size → y < o.size → (ltb (o.raw_plus x y) o.size ≡ true) × (ltb (o.raw_times x y) o.size ≡ true)
@@ -94,8 +90,8 @@ module _ (o : Ops) (test : passes o ≡ true) where
   unfolding two_test
   two_parts x y h k =
       let B = ltb (o.raw_times x y) o.size in let C = eqb (o.raw_plus x y) (o.raw_plus y x) in let D = eqb (o.raw_times x y) (o.raw_times y x) in
-      let a = split_and (ltb (o.raw_plus x y) o.size) (B && (C && D)) (pair-at o.size (two_test o) parts.1.0 x y h k) in
-      let b = split_and B (C && D) a.1 in let c = split_and C D b.1 in (a.0, b.0, c.0, c.1)
+      let a = and_parts (ltb (o.raw_plus x y) o.size) (B && (C && D)) (pair-at o.size (two_test o) parts.1.0 x y h k) in
+      let b = and_parts B (C && D) a.1 in let c = and_parts C D b.1 in (a.0, b.0, c.0, c.1)
 
   three_parts : (x y z : ℕ) → x < o.size → y < o.size → z < o.size →
       (eqb (o.raw_plus (o.raw_plus x y) z) (o.raw_plus x (o.raw_plus y z)) ≡ true)
@@ -105,8 +101,8 @@ module _ (o : Ops) (test : passes o ≡ true) where
   three_parts x y z h k l =
       let B = eqb (o.raw_times (o.raw_times x y) z) (o.raw_times x (o.raw_times y z)) in
       let C = eqb (o.raw_times x (o.raw_plus y z)) (o.raw_plus (o.raw_times x y) (o.raw_times x z)) in
-      let a = split_and (eqb (o.raw_plus (o.raw_plus x y) z) (o.raw_plus x (o.raw_plus y z))) (B && C) (triple-at o.size (three_test o) parts.1.1 x y z h k l) in
-      let b = split_and B C a.1 in (a.0, b.0, b.1)
+      let a = and_parts (eqb (o.raw_plus (o.raw_plus x y) z) (o.raw_plus x (o.raw_plus y z))) (B && C) (triple-at o.size (three_test o) parts.1.1 x y z h k l) in
+      let b = and_parts B C a.1 in (a.0, b.0, b.1)
 
   tested_ring : 2 ≤ o.size → IsRing o
   tested_ring two_least = record {
@@ -156,18 +152,18 @@ module _ (a b : Ops) (h g : ℕ → ℕ) (test : maps_there a b h g ≡ true) wh
   unfolding maps_there
   map_parts =
       let C = all_below a.size (back_test b h g) in let D = all_below a.size (λ x. all_below a.size (kept_test a b h x)) in
-      let p = split_and (eqb (h 0) 0) (eqb (h 1) 1 && (C && D)) test in
-      let q = split_and (eqb (h 1) 1) (C && D) p.1 in let r = split_and C D q.1 in (p.0, q.0, r.0, r.1)
+      let p = and_parts (eqb (h 0) 0) (eqb (h 1) 1 && (C && D)) test in
+      let q = and_parts (eqb (h 1) 1) (C && D) p.1 in let r = and_parts C D q.1 in (p.0, q.0, r.0, r.1)
 
   back_parts : (x : ℕ) → x < a.size → (ltb (h x) b.size ≡ true) × (eqb (g (h x)) x ≡ true)
   unfolding back_test
-  back_parts x low = split_and (ltb (h x) b.size) (eqb (g (h x)) x) (all-at a.size (back_test b h g) map_parts.2 x low)
+  back_parts x low = and_parts (ltb (h x) b.size) (eqb (g (h x)) x) (all-at a.size (back_test b h g) map_parts.2 x low)
 
   kept_parts : (x y : ℕ) → x < a.size → y < a.size →
       (eqb (h (plus a x y)) (plus b (h x) (h y)) ≡ true) × (eqb (h (times a x y)) (times b (h x) (h y)) ≡ true)
   unfolding kept_test
   kept_parts x y p q =
-      split_and (eqb (h (plus a x y)) (plus b (h x) (h y))) (eqb (h (times a x y)) (times b (h x) (h y)))
+      and_parts (eqb (h (plus a x y)) (plus b (h x) (h y))) (eqb (h (times a x y)) (times b (h x) (h y)))
       (pair-at a.size (kept_test a b h) map_parts.3 x y p q)
 
   tested_map : IsRingMap a b h

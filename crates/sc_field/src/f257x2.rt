@@ -5,7 +5,8 @@ ghost use Rattle.sc_definitions.specs.Residues.{residues};
 ghost use Rattle.sc_definitions.specs.Quadratic.{pair, quadratic, pair_extension};
 ghost use Rattle.sc_field.specs.F257Laws.{f257_field};
 ghost use Rattle.sc_field.specs.F257x2Laws.{f257x2_field, f257x2_zero, f257x2_one, f257x2_two};
-ghost use Rattle.sc_field.specs.QuadraticLaws.{pair_below, pair_iff, first_map, pair_extends};
+ghost use Rattle.sc_field.specs.QuadraticLaws.{pair_below, pair_iff};
+ghost use Rattle.sc_field.specs.QuadraticFields.{first_map, pair_extends};
 
 use crate::algebra::{Algebra, ExtensionField};
 use crate::f257::F257;

@@ -13,7 +13,8 @@ pub(crate) fn inverse_modulo(value: u32, modulus: u32) -> u32
 {
     let mut rest = value;
     let mut factor: u32 = 1;
-    // `value` times `factor` is `rest`. The modulus counts as 0, so its own rest is -`quotient` times `rest`.
+    // `value` times `factor` is `rest`. The modulus counts as 0, so what is left of it after division by
+    // `rest` is -`quotient` times `rest`.
     while rest != 1 {
         let quotient = modulus / rest;
         let product = quotient as u64 * factor as u64 % modulus as u64;

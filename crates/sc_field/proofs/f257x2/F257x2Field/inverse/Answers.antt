@@ -4,7 +4,8 @@ use Rattle.sc_definitions.specs.Residues.{residues}
 use Rattle.sc_definitions.specs.Quadratic.{pair, quadratic}
 use Rattle.sc_field.specs.F257Laws.{f257_field}
 use Rattle.sc_field.specs.F257x2Laws.{f257x2_field, no_root}
-use Rattle.sc_field.specs.QuadraticLaws.{same_pair, inverse-pair, zero-from_norm}
+use Rattle.sc_field.specs.QuadraticLaws.{same_pair}
+use Rattle.sc_field.specs.QuadraticFields.{inverse-pair, zero-from_norm}
 use Rattle.sc_field.proofs.PairLaws.{norm_is, unit_not_zero, some_not_none}
 use Rattle.sc_field.proofs.f257x2.F257x2Field.inverse.Goals as goal
 
