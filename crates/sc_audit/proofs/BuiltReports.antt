@@ -8,7 +8,7 @@ use Rattle.sc_definitions.specs.Rounds.{honest_pair, next_claim, claim_along}
 use Rattle.sc_definitions.specs.Statements.{Statement}
 use Rattle.sc_definitions.specs.Events.{Rules, Extension}
 use Rattle.sc_definitions.specs.Transcript.{Round, sent, messages_of, rounds_events, challenges, IsBuilt}
-use Rattle.sc_definitions.specs.Replays.{Replays, ReplaysSome, given_rounds}
+use Rattle.sc_definitions.specs.Replays.{Replays, ReplaysSome, IsInvalidAt, given_rounds}
 use Rattle.sc_definitions.specs.Problem.{weights_of, claim_of, honest_of, residual_of, eval_of, weight_value_of}
 use Rattle.sc_definitions.proofs.RingLaws.{element-small}
 use Rattle.std.proofs.Math.Nat.{pow-suc}
@@ -16,17 +16,19 @@ use Rattle.sc_definitions.specs.Messages.{message_of}
 use Rattle.sc_definitions.proofs.RoundLaws.{honest_pair-message}
 use Rattle.sc_definitions.proofs.PlayedLaws.{value-played, message-same}
 use Rattle.sc_definitions.proofs.BuildLaws.{first_false_claim-all, built-residual}
-use Rattle.sc_rounds.specs.Data.{witnesses_of}
+use Rattle.sc_rounds.specs.Data.{witnesses_of, witness_count}
 use Rattle.sc_rounds.specs.Batches.{PlaysBatch, FailsBatch}
 use Rattle.sc_rounds.specs.Products.{EndsRound}
 use Rattle.sc_rounds.specs.declared.error.SumcheckError.{SumcheckError}
 use Rattle.sc_rounds.specs.declared.error.SumcheckError.TheVariants.{RoundCountMismatch, MissingSumcheckData, InvalidPowWitness, MissingPowWitness, PowWitnessCountMismatch, WireSizeMismatch, EvenCharacteristic, MaskTooShort, NoRounds, OpeningShapeMismatch, NoWitness, NoMemory}
 use Rattle.sc_rounds.specs.Invalid.{FindsNone as IsUnfound}
-use Rattle.sc_rounds.proofs.InStep.{given_played}
+use Rattle.sc_definitions.proofs.BuiltLaws.{length-messages}
+use Rattle.sc_rounds.proofs.InStep.{given_played, count_witnesses, none_failing}
 use Rattle.sc_audit.specs.declared.job.Strategy.{Strategy}
 use Rattle.sc_audit.specs.Cases.{Case, Task, build}
 use Rattle.sc_audit.specs.Figures.{holds, finding_by, false_claim_of, is_matched}
 use Rattle.sc_audit.specs.Audits.{begun, IsAudited, IsBrokenOff, FindsNone}
+use Rattle.sc_audit.specs.Built.{IsBuiltCase}
 use Rattle.sc_audit.proofs.FigureLaws.{stated, figures-are}
 use Rattle.sc_audit.proofs.SameTables.{Agree, played-same}
 
@@ -68,71 +70,101 @@ module _ (order : Order) (o : Ops) (ring : IsRing o) (R : Rules) (E : Extension)
 
   -- built rounds on true statements hold
   finding-built : (h : List Event) (rounds : List Round) → false_claim_of o (stated order n f ss c i) ≡ None → length rounds ≡ n →
-      IsBuilt (honest_pair evaluation order o f (weights_of o (stated order n f ss c i))) R E bits h [] n rounds →
+      IsBuilt (honest_of o (stated order n f ss c i)) R E bits h [] n rounds →
       holds ≡ finding_by (is_matched o (stated order n f ss c i) (messages_of rounds) (challenges R E bits h rounds)) (false_claim_of o (stated order n f ss c i))
+  unfolding honest_of
   finding-built h rounds none whole built =
       let p = stated order n f ss c i in
       let matched : is_matched o p (messages_of rounds) (challenges R E bits h rounds) ≡ true =
       eq-eqb _ _ (built-residual o ring p R E bits h rounds tt (first_false_claim-all o n f 0 ss none) whole built) in
       sym (ap (λ t. finding_by t (false_claim_of o p)) matched ∙ ap (finding_by true) none)
 
-  -- the report on them
-  pub report-built : (h : List Event) (rows : ℕ) (task : Task) (strategy : Strategy) (rs : List ℕ) (left : ℕ) (f' w' : ℕ → ℕ) (claim' : ℕ) (h' hv : List Event) (ms : List (List ℕ)) (ws : List ℕ)
-      (out : List ℕ) (claim residual x y : ℕ) →
+  -- what a prover's batch has built
+  pub built-case : (h : List Event) (rows : ℕ) (task : Task) (rs : List ℕ) (left : ℕ) (f' w' : ℕ → ℕ) (claim' : ℕ) (h' : List Event) (ms : List (List ℕ)) (ws : List ℕ)
+      (claim x y : ℕ) →
       PlaysBatch order o R E bits n f (weights_of o (stated order n f ss c i)) (claim_of o (stated order n f ss c i))
       (begun E h (record { rows = rows; bits = bits; problem = stated order n f ss c i; task = task })) rs left f' w' claim' h' [] [] ms ws →
-      left ≡ 0 → false_claim_of o (stated order n f ss c i) ≡ None →
-      Replays (next_claim evaluation o) R E bits (begun E h (record { rows = rows; bits = bits; problem = stated order n f ss c i; task = task }))
-      (claim_of o (stated order n f ss c i)) (given_rounds ms ws) hv out residual →
-      claim ≡ claim_of o (stated order n f ss c i) → x ≡ f' 0 → y ≡ w' 0 → x < o.size → y < o.size →
-      IsAudited o R E h (record { rows = rows; bits = bits; problem = stated order n f ss c i; task = task }) (build strategy)
-      (record { claim = claim; messages = ms; witnesses = ws; challenges = rs; residual = residual; eval = x; weight = y; finding = holds }) hv
-  report-built h rows task strategy rs left f' w' claim' h' hv ms ws out claim residual x y batch none_left none replays claim_is xe ye low high =
+      left ≡ 0 → claim ≡ claim_of o (stated order n f ss c i) → x ≡ f' 0 → y ≡ w' 0 → x < o.size → y < o.size →
+      IsBuiltCase o R E h (record { rows = rows; bits = bits; problem = stated order n f ss c i; task = task }) claim ms ws rs x y
+  built-case h rows task rs left f' w' claim' h' ms ws claim x y batch none_left claim_is xe ye low high =
       let p = stated order n f ss c i in
       let k : Case = record { rows = rows; bits = bits; problem = p; task = task } in
       let q : PlaysBatch order o R E bits n f (weights_of o p) (claim_of o p) (begun E h k) rs 0 f' w' claim' h' [] [] ms ws = rw (← none_left) batch in
-      let rounds = q.rounds in
-      let given : given_rounds ms ws ≡ rounds =
-      ap (λ t. given_rounds t ws) q.appended ∙ ap (given_rounds (messages_of rounds)) q.found ∙ given_played _ R E bits (begun E h k) [] n rounds q.played.built in
-      let moved : Replays (next_claim evaluation o) R E bits (begun E h k) (claim_of o p) rounds hv out residual = rw (← given) replays in
-      let count : length rounds ≡ n = omega (arith, q.played.count) in
       let low' : f' 0 < o.size = rw (← xe) low in
       let high' : w' 0 < o.size = rw (← ye) high in
       record {
-        rounds = rounds;
-        are = built-honest (begun E h k) rounds q.played.built;
-        plays = record { count = count; passes = moved.passes; history = moved.history };
-        figures = figures-are o p ms (messages_of rounds) ws (witnesses_of bits rounds) rs (challenges R E bits (begun E h k) rounds) claim residual x y holds
-            q.appended q.found q.played.drawn claim_is (residual-left rounds _ residual moved.claim)
-            (xe ∙ eval-left f' rs low' q.played.evals ∙ ap (eval_of o p) q.played.drawn) (ye ∙ weight-left w' rs high' q.played.weights ∙ ap (weight_value_of o p) q.played.drawn)
-            (finding-built (begun E h k) rounds none count q.played.built);
+        rounds = q.rounds;
+        built = built-honest (begun E h k) q.rounds q.played.built;
+        count = omega (arith, q.played.count);
+        sent = q.appended;
+        found = q.found;
+        drawn = q.played.drawn;
+        begins = claim_is;
+        eval_is = xe ∙ eval-left f' rs low' q.played.evals;
+        weight_is = ye ∙ weight-left w' rs high' q.played.weights;
       }
 
-  -- a replay of them that was broken off
-  pub broken-built : (h : List Event) (rows : ℕ) (task : Task) (strategy : Strategy) (rs : List ℕ) (left : ℕ) (f' w' : ℕ → ℕ) (claim' : ℕ) (h' hv : List Event) (ms : List (List ℕ)) (ws : List ℕ)
-      (residual : ℕ) →
-      PlaysBatch order o R E bits n f (weights_of o (stated order n f ss c i)) (claim_of o (stated order n f ss c i))
-      (begun E h (record { rows = rows; bits = bits; problem = stated order n f ss c i; task = task })) rs left f' w' claim' h' [] [] ms ws →
-      left ≡ 0 →
-      ReplaysSome (next_claim evaluation o) R E bits (begun E h (record { rows = rows; bits = bits; problem = stated order n f ss c i; task = task }))
-      (claim_of o (stated order n f ss c i)) (given_rounds ms ws) hv residual →
-      IsBrokenOff o R E h (record { rows = rows; bits = bits; problem = stated order n f ss c i; task = task }) (build strategy) hv
-  broken-built h rows task strategy rs left f' w' claim' h' hv ms ws residual batch none_left some =
+  -- the report on what was built
+  pub report-built : (h : List Event) (rows : ℕ) (task : Task) (strategy : Strategy) (ms : List (List ℕ)) (ws rs : List ℕ) (claim x y : ℕ) (hv : List Event) (out : List ℕ) (residual : ℕ) →
+      IsBuiltCase o R E h (record { rows = rows; bits = bits; problem = stated order n f ss c i; task = task }) claim ms ws rs x y →
+      false_claim_of o (stated order n f ss c i) ≡ None →
+      Replays (next_claim evaluation o) R E bits (begun E h (record { rows = rows; bits = bits; problem = stated order n f ss c i; task = task })) claim (given_rounds ms ws) hv out residual →
+      IsAudited o R E h (record { rows = rows; bits = bits; problem = stated order n f ss c i; task = task }) (build strategy)
+      (record { claim = claim; messages = ms; witnesses = ws; challenges = rs; residual = residual; eval = x; weight = y; finding = holds }) hv
+  report-built h rows task strategy ms ws rs claim x y hv out residual b none replays =
       let p = stated order n f ss c i in
       let k : Case = record { rows = rows; bits = bits; problem = p; task = task } in
-      let q : PlaysBatch order o R E bits n f (weights_of o p) (claim_of o p) (begun E h k) rs 0 f' w' claim' h' [] [] ms ws = rw (← none_left) batch in
-      let rounds = q.rounds in
-      let given : given_rounds ms ws ≡ rounds =
-      ap (λ t. given_rounds t ws) q.appended ∙ ap (given_rounds (messages_of rounds)) q.found ∙ given_played _ R E bits (begun E h k) [] n rounds q.played.built in
-      let moved : ReplaysSome (next_claim evaluation o) R E bits (begun E h k) (claim_of o p) rounds hv residual = rw (← given) some in
+      let given : given_rounds ms ws ≡ b.rounds =
+      ap (λ t. given_rounds t ws) b.sent ∙ ap (given_rounds (messages_of b.rounds)) b.found ∙ given_played _ R E bits (begun E h k) [] n b.rounds b.built in
+      let moved : Replays (next_claim evaluation o) R E bits (begun E h k) (claim_of o p) b.rounds hv out residual = rw (← given, ← b.begins) replays in
       record {
-        rounds = rounds;
-        are = built-honest (begun E h k) rounds q.played.built;
-        count = omega (arith, q.played.count);
+        rounds = b.rounds;
+        are = b.built;
+        plays = record { count = b.count; passes = moved.passes; history = moved.history };
+        figures = figures-are o p ms (messages_of b.rounds) ws (witnesses_of bits b.rounds) rs (challenges R E bits (begun E h k) b.rounds) claim residual x y holds
+            b.sent b.found b.drawn b.begins (residual-left b.rounds _ residual moved.claim)
+            (b.eval_is ∙ ap (eval_of o p) b.drawn) (b.weight_is ∙ ap (weight_value_of o p) b.drawn)
+            (finding-built (begun E h k) b.rounds none b.count b.built);
+      }
+
+  -- a replay of it that was broken off
+  pub broken-built : (h : List Event) (rows : ℕ) (task : Task) (strategy : Strategy) (ms : List (List ℕ)) (ws rs : List ℕ) (claim x y : ℕ) (hv : List Event) (residual : ℕ) →
+      IsBuiltCase o R E h (record { rows = rows; bits = bits; problem = stated order n f ss c i; task = task }) claim ms ws rs x y →
+      ReplaysSome (next_claim evaluation o) R E bits (begun E h (record { rows = rows; bits = bits; problem = stated order n f ss c i; task = task })) claim (given_rounds ms ws) hv residual →
+      IsBrokenOff o R E h (record { rows = rows; bits = bits; problem = stated order n f ss c i; task = task }) (build strategy) hv
+  broken-built h rows task strategy ms ws rs claim x y hv residual b some =
+      let p = stated order n f ss c i in
+      let k : Case = record { rows = rows; bits = bits; problem = p; task = task } in
+      let given : given_rounds ms ws ≡ b.rounds =
+      ap (λ t. given_rounds t ws) b.sent ∙ ap (given_rounds (messages_of b.rounds)) b.found ∙ given_played _ R E bits (begun E h k) [] n b.rounds b.built in
+      let moved : ReplaysSome (next_claim evaluation o) R E bits (begun E h k) claim b.rounds hv residual = rw (← given) some in
+      record {
+        rounds = b.rounds;
+        are = b.built;
+        count = b.count;
         played = moved.count;
         passes = moved.replays.passes;
         history = moved.replays.history;
       }
+
+  -- its counts, and that no witness of it fails
+  pub rounds-built : (h : List Event) (rows : ℕ) (task : Task) (ms : List (List ℕ)) (ws rs : List ℕ) (claim x y : ℕ) →
+      IsBuiltCase o R E h (record { rows = rows; bits = bits; problem = stated order n f ss c i; task = task }) claim ms ws rs x y → length ms ≡ n
+  rounds-built h rows task ms ws rs claim x y b = ap length b.sent ∙ length-messages b.rounds ∙ b.count
+
+  pub witnesses-built : (h : List Event) (rows : ℕ) (task : Task) (ms : List (List ℕ)) (ws rs : List ℕ) (claim x y : ℕ) →
+      IsBuiltCase o R E h (record { rows = rows; bits = bits; problem = stated order n f ss c i; task = task }) claim ms ws rs x y → length ws ≡ witness_count bits n
+  witnesses-built h rows task ms ws rs claim x y b = ap length b.found ∙ count_witnesses bits b.rounds ∙ ap (witness_count bits) b.count
+
+  pub none_invalid-built : (h : List Event) (rows : ℕ) (task : Task) (ms : List (List ℕ)) (ws rs : List ℕ) (claim x y : ℕ) →
+      IsBuiltCase o R E h (record { rows = rows; bits = bits; problem = stated order n f ss c i; task = task }) claim ms ws rs x y →
+      (next : ℕ → List ℕ → ℕ → ℕ) (j : ℕ) (hv : List Event) (left : ℕ) →
+      IsInvalidAt next R E bits (begun E h (record { rows = rows; bits = bits; problem = stated order n f ss c i; task = task })) claim (given_rounds ms ws) j hv left → ⊥
+  none_invalid-built h rows task ms ws rs claim x y b next j hv left invalid =
+      let k : Case = record { rows = rows; bits = bits; problem = stated order n f ss c i; task = task } in
+      let given : given_rounds ms ws ≡ b.rounds =
+      ap (λ t. given_rounds t ws) b.sent ∙ ap (given_rounds (messages_of b.rounds)) b.found ∙ given_played _ R E bits (begun E h k) [] n b.rounds b.built in
+      none_failing next _ R E bits (begun E h k) n claim (given_rounds ms ws) b.rounds given b.built j hv left invalid
 
 -- rounds that are built stop where none passes
 pub unground-built : (order order₁ : Order) (o : Ops) → IsRing o → (R R₁ : Rules) (E : Extension) (bits n n₁ : ℕ) (f f₁ : ℕ → ℕ) (ss : List Statement) (c i : ℕ) (w₁ : ℕ → ℕ) (claim₁ : ℕ) (h h₁ : List Event) (rows : ℕ) (task : Task)

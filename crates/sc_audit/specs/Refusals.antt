@@ -21,7 +21,7 @@ or_later None later = later
 -- a strategy that is not built yet
 abbrev pub mode_refusal : Task → Option AuditError
 mode_refusal (build Plain) = None
-mode_refusal (build Represented) = Some (Unbuilt Mode)
+mode_refusal (build Represented) = None
 mode_refusal (build (SmallValue variables)) = Some (Unbuilt Mode)
 mode_refusal (check proof) = None
 

@@ -56,7 +56,7 @@ pub fn audit<F: Field, EF: ExtensionField<F>, R: IntoTranscriptField<EF>, C: Cha
         job.constraint.num_variables(),
     )?;
     match &job.mode {
-        Mode::Build(_) => build(alloc, job, challenger),
+        Mode::Build(strategy) => build::<F, EF, R, C>(alloc, job, *strategy, challenger),
         Mode::Check(proof) => check(alloc, job, proof, challenger),
     }
 }
@@ -67,8 +67,7 @@ fn check_mode<F: Field, EF: ExtensionField<F>>(mode: &Mode<F, EF>) -> Result<(),
     ensures fits { IsOk result → mode_refusal (task_in F.number EF.number mode.now) ≡ None }
 {
     match mode {
-        Mode::Build(Strategy::Plain) => Ok(()),
-        Mode::Build(_) => Err(AuditError::Unbuilt(Form::Mode)),
-        Mode::Check(_) => Ok(()),
+        Mode::Build(Strategy::SmallValue { .. }) => Err(AuditError::Unbuilt(Form::Mode)),
+        Mode::Build(_) | Mode::Check(_) => Ok(()),
     }
 }

@@ -11,6 +11,7 @@ mod error;
 mod job;
 mod report;
 mod shape;
+mod strategies;
 
 pub use audits::audit;
 pub use error::{AuditError, FitFault, Form, ShapeFault};

@@ -1,5 +1,5 @@
 -- A batch of rounds, one round after the other.
-use Rattle.std.proofs.Common.{◌≡◌, ℕ, zero, suc, ◌+◌, ◌^◌, ◌<◌, List, [], ◌∷◌, ◌++◌, refl, ap, sym, ◌∙◌, subst, arith, append_assoc}
+use Rattle.std.proofs.Common.{◌≡◌, ℕ, zero, suc, ◌+◌, ◌^◌, ◌<◌, List, [], ◌∷◌, ◌++◌, refl, ap, sym, ◌∙◌, ◌⊎◌, inl, inr, subst, arith, append_assoc, Result, Ok, Err, IfOk}
 use Rattle.std.proofs.lemmas.List.{append-nil, map-append}
 use Rattle.sc_definitions.specs.declared.events.Event.{Event}
 use Rattle.sc_definitions.specs.Ring.{Ops, IsRing}
@@ -10,9 +10,11 @@ use Rattle.sc_definitions.specs.Transcript.{Round, round_of, messages_of}
 use Rattle.sc_definitions.specs.Played.{IsPlayed}
 use Rattle.sc_definitions.proofs.BuiltLaws.{messages-append}
 use Rattle.sc_definitions.proofs.PlayedLaws.{IsPlayed-none, IsPlayed-more}
+use Rattle.sc_rounds.specs.declared.error.SumcheckError.{SumcheckError}
+use Rattle.sc_rounds.specs.declared.error.SumcheckError.TheVariants.{NoMemory, NoWitness}
 use Rattle.sc_rounds.specs.Data.{witnesses_of}
 use Rattle.sc_rounds.specs.Products.{PlaysRound, EndsRound}
-use Rattle.sc_rounds.specs.Batches.{PlaysBatch}
+use Rattle.sc_rounds.specs.Batches.{PlaysBatch, StopsBatch, FailsBatch}
 
 witnesses-append : (bits : ℕ) (rounds : List Round) (q : Round) → witnesses_of bits (rounds ++ q ∷ []) ≡ witnesses_of bits rounds ++ witnesses_of bits (q ∷ [])
 witnesses-append zero rounds q = refl
@@ -73,3 +75,68 @@ batch_at order o R E bits n f w claim h rs v v' f₁ f' w₁ w' c₁ c' h₁ h' 
 pub ends_at : (order order₁ : Order) (o : Ops) (R R₁ : Rules) (E : Extension) (bits bits₁ m size : ℕ) (f₁ f' w₁ w' : ℕ → ℕ) (h₁ h' : List Event) →
     order₁ ≡ order → R₁ ≡ R → bits₁ ≡ bits → f' ≡ f₁ → w' ≡ w₁ → EndsRound order₁ o R₁ E bits₁ m size f₁ w₁ h₁ h' → EndsRound order o R E bits m size f' w' h₁ h'
 ends_at order order₁ o R R₁ E bits bits₁ m size f₁ f' w₁ w' h₁ h' eo er eb ef ew p = rw (← eo, ← er, ← eb, ef, ew) p
+
+-- the same batch, by other names of where it began and of the challenges and the history that it left
+pub batch_from : (order : Order) (o : Ops) (R R₁ : Rules) (E : Extension) (bits bits₁ n : ℕ) (f w : ℕ → ℕ) (claim : ℕ) (h h₁ : List Event) (rs rs₁ : List ℕ)
+    (v : ℕ) (f' w' : ℕ → ℕ) (claim' : ℕ) (h' h₂ : List Event) (ms : List (List ℕ)) (ws : List ℕ) (ms' : List (List ℕ)) (ws' : List ℕ) →
+    R₁ ≡ R → bits₁ ≡ bits → h₁ ≡ h → rs₁ ≡ rs → h₂ ≡ h' → PlaysBatch order o R₁ E bits₁ n f w claim h₁ rs₁ v f' w' claim' h₂ ms ws ms' ws' →
+    PlaysBatch order o R E bits n f w claim h rs v f' w' claim' h' ms ws ms' ws'
+batch_from order o R R₁ E bits bits₁ n f w claim h h₁ rs rs₁ v f' w' claim' h' h₂ ms ws ms' ws' er eb eh es ee p =
+    rw (← er, ← eb, ← eh, ← es, ← ee) p
+
+-- the same batch that stopped
+pub stops_from : (order : Order) (o : Ops) (R R₁ : Rules) (E : Extension) (bits bits₁ n : ℕ) (f w : ℕ → ℕ) (claim : ℕ) (h h₁ : List Event)
+    (v : ℕ) (f' w' : ℕ → ℕ) (claim' : ℕ) (h' h₂ : List Event) (ms : List (List ℕ)) (ws : List ℕ) (ms' : List (List ℕ)) (ws' : List ℕ) →
+    R₁ ≡ R → bits₁ ≡ bits → h₁ ≡ h → h₂ ≡ h' → StopsBatch order o R₁ E bits₁ n f w claim h₁ v f' w' claim' h₂ ms ws ms' ws' →
+    StopsBatch order o R E bits n f w claim h v f' w' claim' h' ms ws ms' ws'
+stops_from order o R R₁ E bits bits₁ n f w claim h h₁ v f' w' claim' h' h₂ ms ws ms' ws' er eb eh ee p =
+    rw (← er, ← eb, ← eh, ← ee) p
+
+-- the same batch of which a round found no witness
+pub fails_from : (order : Order) (o : Ops) (R R₁ : Rules) (E : Extension) (bits bits₁ n : ℕ) (f w : ℕ → ℕ) (claim : ℕ) (h h₁ : List Event) (size m : ℕ)
+    (f' w' : ℕ → ℕ) (claim' : ℕ) (h' h₂ : List Event) (ms : List (List ℕ)) (ws : List ℕ) (ms' : List (List ℕ)) (ws' : List ℕ) →
+    R₁ ≡ R → bits₁ ≡ bits → h₁ ≡ h → h₂ ≡ h' → FailsBatch order o R₁ E bits₁ n f w claim h₁ size m f' w' claim' h₂ ms ws ms' ws' →
+    FailsBatch order o R E bits n f w claim h size m f' w' claim' h' ms ws ms' ws'
+fails_from order o R R₁ E bits bits₁ n f w claim h h₁ size m f' w' claim' h' h₂ ms ws ms' ws' er eb eh ee p =
+    rw (← er, ← eb, ← eh, ← ee) p
+
+-- a refusal for a witness, by the round that its causes name
+pub told_at : {T : Type 0} (r : Result T SumcheckError) (e : SumcheckError) (i k : ℕ) → r ≡ Err e → e ≡ NoWitness i →
+    (r ≡ Err NoMemory) ⊎ (r ≡ Err (NoWitness k)) → r ≡ Err (NoWitness k)
+told_at r e i k is told (inl none) = absurd cc
+told_at r e i k is told (inr found) = found
+
+-- A batch that a result tells of, by what is known of where it began: f₁ and w₁ are the tables as they stood, f and w the same tables by other names.
+module _ (order order₁ : Order) (o : Ops) (R : Rules) (E : Extension) (bits bits₁ n n₁ : ℕ) (f w f₁ w₁ : ℕ → ℕ) (claim claim₁ : ℕ) (h h₁ : List Event)
+    (same_order : order₁ ≡ order) (same_bits : bits₁ ≡ bits) (same_size : n₁ ≡ n) (same_claim : claim₁ ≡ claim) (same_history : h₁ ≡ h)
+    (same_evals : (b : ℕ) → b < 2 ^ n → f₁ b ≡ f b) (same_weights : (b : ℕ) → b < 2 ^ n → w₁ b ≡ w b) where
+  evals_at : (b : ℕ) → b < 2 ^ n₁ → f₁ b ≡ f b
+  evals_at b low = same_evals b (subst (λ k. b < 2 ^ k) same_size low)
+
+  weights_at : (b : ℕ) → b < 2 ^ n₁ → w₁ b ≡ w b
+  weights_at b low = same_weights b (subst (λ k. b < 2 ^ k) same_size low)
+
+  pub ok_batch : {T : Type 0} (r : Result T SumcheckError) (points : T → List ℕ) (v : ℕ) (f' w' : ℕ → ℕ) (claim' : ℕ) (h' : List Event)
+      (ms : List (List ℕ)) (ws : List ℕ) (ms' : List (List ℕ)) (ws' : List ℕ) →
+      IfOk r (λ point. (f w : ℕ → ℕ) → ((b : ℕ) → b < 2 ^ n₁ → f₁ b ≡ f b) → ((b : ℕ) → b < 2 ^ n₁ → w₁ b ≡ w b) →
+      PlaysBatch order₁ o R E bits₁ n₁ f w claim₁ h₁ (points point) v f' w' claim' h' ms ws ms' ws') →
+      IfOk r (λ point. PlaysBatch order o R E bits n f w claim h (points point) v f' w' claim' h' ms ws ms' ws')
+  ok_batch (Ok x) points v f' w' claim' h' ms ws ms' ws' p =
+      rw (← same_order, ← same_bits, ← same_size, ← same_claim, ← same_history) (p f w evals_at weights_at)
+  ok_batch (Err e) points v f' w' claim' h' ms ws ms' ws' p = tt
+
+  pub failed_batch : (size m : ℕ) (f' w' : ℕ → ℕ) (claim' : ℕ) (h' : List Event)
+      (ms : List (List ℕ)) (ws : List ℕ) (ms' : List (List ℕ)) (ws' : List ℕ) →
+      ((f w : ℕ → ℕ) → ((b : ℕ) → b < 2 ^ n₁ → f₁ b ≡ f b) → ((b : ℕ) → b < 2 ^ n₁ → w₁ b ≡ w b) →
+      FailsBatch order₁ o R E bits₁ n₁ f w claim₁ h₁ size m f' w' claim' h' ms ws ms' ws') →
+      FailsBatch order o R E bits n f w claim h size m f' w' claim' h' ms ws ms' ws'
+  failed_batch size m f' w' claim' h' ms ws ms' ws' p =
+      rw (← same_order, ← same_bits, ← same_size, ← same_claim, ← same_history) (p f w evals_at weights_at)
+
+  pub stopped_batch : (v : ℕ) (f' w' : ℕ → ℕ) (claim' : ℕ) (h' : List Event)
+      (ms : List (List ℕ)) (ws : List ℕ) (ms' : List (List ℕ)) (ws' : List ℕ) →
+      ((f w : ℕ → ℕ) → ((b : ℕ) → b < 2 ^ n₁ → f₁ b ≡ f b) → ((b : ℕ) → b < 2 ^ n₁ → w₁ b ≡ w b) →
+      StopsBatch order₁ o R E bits₁ n₁ f w claim₁ h₁ v f' w' claim' h' ms ws ms' ws') →
+      StopsBatch order o R E bits n f w claim h v f' w' claim' h' ms ws ms' ws'
+  stopped_batch v f' w' claim' h' ms ws ms' ws' p =
+      rw (← same_order, ← same_bits, ← same_size, ← same_claim, ← same_history) (p f w evals_at weights_at)

@@ -40,7 +40,7 @@ given_played honest R E (suc bits) h rs n rounds b = given_witnessed rounds bits
 
 -- ---- how many there are
 
-count_witnesses : (bits : ℕ) (rounds : List Round) → length (witnesses_of bits rounds) ≡ witness_count bits (length rounds)
+pub count_witnesses : (bits : ℕ) (rounds : List Round) → length (witnesses_of bits rounds) ≡ witness_count bits (length rounds)
 count_witnesses zero rounds = refl
 count_witnesses (suc bits) rounds =
     length-map rounds (λ r. r.witness)
@@ -87,6 +87,15 @@ all_pass honest R E bits h rs n [] b = tt
 all_pass honest R E bits h rs zero (q ∷ rounds) b = absurd b
 all_pass honest R E bits h rs (suc n) (q ∷ rounds) b =
     (passes_first R E bits h q b.1, all_pass honest R E bits (h ++ round_events E bits q) (rs ++ challenge R E bits h q ∷ []) n rounds b.2)
+
+-- no round of what was built is refused
+pub none_failing : (next : ℕ → List ℕ → ℕ → ℕ) (honest : List ℕ → ℕ → List ℕ) (R : Rules) (E : Extension) (bits : ℕ) (h : List Event) (n claim : ℕ) (given rounds : List Round) →
+    given ≡ rounds → IsBuilt honest R E bits h [] n rounds → (i : ℕ) (hv : List Event) (c : ℕ) → IsInvalidAt next R E bits h claim given i hv c → ⊥
+none_failing next honest R E bits h n claim given rounds same built i hv c invalid =
+    let there : IsInvalidAt next R E bits h claim rounds i hv c = rw (← same) invalid in
+    let passes : round_passes R E bits there.before there.round ≡ true =
+    ap (λ t. round_passes R E bits t there.round) there.replays.history ∙ passes_at honest R E bits h [] n rounds i there.round built there.is in
+    let clash : true ≡ false = sym passes ∙ there.fails in cc
 
 -- a result that is the want of memory
 pub out_of_memory : {T : Type 0} (r : Result T SumcheckError) → IsErrAnd r (λ e. e ≡ NoMemory) → OnErr r ((r ≡ Err NoMemory) ⊎ FindsNone r)
@@ -148,7 +157,5 @@ module _ (order : Order) (o : Ops) (R R₁ : Rules) (E : Extension) (bits n : �
   -- no round of it is refused
   pub none_invalid : (i : ℕ) (hv : List Event) (c : ℕ) → IsInvalidAt (next_claim evaluation o) R₁ E bits h₁ claim₁ (given_rounds ms' ws') i hv c → ⊥
   none_invalid i hv c invalid =
-      let there : IsInvalidAt (next_claim evaluation o) R E bits h claim played.rounds i hv c = rw (← same_rules, ← same_history, ← same_claim, ← rounds_given) invalid in
-      let passes : round_passes R E bits there.before there.round ≡ true =
-      ap (λ t. round_passes R E bits t there.round) there.replays.history ∙ passes_at _ R E bits h [] n played.rounds i there.round played.played.built there.is in
-      let clash : true ≡ false = sym passes ∙ there.fails in cc
+      none_failing (next_claim evaluation o) _ R E bits h n claim played.rounds played.rounds refl played.played.built i hv c
+      (rw (← same_rules, ← same_history, ← same_claim, ← rounds_given) invalid)

@@ -2,6 +2,8 @@ pub mod StepLaws
 pub mod RoundWords
 pub mod WitnessReads
 pub mod PairRounds
+pub mod MappedRounds
+pub mod RepresentedLaws
 pub mod BatchLaws
 pub mod TakenLaws
 pub mod ConstraintPoints

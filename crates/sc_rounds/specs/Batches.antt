@@ -57,3 +57,10 @@ pub record IsUnplayed (n : ℕ) (f w w₁ : ℕ → ℕ) (claim claim₁ : ℕ) 
   pub history : h' ≡ h
   pub appended : messages' ≡ messages
   pub found : witnesses' ≡ witnesses
+
+-- A batch that was broken off before its first word: pair, sum, history and data are as before.
+pub record IsUnbegun {Pair Sum Data : Type 0} (pair pair' : Pair) (sum sum' : Sum) (h h' : List Event) (rounds rounds' : Data) : Type 0 where
+  pub tables : pair' ≡ pair
+  pub claim : sum' ≡ sum
+  pub history : h' ≡ h
+  pub appended : rounds' ≡ rounds

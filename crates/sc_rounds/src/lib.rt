@@ -24,5 +24,5 @@ pub use error::SumcheckError;
 pub use eval_constraints::EvalConstraints;
 pub use laws::{batch_in_step, replay_laws, shape_laws};
 pub use product_polynomial::ProductPolynomial;
-pub use strategy::SumcheckProver;
+pub use strategy::{ReprSumcheckProver, SumcheckProver};
 pub use transcript::{ProverTranscript, SumcheckShape, VerifierTranscript};

@@ -11,15 +11,19 @@ ghost use Rattle.sc_definitions.specs.Statements.{batched_weight, batched_claim}
 ghost use Rattle.sc_statements.specs.Constraints.{constraint_challenge, constraint_power, constraint_statements};
 ghost use Rattle.sc_rounds.specs.Products.{sum_in};
 
-use crate::data::{SumcheckData, with_room};
+use crate::data::SumcheckData;
 use crate::error::SumcheckError;
 use crate::product_polynomial::ProductPolynomial;
-use crate::transcript::{ProverTranscript, SumcheckShape};
+use crate::transcript::SumcheckShape;
 use sc_challenger::Challenger;
 use sc_field::{ExtensionField, Field, NoMemory};
 use sc_statements::Constraint;
 use sc_table::{Basis, Point, Poly, VariableOrder};
 use std::alloc::Global;
+
+mod repr;
+
+pub use repr::ReprSumcheckProver;
 
 /// A prover: a pair of tables, and the claim that the sum over all rows of evaluation times weight has a value, which is always true. Each challenge
 /// is bound at once.
@@ -215,27 +219,31 @@ impl<F: Field, EF: ExtensionField<F>> SumcheckProver<F, EF> {
         ensures causes { OnErr result ((result ≡ Err SumcheckError.NoMemory) ⊎ FindsNone result) }
         ensures left { variables_in self.old.poly ≤ variables_in self.new.poly + folding_factor }
     {
-        if let Some(constraint) = constraint {
-            self.take_in(alloc, &constraint)?;
-        }
-        let mut challenges = with_room(alloc, folding_factor)?;
+        self.take_in_if_some(alloc, constraint)?;
         let shape = SumcheckShape::new(folding_factor, pow_bits, Basis::Evaluation);
-        shape.seed::<F, EF, C>(alloc, challenger)?;
-        let mut transcript = ProverTranscript::over(challenger, shape);
-        match self.poly.play(
-            sumcheck_data,
-            &mut transcript,
-            &mut self.sum,
-            &mut challenges,
-        ) {
-            Ok(()) => {
-                transcript.finish();
-                Ok(Point::new(challenges))
-            }
-            Err(error) => {
-                transcript.abort();
-                Err(error)
-            }
+        self.poly
+            .play_batch::<F, EF, C>(alloc, sumcheck_data, challenger, shape, &mut self.sum)
+    }
+
+    // Takes in a constraint, if there is one, which is true. A refusal leaves the weights and the claim as they were.
+    fn take_in_if_some(
+        &mut self,
+        alloc: Global,
+        constraint: Option<Constraint<F, EF>>,
+    ) -> Result<(), NoMemory>
+        requires { IsTrueIfSome EF.ops (λ x. EF.embedding (F.number x)) EF.number (variables_in self.old.poly) (evals_in EF.number self.old.poly) constraint }
+        ensures variables { variables_in self.new.poly ≡ variables_in self.old.poly }
+        ensures order { order_in self.new.poly ≡ order_in self.old.poly }
+        ensures evals { evals_in EF.number self.new.poly ≡ evals_in EF.number self.old.poly }
+        ensures weights { OnOk result ((b : ℕ) → b < 2 ^ variables_in self.old.poly → weights_in EF.number self.new.poly b
+            ≡ weights_with EF.ops (λ x. EF.embedding (F.number x)) EF.number constraint (weights_in EF.number self.old.poly) b) }
+        ensures claim { OnOk result (EF.number self.new.sum ≡ claim_with EF.ops (λ x. EF.embedding (F.number x)) EF.number constraint (EF.number self.old.sum)) }
+        ensures refused { OnErr result (self.new.poly ≡ self.old.poly) }
+        ensures refused_sum { OnErr result (self.new.sum ≡ self.old.sum) }
+    {
+        match constraint {
+            Some(constraint) => self.take_in(alloc, &constraint),
+            None => Ok(()),
         }
     }
 

@@ -104,6 +104,18 @@ impl<A: Field> Poly<A> {
         self.evals.as_slice()
     }
 
+    /// The values, row 0 first, in the memory that the table had.
+    pub fn into_evals(self) -> Vec<A>
+        ensures numbers { entries A.number result.items ≡ table_of A.number self }
+        ensures size { length result.items ≡ 2 ^ variables_of self }
+    {
+        let Poly {
+            evals,
+            variables: _,
+        } = self;
+        evals
+    }
+
     /// The values, row 0 first, to be written; the number of variables stays.
     pub fn as_mut_slice(&mut self) -> &mut [A]
         ensures* writes_back { sem 𝓛 (LendsValues A.row self.entry result) }

@@ -15,7 +15,7 @@ returns-in-Build-clause-report g c =
     let job = c.args.job.now in
     IfOk-weaker c.build.result _ _
     (λ r x. subst (λ m. IsAudited g.EF.Field.ops (g.C.Challenger.rules c.args.challenger.now) g.EF.ExtensionField.extension (g.C.Challenger.history c.args.challenger.now)
-    (case_in B N g.EF.Algebra.embedding job) (task_in B N m) (figures_in B N r) (g.C.Challenger.history c.build.new.challenger)) (sym c.in-Build.is) (x c.in-Build.field-0))
+    (case_in B N g.EF.Algebra.embedding job) (task_in B N m) (figures_in B N r) (g.C.Challenger.history c.build.new.challenger)) (sym c.in-Build.is) (x c.in-Build.strategy))
     c.build.ensures.report
 
 pub returns-in-Build-clause-caused : goal.returns-in-Build-clause-caused
@@ -29,7 +29,7 @@ returns-in-Build-clause-caused g c = λ e is.
     let H' = g.C.Challenger.history c.build.new.challenger in
     let job = c.args.job.now in
     let k = case_in B N g.EF.Algebra.embedding job in
-    let s = c.in-Build.field-0 in
+    let s = c.in-Build.strategy in
     let first : refusal_of o R.max_bits k ≡ task_refusal o k.problem k.bits (build s) =
     no_earlier o R.max_bits k (search rules) (search rules) ∙ ap (λ m. task_refusal o k.problem k.bits (task_in B N m)) c.in-Build.is in
     subst (λ t. IsCaused t o R E g.F.Field.ops.size H k (task_in B N job.mode) e H') (sym first)
@@ -43,7 +43,7 @@ returns-in-Build-clause-refused g c = λ e found.
     let R = g.C.Challenger.rules c.args.challenger.now in
     let job = c.args.job.now in
     let k = case_in B N g.EF.Algebra.embedding job in
-    let s = c.in-Build.field-0 in
+    let s = c.in-Build.strategy in
     let first : refusal_of o R.max_bits k ≡ task_refusal o k.problem k.bits (build s) =
     no_earlier o R.max_bits k (search rules) (search rules) ∙ ap (λ m. task_refusal o k.problem k.bits (task_in B N m)) c.in-Build.is in
     c.build.ensures.refused s e (sym first ∙ found)

@@ -7,4 +7,4 @@ abbrev pub invariant-loop-i : goal.invariant-loop-i
 invariant-loop-i g l =
     let o = g.EF.Field.ops in
     let N = g.EF.Field.number in
-    N l.sum ≡ sum_below o l.i (λ b. times o (entries N l.left b) (entries N l.right b))
+    N l.sum ≡ sum_below o l.i (λ b. times o (entries N l.left b) (entries (λ x. g.R.FromTable.to_number (g.R.Field.number x)) l.right b))

@@ -8,7 +8,7 @@ use Rattle.sc_audit.proofs.Lengths.{pow-same}
 use Rattle.sc_audit.proofs.Embedded.{entry-embedded, length-embedded}
 use Rattle.sc_audit.proofs.FigureLaws.{weights-batched, claim-batched}
 use Rattle.sc_audit.proofs.SameTables.{inner-same}
-use Rattle.sc_audit.proofs.building.prover_of.Goals as goal
+use Rattle.sc_audit.proofs.strategies.prover_of.Goals as goal
 
 pub new_unpacked-poly-requires : goal.new_unpacked-poly-requires
 new_unpacked-poly-requires g c =

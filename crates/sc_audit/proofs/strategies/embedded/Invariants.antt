@@ -1,5 +1,5 @@
 use Rattle.std.proofs.Common.{◌≡◌, map, take}
-use Rattle.sc_audit.proofs.building.embedded.Given as goal
+use Rattle.sc_audit.proofs.strategies.embedded.Given as goal
 
 abbrev pub invariant-loop-x : goal.invariant-loop-x
 invariant-loop-x g l = map g.EF.Field.number l.images.items ≡ map (λ x. g.EF.Algebra.embedding (g.F.Field.number x)) (take l.x-index l.table)

@@ -1,0 +1,39 @@
+use Rattle.std.proofs.Common.{◌≡◌, ◌∙◌, ap, sym}
+use Rattle.sc_definitions.specs.Tables.{inner}
+use Rattle.sc_table.specs.Polys.{variables_of}
+use Rattle.sc_rounds.specs.Products.{variables_in, evals_in, weights_in}
+use Rattle.sc_rounds.proofs.MappedRounds.{mapped, below_entries, same_images}
+use Rattle.sc_rounds.proofs.RepresentedLaws.{represented_sum}
+use Rattle.sc_rounds.proofs.strategy.repr.ReprSumcheckProver.from_tables.Goals as goal
+
+pub returns-clause-evals : goal.returns-clause-evals
+returns-clause-evals g c =
+    same_images g.R.Field.ops g.EF.Field.ops g.met.R.Field.is_field.ring g.met.EF.Field.is_field.ring g.R.FromTable.to_number g.met.R.FromTable.represents.back
+    g.R.Field.number g.R.Field.number _ _ c.new_unpacked-poly.ensures.evals
+    ∙ c.in_ok-evals.ensures.images
+
+pub returns-clause-weights : goal.returns-clause-weights
+returns-clause-weights g c =
+    same_images g.R.Field.ops g.EF.Field.ops g.met.R.Field.is_field.ring g.met.EF.Field.is_field.ring g.R.FromTable.to_number g.met.R.FromTable.represents.back
+    g.R.Field.number g.R.Field.number _ _ c.new_unpacked-poly.ensures.weights
+
+pub invariant_of-result : goal.invariant_of-result
+invariant_of-result g c =
+    let r = g.R.Field.ops in let e = g.EF.Field.ops in
+    let ring_r = g.met.R.Field.is_field.ring in let ring_e = g.met.EF.Field.is_field.ring in
+    let to = g.R.FromTable.to_number in
+    let represents = g.met.R.FromTable.represents in
+    let N = g.R.Field.number in
+    let n = variables_of c.args.evals in
+    let poly = c.new_unpacked-poly.result in
+    let same = same_images r e ring_r ring_e to represents.back in
+    let size : variables_in poly ≡ n = c.new_unpacked-poly.ensures.variables ∙ c.in_ok-evals.ensures.variables in
+    record {
+      true_sum = represented_sum e r ring_e ring_r g.R.FromTable.from_number to represents n (evals_in N poly) (weights_in N poly) _ _ _ _
+          (below_entries r e ring_r ring_e to represents.back N g.met.R.Field.number_below poly.evals.evals.items)
+          (below_entries r e ring_r ring_e to represents.back N g.met.R.Field.number_below poly.weights.evals.items)
+          (sym (same N N _ _ c.new_unpacked-poly.ensures.evals ∙ c.in_ok-evals.ensures.images) ∙ mapped r e ring_r ring_e to represents.back N poly.evals.evals.items)
+          (sym (same N N _ _ c.new_unpacked-poly.ensures.weights) ∙ mapped r e ring_r ring_e to represents.back N poly.weights.evals.items)
+          c.requires.sum c.from_element.ensures
+          ∙ ap (λ k. inner r k (evals_in N poly) (weights_in N poly)) (sym size);
+    }

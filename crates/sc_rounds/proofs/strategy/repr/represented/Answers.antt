@@ -1,0 +1,20 @@
+use Rattle.std.proofs.Common.{◌∙◌, ap, sym}
+use Rattle.sc_rounds.proofs.MappedRounds.{same_images, there_and_back}
+use Rattle.sc_rounds.proofs.RepresentedLaws.{pow-same, same_length}
+use Rattle.sc_rounds.proofs.strategy.repr.represented.Goals as goal
+
+pub returns-clause-variables : goal.returns-clause-variables
+returns-clause-variables g c =
+    pow-same _ _ (sym c.new.ensures.size ∙ same_length g.R.Field.number (λ x. g.R.FromTable.from_number (g.EF.Field.number x)) _ _ c.in_ok-from_table.ensures
+    ∙ c.into_evals.ensures.size)
+
+pub returns-clause-images : goal.returns-clause-images
+returns-clause-images g c =
+    let to = g.R.FromTable.to_number in
+    let represents = g.met.R.FromTable.represents in
+    let r = g.R.Field.ops in let e = g.EF.Field.ops in
+    let ring_r = g.met.R.Field.is_field.ring in let ring_e = g.met.EF.Field.is_field.ring in
+    same_images r e ring_r ring_e to represents.back g.R.Field.number g.R.Field.number _ _ c.new.ensures.table
+    ∙ there_and_back r e ring_r ring_e to represents.back g.EF.Field.number g.R.Field.number g.R.FromTable.from_number _ _
+    (λ x. represents.back_forth _ (g.met.EF.Field.number_below x)) c.in_ok-from_table.ensures
+    ∙ c.into_evals.ensures.numbers

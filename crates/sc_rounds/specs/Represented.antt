@@ -1,0 +1,11 @@
+-- Two tables of which the second holds images in a representation.
+use Rattle.std.specs.Prelude.{◌≡◌, ℕ}
+use Rattle.sc_definitions.specs.Ring.{Ops}
+use Rattle.sc_definitions.specs.Tables.{inner}
+use Rattle.sc_table.specs.Polys.{variables_of, table_of}
+use Rattle.sc_table.specs.declared.poly.Poly.{Poly}
+
+-- They have as many variables, and the sum over all rows of the products of what they hold, by two numberings, is `sum`.
+pub record TablesAgree {A B : Type 0} (o : Ops) (number : A → ℕ) (represented : B → ℕ) (evals : Poly A) (weights : Poly B) (sum : ℕ) : Type 0 where
+  pub variables : variables_of evals ≡ variables_of weights
+  pub true_sum : sum ≡ inner o (variables_of evals) (table_of number evals) (table_of represented weights)

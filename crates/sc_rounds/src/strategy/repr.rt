@@ -1,0 +1,185 @@
+//! The prover whose tables are held in a representation of the field in which the transcript is written.
+ghost use Rattle.std.specs.Prelude.{◌≡◌, ◌↔◌, ◌⊎◌, ℕ, suc, ◌+◌, ◌<◌, ◌≤◌, ◌++◌, Err, IfOk, OnOk, OnErr, IsTrue, map};
+ghost use Rattle.sc_definitions.specs.Tables.{evaluation, inner};
+ghost use Rattle.sc_definitions.specs.Events.{words};
+ghost use Rattle.sc_definitions.specs.Seeds.{quadratic_seed};
+ghost use Rattle.sc_table.specs.Polys.{variables_of, table_of};
+ghost use Rattle.sc_table.specs.Strategy.{order_of};
+ghost use Rattle.sc_rounds.specs.Products.{sum_in};
+
+use crate::data::SumcheckData;
+use crate::error::SumcheckError;
+use crate::product_polynomial::{ProductPolynomial, dot};
+use crate::strategy::SumcheckProver;
+use crate::transcript::SumcheckShape;
+use sc_challenger::Challenger;
+use sc_field::{ExtensionField, Field, IntoTranscriptField, NoMemory};
+use sc_table::{Basis, Point, Poly, VariableOrder};
+use std::alloc::Global;
+use std::marker::PhantomData;
+
+/// A [`SumcheckProver`] whose two tables and claim are held in a field `R` that represents the extension `EF`. Only the transcript sees `EF`: the two
+/// values of a message cross over before they are absorbed, and each challenge crosses back before it is bound.
+///
+/// A representation keeps sums and products, so the messages, the challenges, the history, the claims and the numbers of variables are those of a
+/// `SumcheckProver` on the tables of the represented elements. What differs is what a multiplication costs.
+#[derive(Drop)]
+pub struct ReprSumcheckProver<F: Field, EF: ExtensionField<F>, R: IntoTranscriptField<EF>> {
+    poly: ProductPolynomial<R, R>,
+    sum: R,
+    of: PhantomData<(F, EF)>,
+    ghost true_sum: { R.number sum ≡ sum_in R.ops R.number poly },
+}
+
+impl<F: Field, EF: ExtensionField<F>, R: IntoTranscriptField<EF>> ReprSumcheckProver<F, EF, R> {
+    ghost use Rattle.sc_rounds.specs.Data.{messages_in, witnesses_in};
+    ghost use Rattle.sc_rounds.specs.Products.{variables_in, order_in, evals_in, weights_in};
+    ghost use Rattle.sc_rounds.specs.Batches.{PlaysBatch, StopsBatch, FailsBatch, IsUnplayed};
+    ghost use Rattle.sc_rounds.specs.Invalid.{FindsNone};
+    ghost use Rattle.sc_rounds.specs.Represented.{TablesAgree};
+
+    /// The same prover with its tables and its claim in `R`. A prover that is refused is given up.
+    pub fn new(alloc: Global, prover: SumcheckProver<F, EF>) -> Result<Self, NoMemory>
+        ensures variables { IfOk result (λ p. variables_in p.poly ≡ variables_in prover.poly) }
+        ensures order { IfOk result (λ p. order_in p.poly ≡ order_in prover.poly) }
+        ensures evals { IfOk result (λ p. evals_in (λ x. R.to_number (R.number x)) p.poly ≡ evals_in EF.number prover.poly) }
+        ensures weights { IfOk result (λ p. weights_in (λ x. R.to_number (R.number x)) p.poly ≡ weights_in EF.number prover.poly) }
+        ensures claim { IfOk result (λ p. R.to_number (R.number p.sum) ≡ EF.number prover.sum) }
+    {
+        let SumcheckProver { poly, sum } = prover;
+        let (order, evals, weights) = poly.into_tables();
+        let weights = represented(alloc, weights)?;
+        ReprSumcheckProver::from_tables(alloc, order, evals, weights, sum)
+    }
+
+    /// The prover on evaluations in `EF` and weights that are in `R` already, of as many variables, and a claim that is true, as
+    /// [`ReprSumcheckProver::tables_agree`] tests.
+    pub fn from_tables(
+        alloc: Global,
+        order: VariableOrder,
+        evals: Poly<EF>,
+        weights: Poly<R>,
+        sum: EF,
+    ) -> Result<Self, NoMemory>
+        requires variables { variables_of evals ≡ variables_of weights }
+        requires sum { EF.number sum ≡ inner EF.ops (variables_of evals) (table_of EF.number evals) (table_of (λ x. R.to_number (R.number x)) weights) }
+        ensures variables { IfOk result (λ p. variables_in p.poly ≡ variables_of evals) }
+        ensures order { IfOk result (λ p. order_in p.poly ≡ order_of order) }
+        ensures evals { IfOk result (λ p. evals_in (λ x. R.to_number (R.number x)) p.poly ≡ table_of EF.number evals) }
+        ensures weights { IfOk result (λ p. weights_in (λ x. R.to_number (R.number x)) p.poly ≡ table_of (λ x. R.to_number (R.number x)) weights) }
+        ensures claim { IfOk result (λ p. R.to_number (R.number p.sum) ≡ EF.number sum) }
+    {
+        let evals = represented(alloc, evals)?;
+        let poly = ProductPolynomial::new_unpacked(order, evals, weights);
+        Ok(ReprSumcheckProver {
+            poly,
+            sum: R::from_element(sum),
+            of: PhantomData,
+        })
+    }
+
+    /// Whether evaluations in `EF` and weights in `R` have as many variables, and the sum over all rows of evaluation times represented weight is this
+    /// one. It takes no memory.
+    pub fn tables_agree(evals: &Poly<EF>, weights: &Poly<R>, sum: EF) -> bool
+        ensures { IsTrue result ↔ TablesAgree EF.ops EF.number (λ x. R.to_number (R.number x)) evals.now weights.now (EF.number sum) }
+    {
+        evals.num_variables() == weights.num_variables()
+            && dot::<EF, R>(evals.as_slice(), weights.as_slice()).index() == sum.index()
+    }
+
+    /// The claim.
+    pub fn claimed_sum(&self) -> EF
+        ensures { EF.number result ≡ R.to_number (R.number self.now.sum) }
+    {
+        self.sum.into_transcript()
+    }
+
+    /// How many variables are left.
+    pub fn num_variables(&self) -> usize
+        ensures { result ≡ variables_in self.now.poly }
+    {
+        self.poly.num_variables()
+    }
+
+    /// Binds a challenge that is still held. None is: each is bound at once.
+    pub fn settle(&mut self)
+        ensures { self.new ≡ self.old }
+    {}
+
+    /// The bound evaluations, as they are held, in memory of their own.
+    pub fn evals(&mut self, alloc: Global) -> Result<Poly<R>, NoMemory>
+        ensures kept { self.new ≡ self.old }
+        ensures variables { IfOk result (λ p. variables_of p ≡ variables_in self.old.poly) }
+        ensures table { IfOk result (λ p. table_of (λ x. R.to_number (R.number x)) p ≡ evals_in (λ x. R.to_number (R.number x)) self.old.poly) }
+    {
+        self.poly.evals(alloc)
+    }
+
+    /// The bound weights, as they are held, in memory of their own.
+    pub fn weights(&mut self, alloc: Global) -> Result<Poly<R>, NoMemory>
+        ensures kept { self.new ≡ self.old }
+        ensures variables { IfOk result (λ p. variables_of p ≡ variables_in self.old.poly) }
+        ensures table { IfOk result (λ p. table_of (λ x. R.to_number (R.number x)) p ≡ weights_in (λ x. R.to_number (R.number x)) self.old.poly) }
+    {
+        self.poly.weights(alloc)
+    }
+
+    /// Plays a batch of rounds, one for each of the next `folding_factor` variables, at a difficulty of at most the challenger's
+    /// [`Challenger::max_bits`], and answers their challenges in drawing order.
+    ///
+    /// The refusals, and what stands after each, are those of [`SumcheckProver::compute_sumcheck_polynomials`] without a constraint.
+    pub fn compute_sumcheck_polynomials<C: Challenger<F>>(
+        &mut self,
+        alloc: Global,
+        sumcheck_data: &mut SumcheckData<F, EF>,
+        challenger: &mut C,
+        folding_factor: usize,
+        pow_bits: usize,
+    ) -> Result<Point<EF>, SumcheckError>
+        requires variables { folding_factor ≤ variables_in self.old.poly }
+        requires difficulty { pow_bits ≤ (C.rules challenger.old).max_bits }
+        ensures rules { C.rules challenger.new ≡ C.rules challenger.old }
+        ensures order { order_in self.new.poly ≡ order_in self.old.poly }
+        ensures fewer { OnOk result (variables_in self.new.poly + folding_factor ≡ variables_in self.old.poly) }
+        ensures batch { IfOk result (λ point. PlaysBatch (order_in self.old.poly) EF.ops (C.rules challenger.old) EF.extension pow_bits (variables_in self.old.poly)
+            (evals_in (λ x. R.to_number (R.number x)) self.old.poly) (weights_in (λ x. R.to_number (R.number x)) self.old.poly) (R.to_number (R.number self.old.sum))
+            (C.history challenger.old ++ words (quadratic_seed EF.DEGREE evaluation pow_bits folding_factor)) (map EF.number point) (variables_in self.new.poly)
+            (evals_in (λ x. R.to_number (R.number x)) self.new.poly) (weights_in (λ x. R.to_number (R.number x)) self.new.poly) (R.to_number (R.number self.new.sum)) (C.history challenger.new)
+            (messages_in EF.number sumcheck_data.old) (witnesses_in F.number sumcheck_data.old) (messages_in EF.number sumcheck_data.new) (witnesses_in F.number sumcheck_data.new)) }
+        ensures stopped { (i : ℕ) → result ≡ Err (SumcheckError.NoWitness i) → (i < folding_factor) × (variables_in self.new.poly + i ≡ variables_in self.old.poly) }
+        ensures no_witness { (i m : ℕ) → result ≡ Err (SumcheckError.NoWitness i) → variables_in self.new.poly ≡ suc m
+            → FailsBatch (order_in self.old.poly) EF.ops (C.rules challenger.old) EF.extension pow_bits (variables_in self.old.poly)
+            (evals_in (λ x. R.to_number (R.number x)) self.old.poly) (weights_in (λ x. R.to_number (R.number x)) self.old.poly) (R.to_number (R.number self.old.sum))
+            (C.history challenger.old ++ words (quadratic_seed EF.DEGREE evaluation pow_bits folding_factor)) F.ops.size m
+            (evals_in (λ x. R.to_number (R.number x)) self.new.poly) (weights_in (λ x. R.to_number (R.number x)) self.new.poly) (R.to_number (R.number self.new.sum)) (C.history challenger.new)
+            (messages_in EF.number sumcheck_data.old) (witnesses_in F.number sumcheck_data.old) (messages_in EF.number sumcheck_data.new) (witnesses_in F.number sumcheck_data.new) }
+        ensures no_memory { result ≡ Err SumcheckError.NoMemory
+            → IsUnplayed (variables_in self.old.poly) (evals_in (λ x. R.to_number (R.number x)) self.old.poly) (weights_in (λ x. R.to_number (R.number x)) self.old.poly) (weights_in (λ x. R.to_number (R.number x)) self.old.poly)
+            (R.to_number (R.number self.old.sum)) (R.to_number (R.number self.old.sum)) (C.history challenger.old)
+            (messages_in EF.number sumcheck_data.old) (witnesses_in F.number sumcheck_data.old)
+            (variables_in self.new.poly) (evals_in (λ x. R.to_number (R.number x)) self.new.poly) (weights_in (λ x. R.to_number (R.number x)) self.new.poly) (R.to_number (R.number self.new.sum)) (C.history challenger.new)
+            (messages_in EF.number sumcheck_data.new) (witnesses_in F.number sumcheck_data.new)
+            ⊎ StopsBatch (order_in self.old.poly) EF.ops (C.rules challenger.old) EF.extension pow_bits (variables_in self.old.poly)
+            (evals_in (λ x. R.to_number (R.number x)) self.old.poly) (weights_in (λ x. R.to_number (R.number x)) self.old.poly) (R.to_number (R.number self.old.sum))
+            (C.history challenger.old ++ words (quadratic_seed EF.DEGREE evaluation pow_bits folding_factor)) (variables_in self.new.poly)
+            (evals_in (λ x. R.to_number (R.number x)) self.new.poly) (weights_in (λ x. R.to_number (R.number x)) self.new.poly) (R.to_number (R.number self.new.sum)) (C.history challenger.new)
+            (messages_in EF.number sumcheck_data.old) (witnesses_in F.number sumcheck_data.old) (messages_in EF.number sumcheck_data.new) (witnesses_in F.number sumcheck_data.new) }
+        ensures causes { OnErr result ((result ≡ Err SumcheckError.NoMemory) ⊎ FindsNone result) }
+        ensures left { variables_in self.old.poly ≤ variables_in self.new.poly + folding_factor }
+    {
+        let shape = SumcheckShape::new(folding_factor, pow_bits, Basis::Evaluation);
+        self.poly
+            .play_batch::<F, EF, C>(alloc, sumcheck_data, challenger, shape, &mut self.sum)
+    }
+}
+
+// The table of the images of another table's entries.
+fn represented<EF: Field, R: IntoTranscriptField<EF>>(
+    alloc: Global,
+    table: Poly<EF>,
+) -> Result<Poly<R>, NoMemory>
+    ensures variables { IfOk result (λ p. variables_of p ≡ variables_of table) }
+    ensures images { IfOk result (λ p. table_of (λ x. R.to_number (R.number x)) p ≡ table_of EF.number table) }
+{
+    Ok(Poly::new(R::from_table(alloc, table.into_evals())?))
+}
