@@ -1,9 +1,9 @@
 #!/usr/bin/env python3
 """Measures `audit` on a job with one equality claim, for one program or for several side by side.
 
-usage: bench/audit.py [--variables N] [--repeats N] [--kinds] [--suffix] [--hash] [--bits N] [--seed N] [--check] PROGRAM [PROGRAM ..]
+usage: bench/audit.py [--variables N] [--repeats N] [--field NAME] [--represented] [--kinds] [--suffix] [--hash] [--bits N] [--seed N] [--check] PROGRAM [PROGRAM ..]
 
-With --kinds the job has one claim of each kind: an equality, a successor in the slot of a selector of one coordinate, a
+The field is "65537", or by --field "257x2" or "16"; with --represented the build is so. With --kinds the job has one claim of each kind: an equality, a successor in the slot of a selector of one coordinate, a
 scalar and a direct point. The job is built in prefix order, or with --suffix in suffix order, under a script of draws, or with --hash under the hash challenger; with --bits each
 round has a test of N bits, which is for the hash challenger alone. With --check the rounds and witnesses that the first program builds are handed in as
 a proof. With --seed the claim's point is drawn from another seed: at 16 bits a round finds no witness in 37 of 100 cases, which ends a build, and 18
@@ -16,82 +16,153 @@ The peak is what wait4 tells, at least this script's own size of some 15 MB.
 """
 import argparse, json, os, random, shlex, shutil, statistics, sys, tempfile, time
 
-P = 65537
+class Prime:
+    """The integers modulo a prime."""
+    def __init__(self, prime):
+        self.size = self.base_size = prime
+
+    def add(self, a, b):
+        return (a + b) % self.size
+
+    def sub(self, a, b):
+        return (a - b) % self.size
+
+    def mul(self, a, b):
+        return a * b % self.size
 
 
-def value_at(table, point):
+class Quadratic:
+    """a + b u over the integers modulo a prime, by the numbers a + prime * b, where u^2 is `square`."""
+    def __init__(self, prime, square):
+        self.size, self.base_size, self.square = prime * prime, prime, square
+
+    def join(self, a, b):
+        return a % self.base_size + self.base_size * (b % self.base_size)
+
+    def add(self, x, y):
+        p = self.base_size
+        return self.join(x % p + y % p, x // p + y // p)
+
+    def sub(self, x, y):
+        p = self.base_size
+        return self.join(x % p - y % p, x // p - y // p)
+
+    def mul(self, x, y):
+        p = self.base_size
+        a, b, c, d = x % p, x // p, y % p, y // p
+        return self.join(a * c + self.square * b * d, a * d + b * c)
+
+
+class Sixteen:
+    """Numbers with bits of 1, w, y and wy, where w^2 = w + 1 and y^2 = y + w."""
+    size = base_size = 16
+
+    def __init__(self):
+        self.table = [self.product(a, b) for a in range(16) for b in range(16)]
+
+    @staticmethod
+    def four(m, n):
+        a, b, c, d = m & 1, m >> 1, n & 1, n >> 1
+        return (a & c) ^ (b & d) | ((a & d) ^ (b & c) ^ (b & d)) << 1
+
+    def product(self, m, n):
+        a, b, c, d = m & 3, m >> 2, n & 3, n >> 2
+        bd = self.four(b, d)
+        return self.four(a, c) ^ self.four(2, bd) | (self.four(a, d) ^ self.four(b, c) ^ bd) << 2
+
+    def add(self, a, b):
+        return a ^ b
+
+    sub = add
+
+    def mul(self, a, b):
+        return self.table[16 * a + b]
+
+
+FIELDS = {"65537": Prime(65537), "257x2": Quadratic(257, 3), "16": Sixteen()}
+
+
+def value_at(field, table, point):
     for c in point:
         half = len(table) // 2
-        table = [(a + (b - a) * c) % P for a, b in zip(table[:half], table[half:])]
+        table = [field.add(a, field.mul(field.sub(b, a), c)) for a, b in zip(table[:half], table[half:])]
     return table[0]
 
 
-def equality_weights(point):
+def equality_weights(field, point):
     weights = [1]
     for c in point:
-        weights = [x for w in weights for x in (w * (1 - c) % P, w * c % P)]
+        rest = field.sub(1, c)
+        weights = [x for w in weights for x in (field.mul(w, rest), field.mul(w, c))]
     return weights
 
 
-def successor_weights(point):
-    weights = equality_weights(point)
-    return [0] + weights[:-2] + [(weights[-2] + weights[-1]) % P]
+def successor_weights(field, point):
+    weights = equality_weights(field, point)
+    return [0] + weights[:-2] + [field.add(weights[-2], weights[-1])]
 
 
-def powers(scalar, count):
+def powers(field, scalar, count):
     weights = [1]
     while len(weights) < count:
-        weights.append(weights[-1] * scalar % P)
+        weights.append(field.mul(weights[-1], scalar))
     return weights
 
 
-def products(point):
+def products(field, point):
     weights = [1]
     for c in point:
-        weights = [x for w in weights for x in (w, w * c % P)]
+        weights = [x for w in weights for x in (w, field.mul(w, c))]
     return weights
 
 
-def groups(table, point, rng, given):
-    equality = {"kind": "eq", "claims": [{"point": point, "value": value_at(table, point)}]}
+def groups(field, table, point, rng, given):
+    equality = {"kind": "eq", "claims": [{"point": point, "value": value_at(field, table, point)}]}
     if not given.kinds:
         return [equality]
-    def drawn(count):
-        return [rng.randrange(P) for _ in range(count)]
+
+    def drawn(count, size):
+        return [rng.randrange(size) for _ in range(count)]
+
     def value(weights):
-        return sum(w * x for w, x in zip(weights, table)) % P
-    selector, rest, scalar, direct = drawn(1), drawn(len(point) - 1), rng.randrange(P), drawn(len(point))
-    slots = [s * w % P for s in equality_weights(selector) for w in successor_weights(rest)]
+        total = 0
+        for w, x in zip(weights, table):
+            total = field.add(total, field.mul(w, x))
+        return total
+
+    selector, rest = drawn(1, field.size), drawn(len(point) - 1, field.size)
+    scalar, direct = rng.randrange(field.base_size), drawn(len(point), field.base_size)
+    slots = [field.mul(s, w) for s in equality_weights(field, selector) for w in successor_weights(field, rest)]
     return [
         equality,
         {"kind": "next", "claims": [{"selector": selector, "point": rest, "order": "prefix", "value": value(slots)}]},
-        {"kind": "select", "scalars": [{"at": scalar, "value": value(powers(scalar, len(table)))}]},
-        {"kind": "select", "points": [{"at": direct, "value": value(products(direct))}]},
+        {"kind": "select", "scalars": [{"at": scalar, "value": value(powers(field, scalar, len(table)))}]},
+        {"kind": "select", "points": [{"at": direct, "value": value(products(field, direct))}]},
     ]
 
 
 def job(given, mode):
-    variables = given.variables
+    variables, field = given.variables, FIELDS[given.field]
     rng = random.Random(variables)
-    table = [rng.randrange(10000, P) for _ in range(1 << variables)]
+    table = [rng.randrange(10000 if given.field == "65537" else 0, field.base_size) for _ in range(1 << variables)]
     if given.seed is not None:
         rng.seed(given.seed)
-    point = [rng.randrange(P) for _ in range(variables)]
-    script = {"draws": [rng.randrange(P) for _ in range(variables)], "witnesses": []}
+    point = [rng.randrange(field.size) for _ in range(variables)]
+    script = {"draws": [rng.randrange(field.base_size) for _ in range(2 * variables)], "witnesses": []}
     return json.dumps({
-        "field": "65537",
+        "field": given.field,
         "challenger": "hash" if given.hash else script,
         "order": "suffix" if given.suffix else "prefix",
         "bits": given.bits, "table": table, "variables": variables,
-        "groups": groups(table, point, rng, given),
-        "batching": 40503, "mode": mode,
+        "groups": groups(field, table, point, rng, given),
+        "batching": 40503 % field.size, "mode": mode,
     }, separators=(",", ":"))
 
 
 def proof(command, given, folder):
     path, out = os.path.join(folder, "build.json"), os.path.join(folder, "built")
     with open(path, "w") as f:
-        f.write(job(given, {"build": "plain"}))
+        f.write(job(given, {"build": given.build}))
     status = run(command, path, out)[3]
     with open(out) as f:
         lines = [line.split() for line in f if line.startswith("round ")]
@@ -117,6 +188,8 @@ def main():
     arguments = argparse.ArgumentParser(description=__doc__, formatter_class=argparse.RawDescriptionHelpFormatter)
     arguments.add_argument("--variables", type=int, default=20)
     arguments.add_argument("--repeats", type=int, default=7)
+    arguments.add_argument("--field", choices=sorted(FIELDS), default="65537")
+    arguments.add_argument("--represented", dest="build", action="store_const", const="represented", default="plain")
     arguments.add_argument("--kinds", action="store_true")
     arguments.add_argument("--suffix", action="store_true")
     arguments.add_argument("--hash", action="store_true")
@@ -132,7 +205,7 @@ def main():
             sys.exit(f"no such program: {program}")
     with tempfile.TemporaryDirectory() as folder:
         path = os.path.join(folder, "job.json")
-        mode = {"build": "plain"}
+        mode = {"build": given.build}
         if given.check:
             mode = proof(shlex.split(given.programs[0]), given, folder)
         with open(path, "w") as f:

@@ -6,26 +6,28 @@ use Rattle.sc_definitions.specs.declared.events.Event.{Event}
 use Rattle.sc_definitions.specs.declared.false_claim.FalseClaim.{FalseClaim}
 use Rattle.sc_definitions.specs.Ring.{Ops, IsRing}
 use Rattle.sc_definitions.specs.Tables.{IsOffered}
-use Rattle.sc_definitions.specs.Events.{Rules, Extension, own_extension}
+use Rattle.sc_definitions.specs.Events.{Rules, Extension}
 use Rattle.sc_definitions.specs.Transcript.{Round, messages_of, challenges, IsBuilt}
 use Rattle.sc_definitions.specs.Problem.{honest_of}
 use Rattle.sc_definitions.proofs.BuildLaws.{built-residual, first_false_claim-all}
-use Rattle.sc_field.specs.ResiduesLaws.{residues_field}
 use Rattle.sc_statements.specs.FalseClaims.{told}
 use Rattle.sc_audit.specs.declared.job.Strategy.{Strategy}
-use Rattle.sc_audit.specs.declared.job.Strategy.TheVariants.{Plain}
 use Rattle.sc_audit.specs.declared.error.AuditError.{AuditError}
 use Rattle.sc_audit.specs.Cases.{Case, build}
 use Rattle.sc_audit.specs.Refusals.{or_later, mode_refusal, shape_refusal, task_refusal, false_refusal, refusal_of}
 use Rattle.sc_audit.specs.Figures.{holds, finding_by, false_claim_of, is_matched, figures_of}
 use Rattle.sc_audit.specs.Audits.{begun, figures_from}
+use Rattle.sc_field.specs.ResiduesLaws.{residues_field}
+use Rattle.sc_field.specs.F257x2Laws.{f257x2_field}
+use Rattle.sc_field.specs.SixteenLaws.{tower_field}
+use Rattle.sumcheck_run.specs.declared.job.FieldName.{FieldName}
+use Rattle.sumcheck_run.specs.declared.job.FieldName.TheVariants.{F65537, F257x2, F16}
 use Rattle.sumcheck_run.specs.declared.job.Job.{Job}
 use Rattle.sumcheck_run.specs.declared.job.Mode.TheVariants.{Build}
 use Rattle.sumcheck_run.specs.declared.reply.Outcome.TheVariants.{Holds, NoWitness}
-use Rattle.sumcheck_run.specs.Elements.{field_size}
 use Rattle.sumcheck_run.specs.Reply.{no_witness}
 use Rattle.sumcheck_run.specs.Witnesses.{honest_rounds}
-use Rattle.sumcheck_run.specs.Report.{field, task_of, case_of, rules_of, finding_reply, figure_lines, or_no_witness, rounds_of, rounds_reply, reply_by, case_reply, judge}
+use Rattle.sumcheck_run.specs.Report.{Fields, fields_of, judge, task_of, case_of, rules_of, finding_reply, figure_lines, or_no_witness, rounds_of, rounds_reply, reply_by, case_reply, judge_over}
 use Rattle.sumcheck_run.proofs.WitnessLaws.{IsBuiltOr, honest_rounds-built}
 
 told-none : (found : Option FalseClaim) → false_refusal (told found) ≡ None → found ≡ None
@@ -63,16 +65,31 @@ module _ (o : Ops) (ring : IsRing o) (R : Rules) (E : Extension) (h : List Event
   built-outcome size (Err i) positive = inr (positive, refl)
 
 -- a build that is not refused holds, unless a round at a difficulty has no witness
-pub built_holds : (job : Job) → job.mode ≡ Build → refusal_of field (rules_of job).max_bits (case_of job) ≡ None →
-    ((judge job).outcome ≡ Holds) ⊎ ((0 < job.bits) × ((judge job).outcome ≡ NoWitness))
-unfolding judge case_reply
-built_holds job mode none =
-    let R = rules_of job in
-    let c = case_of job in
-    let built = honest_rounds (honest_of field c.problem) R own_extension field_size c.bits (begun own_extension [] c) [] c.problem.variables in
-    let is : (judge job).outcome ≡ (rounds_reply field R own_extension [] c (or_no_witness built)).outcome =
-    ap (λ first. (reply_by first (rounds_reply field R own_extension [] c (rounds_of field R own_extension field_size [] c c.task))).outcome) none
-    ∙ ap (λ task. (rounds_reply field R own_extension [] c (rounds_of field R own_extension field_size [] c task)).outcome) (ap task_of mode) in
-    let out = built-outcome field residues_field.ring R own_extension [] c tt (all-true field R.max_bits c Plain (ap task_of mode) none) field_size built
-    (honest_rounds-built R own_extension field_size (honest_of field c.problem) c.bits (begun own_extension [] c) [] c.problem.variables) in
+pub built_holds : (k : Fields) → IsRing k.ops → (job : Job) (strategy : Strategy) → job.mode ≡ Build strategy → refusal_of k.ops (rules_of k job).max_bits (case_of k.embedding job) ≡ None →
+    ((judge_over k job).outcome ≡ Holds) ⊎ ((0 < job.bits) × ((judge_over k job).outcome ≡ NoWitness))
+unfolding judge_over case_reply
+built_holds k ring job strategy mode none =
+    let o = k.ops in
+    let E = k.extension in
+    let size = k.base_size in
+    let R = rules_of k job in
+    let c = case_of k.embedding job in
+    let built = honest_rounds (honest_of o c.problem) R E size c.bits (begun E [] c) [] c.problem.variables in
+    let is : (judge_over k job).outcome ≡ (rounds_reply o R E [] c (or_no_witness built)).outcome =
+    ap (λ first. (reply_by first (rounds_reply o R E [] c (rounds_of o R E size [] c c.task))).outcome) none
+    ∙ ap (λ task. (rounds_reply o R E [] c (rounds_of o R E size [] c task)).outcome) (ap task_of mode) in
+    let out = built-outcome o ring R E [] c tt (all-true o R.max_bits c strategy (ap task_of mode) none) size built
+    (honest_rounds-built R E size (honest_of o c.problem) c.bits (begun E [] c) [] c.problem.variables) in
     elim out [ inl holding ↦ inl (is ∙ holding) | inr lacking ↦ inr (lacking.0, is ∙ lacking.1) ]
+
+-- the fields of each name are lawful
+fields_ring : (name : FieldName) → IsRing (fields_of name).ops
+fields_ring F65537 = residues_field.ring
+fields_ring F257x2 = f257x2_field.ring
+fields_ring F16 = tower_field.ring
+
+-- so a job's build holds
+pub job_holds : (job : Job) (strategy : Strategy) → job.mode ≡ Build strategy →
+    refusal_of (fields_of job.field).ops (rules_of (fields_of job.field) job).max_bits (case_of (fields_of job.field).embedding job) ≡ None →
+    ((judge job).outcome ≡ Holds) ⊎ ((0 < job.bits) × ((judge job).outcome ≡ NoWitness))
+job_holds job strategy = built_holds (fields_of job.field) (fields_ring job.field) job strategy

@@ -1,7 +1,10 @@
 -- What several groups say, group after group.
-use Rattle.std.proofs.Common.{◌≡◌, ℕ, ◌+◌, ◌<◌, ◌≤◌, List, [], ◌∷◌, ◌++◌, length, get_or, take, sym, ◌∙◌, ap, arith}
+use Rattle.std.proofs.Common.{◌≡◌, ℕ, ◌+◌, ◌<◌, ◌≤◌, List, [], ◌∷◌, ◌++◌, length, get_or, take, map, refl, sym, ◌∙◌, ap, arith}
 use Rattle.std.specs.List.{flat_map}
-use Rattle.std.proofs.lemmas.List.{take_more, flat_map_more}
+use Rattle.std.proofs.lemmas.List.{take_more, flat_map_more, map_more}
+use Rattle.sc_definitions.specs.Statements.{Statement, claims, products}
+use Rattle.sumcheck_run.specs.declared.job.ProductClaim.{ProductClaim}
+use Rattle.sumcheck_run.specs.Statements.{product_statement}
 use Rattle.std.proofs.lemmas.List.Folds.{length-flat_map-take}
 
 -- one more of the one list says the same as the item that was read at an index of the other
@@ -15,3 +18,24 @@ flat_map-read f h xs ys x y i below is before same =
 pub length-flat_map-read : {Y A : Type 0} (h : Y → List A) (ys : List Y) (y : Y) (i : ℕ) → i < length ys → y ≡ get_or ys i y →
     length (flat_map h (take i ys)) + length (h y) ≤ length (flat_map h ys)
 length-flat_map-read h ys y i below is = omega (arith, length-flat_map-take h ys i y below, ap (λ z. length (h z)) is)
+
+-- the images of a list of elements are those of their numbers
+pub embedded_numbers : {X : Type 0} (embedding : ℕ → ℕ) (number : X → ℕ) (xs : List X) (ns : List ℕ) → map number xs ≡ ns → map (λ x. embedding (number x)) xs ≡ map embedding ns
+embedded_numbers embedding number [] [] same = refl
+embedded_numbers embedding number [] (n ∷ ns) same = cc
+embedded_numbers embedding number (x ∷ xs) [] same = cc
+embedded_numbers embedding number (x ∷ xs) (n ∷ ns) same =
+    let head : number x ≡ n = cc in
+    let tail : map number xs ≡ ns = cc in
+    ap (λ k. embedding k ∷ map (λ x. embedding (number x)) xs) head ∙ ap (λ t. embedding n ∷ t) (embedded_numbers embedding number xs ns tail)
+
+-- one more claim at a direct point
+pub pushed_product : (embedding : ℕ → ℕ) (cs : List ProductClaim) (i : ℕ) (c : ProductClaim) → i < length cs → c ≡ get_or cs i c → (old new : List Statement) (ps : List ℕ) (v : ℕ) →
+    old ≡ map (product_statement embedding) (take i cs) → new ≡ old ++ claims (products ps) v ∷ [] → ps ≡ map embedding c.point → v ≡ c.value →
+    new ≡ map (product_statement embedding) (take (i + 1) cs)
+pushed_product embedding cs i c low is old new ps v before pushed point value =
+    pushed ∙ ap (λ t. t ++ claims (products ps) v ∷ []) before
+    ∙ ap (λ q. map (product_statement embedding) (take i cs) ++ claims (products q) v ∷ []) point
+    ∙ ap (λ q. map (product_statement embedding) (take i cs) ++ claims (products (map embedding c.point)) q ∷ []) value
+    ∙ ap (λ d. map (product_statement embedding) (take i cs) ++ product_statement embedding d ∷ []) is
+    ∙ sym (map_more (product_statement embedding) cs i c low)

@@ -7,10 +7,8 @@ use Rattle.sumcheck_run.specs.declared.command.Command.{Command}
 use Rattle.sumcheck_run.specs.declared.command.Command.TheVariants.{Audit}
 use Rattle.sumcheck_run.specs.declared.job.Job.{Job}
 use Rattle.sumcheck_run.specs.Reply.{Reply, code_of, no_witness, proof_refused, refused, usage}
-use Rattle.sumcheck_run.specs.Elements.{field_size}
 use Rattle.sumcheck_run.specs.Job.{job_of}
 use Rattle.sumcheck_run.specs.declared.member.Misfit.{Misfit}
-use Rattle.sc_definitions.specs.Events.{own_extension}
 use Rattle.sc_audit.specs.declared.error.AuditError.{AuditError}
 use Rattle.sc_audit.specs.declared.error.AuditError.TheVariants.{Unbuilt, JobShape, StrategyUnfit, FalseClaim, MissingSumcheckData, RoundCountMismatch, PowWitnessCountMismatch, InvalidPowWitness, NoWitness, NoMemory}
 use Rattle.sc_audit.specs.Refusals.{refusal_of}
@@ -21,7 +19,7 @@ use Rattle.sc_definitions.specs.Events.{Rules, Extension}
 use Rattle.sc_definitions.specs.Transcript.{Round}
 use Rattle.sc_audit.specs.Cases.{Case}
 use Rattle.sc_audit.specs.Audits.{figures_from}
-use Rattle.sumcheck_run.specs.Report.{field, case_of, rules_of, figure_lines, refusal_reply, finding_reply, rounds_of, rounds_reply, reply_by, case_reply, judge}
+use Rattle.sumcheck_run.specs.Report.{Fields, fields_of, case_of, rules_of, figure_lines, refusal_reply, finding_reply, rounds_of, rounds_reply, reply_by, case_reply, judge_over}
 use Rattle.sumcheck_run.specs.Program.{max_input, too_long, bad_json, job_reply, audit_reply, value_reply, json_reply, reply_of}
 
 -- it is no usage
@@ -65,17 +63,17 @@ reply-answer : (first : Option AuditError) (reply : Reply) → IsAnswer reply �
 reply-answer (Some e) reply answer = refusal-answer e
 reply-answer None reply answer = answer
 
-judge-answer : (job : Job) → IsAnswer (judge job)
-unfolding judge case_reply
-judge-answer job =
-    let R = rules_of job in
-    let c = case_of job in
-    let rounds = rounds_of field R own_extension field_size [] c c.task in
-    reply-answer (refusal_of field R.max_bits c) (rounds_reply field R own_extension [] c rounds) (rounds-answer field R own_extension [] c rounds)
+judge-answer : (k : Fields) (job : Job) → IsAnswer (judge_over k job)
+unfolding judge_over case_reply
+judge-answer k job =
+    let R = rules_of k job in
+    let c = case_of k.embedding job in
+    let rounds = rounds_of k.ops R k.extension k.base_size [] c c.task in
+    reply-answer (refusal_of k.ops R.max_bits c) (rounds_reply k.ops R k.extension [] c rounds) (rounds-answer k.ops R k.extension [] c rounds)
 
 job-answer : (r : Result Job Misfit) → IsAnswer (job_reply r)
 job-answer (Err fault) = refused-answer _
-job-answer (Ok job) = judge-answer job
+job-answer (Ok job) = judge-answer (fields_of job.field) job
 
 value-answer : (o : Option Data) → IsAnswer (value_reply audit_reply o)
 unfolding bad_json

@@ -6,7 +6,7 @@ use Rattle.sc_definitions.specs.declared.events.Event.{Event}
 use Rattle.sc_definitions.specs.Ring.{Ops, IsRing}
 use Rattle.sc_definitions.specs.Tables.{evaluation, IsOffered, entries, rows_of}
 use Rattle.sc_definitions.specs.Statements.{Statement}
-use Rattle.sc_definitions.specs.Events.{Rules, Extension, own_extension}
+use Rattle.sc_definitions.specs.Events.{Rules, Extension}
 use Rattle.sc_definitions.specs.Transcript.{Round, rounds_events}
 use Rattle.sc_definitions.specs.Replays.{round_passes, given_rounds}
 use Rattle.sc_definitions.specs.Problem.{honest_of}
@@ -19,9 +19,8 @@ use Rattle.sc_audit.specs.Refusals.{refusal_of}
 use Rattle.sc_audit.specs.Figures.{Figures, holds, figures_of}
 use Rattle.sc_audit.specs.Audits.{begun, AreRounds, Plays, IsAudited, IsLucky, IsFailing, IsUnground, IsCaused}
 use Rattle.sumcheck_run.specs.declared.job.Job.{Job}
-use Rattle.sumcheck_run.specs.Elements.{field_size}
 use Rattle.sumcheck_run.specs.Statements.{all_claims}
-use Rattle.sumcheck_run.specs.Report.{field, task_of, case_of, rules_of, refusal_reply, finding_reply, figures_reply, figure_lines, or_no_witness, unless_failing, passing_rounds, rounds_of, rounds_reply, reply_by, case_reply, judge}
+use Rattle.sumcheck_run.specs.Report.{Fields, task_of, case_of, rules_of, refusal_reply, finding_reply, figures_reply, figure_lines, or_no_witness, unless_failing, passing_rounds, rounds_of, rounds_reply, reply_by, case_reply, judge_over}
 use Rattle.sumcheck_run.proofs.WitnessLaws.{AreLow, honest_rounds-whole, honest_rounds-none, none_passes, first_failing-at, first_failing-none}
 use Rattle.sumcheck_run.proofs.BuildReplies.{all-true, built-finding}
 
@@ -31,15 +30,15 @@ unfolding entries rows_of
 entries-numbers number xs ns is = ap (λ ys b. slice_index ys b) is
 
 -- the case of elements is that of their numbers
-pub asked-case : {X : Type 0} (number : X → ℕ) (xs : List X) (bits n : ℕ) (ss : List Statement) (c i : ℕ) (t : Task) (job : Job) →
-    map number xs ≡ job.table → bits ≡ job.bits → n ≡ job.variables → ss ≡ all_claims job.groups → c ≡ job.batching → i ≡ 0 → t ≡ task_of job.mode →
+pub asked-case : {X : Type 0} (embedding : ℕ → ℕ) (number : X → ℕ) (xs : List X) (bits n : ℕ) (ss : List Statement) (c i : ℕ) (t : Task) (job : Job) →
+    map number xs ≡ job.table → bits ≡ job.bits → n ≡ job.variables → ss ≡ all_claims embedding job.groups → c ≡ job.batching → i ≡ 0 → t ≡ task_of job.mode →
     ◌≡◌ {A = Case} (record {
       rows = length xs;
       bits = bits;
-      problem = record { basis = evaluation; order = order_of job.order; variables = n; table = entries number xs; statements = ss; batching = c; initial = i };
+      problem = record { basis = evaluation; order = order_of job.order; variables = n; table = λ b. embedding (entries number xs b); statements = ss; batching = c; initial = i };
       task = t;
-    }) (case_of job)
-asked-case number xs bits n ss c i t job is eb en es ec ei et =
+    }) (case_of embedding job)
+asked-case embedding number xs bits n ss c i t job is eb en es ec ei et =
     let rows : length xs ≡ length job.table = sym (length-map xs number) ∙ ap length is in
     rw (rows, eb, entries-numbers number xs job.table is, en, es, ec, ei, et) refl
 
@@ -159,7 +158,7 @@ unrefused x result None is told = refl
 unrefused x result (Some e) is told = elim (told e refl) [ inl t ↦ cc (is, t) | inr t ↦ cc (is, t) ]
 
 -- the answer to the case that a job is, under its challenger, is the job's
-pub judged : (job : Job) (R : Rules) (h : List Event) (c : Case) → R ≡ rules_of job → h ≡ [] → c ≡ case_of job →
-    case_reply field R own_extension field_size h c ≡ judge job
-unfolding judge
-judged job R h c rules start case = cc (rules, start, case)
+pub judged : (k : Fields) (job : Job) (R : Rules) (h : List Event) (c : Case) → R ≡ rules_of k job → h ≡ [] → c ≡ case_of k.embedding job →
+    case_reply k.ops R k.extension k.base_size h c ≡ judge_over k job
+unfolding judge_over
+judged k job R h c rules start case = cc (rules, start, case)

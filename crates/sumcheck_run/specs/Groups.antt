@@ -1,4 +1,4 @@
--- The groups of claims that a value describes.
+-- The groups of claims that a value describes, over fields of these sizes.
 use Rattle.std.specs.Prelude.{ℕ, ◌+◌, List, length, codes, nat_eq, nat_le, bytes_eq, if◌then◌else◌, Option, Some, None, option_map, option_and_then}
 use Rattle.serde_json.specs.Data.{Data}
 use Rattle.serde_json.specs.Find.{get, as_str}
@@ -9,14 +9,15 @@ use Rattle.sumcheck_run.specs.declared.job.ScalarClaim.{ScalarClaim}
 use Rattle.sumcheck_run.specs.declared.job.ProductClaim.{ProductClaim}
 use Rattle.sumcheck_run.specs.declared.job.Group.{Group}
 use Rattle.sumcheck_run.specs.declared.job.Group.TheVariants.{Equality, Successor, Scalars, Products}
+use Rattle.sumcheck_run.specs.declared.job.Sizes.{Sizes}
 use Rattle.sumcheck_run.specs.Elements.{with_member, element_form, order_form}
-use Rattle.sumcheck_run.specs.Statements.{all_claims}
+use Rattle.sumcheck_run.specs.Statements.{statement_count}
 
 -- a point of as many coordinates as the job has variables, and the value there
-abbrev pub equality_form : ℕ → Data → Option EqualityClaim
-equality_form variables d =
-    with_member d (codes "point") (list_of_length_form element_form variables) (λ point.
-    with_member d (codes "value") element_form (λ value.
+abbrev pub equality_form : Sizes → ℕ → Data → Option EqualityClaim
+equality_form sizes variables d =
+    with_member d (codes "point") (list_of_length_form (element_form sizes.extension) variables) (λ point.
+    with_member d (codes "value") (element_form sizes.extension) (λ value.
     Some (record { point = point; value = value })))
 
 -- a claim whose selector and point have together so many coordinates
@@ -24,48 +25,48 @@ abbrev pub of_arity : ℕ → SuccessorClaim → Option SuccessorClaim
 of_arity variables c = if nat_eq (length c.selector + length c.point) variables then Some c else None
 
 -- a selector and a point, of together as many coordinates as the job has variables, the selector's side, and the value
-abbrev pub successor_form : ℕ → Data → Option SuccessorClaim
-successor_form variables d =
-    with_member d (codes "selector") (list_form element_form) (λ selector.
-    with_member d (codes "point") (list_form element_form) (λ point.
+abbrev pub successor_form : Sizes → ℕ → Data → Option SuccessorClaim
+successor_form sizes variables d =
+    with_member d (codes "selector") (list_form (element_form sizes.extension)) (λ selector.
+    with_member d (codes "point") (list_form (element_form sizes.extension)) (λ point.
     with_member d (codes "order") order_form (λ order.
-    with_member d (codes "value") element_form (λ value.
+    with_member d (codes "value") (element_form sizes.extension) (λ value.
     of_arity variables (record { selector = selector; point = point; order = order; value = value })))))
 
--- a scalar, and the value of the sum
-abbrev pub scalar_form : Data → Option ScalarClaim
-scalar_form d =
-    with_member d (codes "at") element_form (λ scalar.
-    with_member d (codes "value") element_form (λ value.
+-- a scalar of the base field, and the value of the sum
+abbrev pub scalar_form : Sizes → Data → Option ScalarClaim
+scalar_form sizes d =
+    with_member d (codes "at") (element_form sizes.base) (λ scalar.
+    with_member d (codes "value") (element_form sizes.extension) (λ value.
     Some (record { scalar = scalar; value = value })))
 
--- a direct point of as many coordinates as the job has variables, and the value of the sum
-abbrev pub product_form : ℕ → Data → Option ProductClaim
-product_form variables d =
-    with_member d (codes "at") (list_of_length_form element_form variables) (λ point.
-    with_member d (codes "value") element_form (λ value.
+-- a direct point, in the base field, of as many coordinates as the job has variables, and the value of the sum
+abbrev pub product_form : Sizes → ℕ → Data → Option ProductClaim
+product_form sizes variables d =
+    with_member d (codes "at") (list_of_length_form (element_form sizes.base) variables) (λ point.
+    with_member d (codes "value") (element_form sizes.extension) (λ value.
     Some (record { point = point; value = value })))
 
-abbrev pub select_by : ℕ → Option Data → Option Data → Option Group
-select_by variables (Some scalars) None = option_map (λ cs. Scalars cs) (list_form scalar_form scalars)
-select_by variables None (Some points) = option_map (λ cs. Products cs) (list_form (product_form variables) points)
-select_by variables None None = None
-select_by variables (Some scalars) (Some points) = None
+abbrev pub select_by : Sizes → ℕ → Option Data → Option Data → Option Group
+select_by sizes variables (Some scalars) None = option_map (λ cs. Scalars cs) (list_form (scalar_form sizes) scalars)
+select_by sizes variables None (Some points) = option_map (λ cs. Products cs) (list_form (product_form sizes variables) points)
+select_by sizes variables None None = None
+select_by sizes variables (Some scalars) (Some points) = None
 
 -- exactly one of claims at scalars and claims at direct points
-abbrev pub select_form : ℕ → Data → Option Group
-select_form variables d = select_by variables (get (codes "scalars") d) (get (codes "points") d)
+abbrev pub select_form : Sizes → ℕ → Data → Option Group
+select_form sizes variables d = select_by sizes variables (get (codes "scalars") d) (get (codes "points") d)
 
 -- a group of the kind of this name
-abbrev pub group_named : ℕ → Data → List ℕ → Option Group
-group_named variables d kind =
-    if bytes_eq kind (codes "eq") then option_map (λ cs. Equality cs) (member_form (list_form (equality_form variables)) (codes "claims") d) else
-    (if bytes_eq kind (codes "next") then option_map (λ cs. Successor cs) (member_form (list_form (successor_form variables)) (codes "claims") d) else
-    (if bytes_eq kind (codes "select") then select_form variables d else None))
+abbrev pub group_named : Sizes → ℕ → Data → List ℕ → Option Group
+group_named sizes variables d kind =
+    if bytes_eq kind (codes "eq") then option_map (λ cs. Equality cs) (member_form (list_form (equality_form sizes variables)) (codes "claims") d) else
+    (if bytes_eq kind (codes "next") then option_map (λ cs. Successor cs) (member_form (list_form (successor_form sizes variables)) (codes "claims") d) else
+    (if bytes_eq kind (codes "select") then select_form sizes variables d else None))
 
 -- a group of claims of one kind
-abbrev pub group_form : ℕ → Data → Option Group
-group_form variables d = with_member d (codes "kind") as_str (group_named variables d)
+abbrev pub group_form : Sizes → ℕ → Data → Option Group
+group_form sizes variables d = with_member d (codes "kind") as_str (group_named sizes variables d)
 
 -- the greatest number of statements in a job
 abbrev pub most_statements : ℕ
@@ -73,8 +74,8 @@ most_statements = 4096
 
 -- groups of no more statements than a job may have
 abbrev pub few_statements : List Group → Option (List Group)
-few_statements groups = if nat_le (length (all_claims groups)) most_statements then Some groups else None
+few_statements groups = if nat_le (statement_count groups) most_statements then Some groups else None
 
 -- the groups of a job
-abbrev pub groups_form : ℕ → Data → Option (List Group)
-groups_form variables d = option_and_then few_statements (list_form (group_form variables) d)
+abbrev pub groups_form : Sizes → ℕ → Data → Option (List Group)
+groups_form sizes variables d = option_and_then few_statements (list_form (group_form sizes variables) d)

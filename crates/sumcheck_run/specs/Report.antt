@@ -3,6 +3,8 @@ use Rattle.std.specs.Prelude.{ℕ, List, [], ◌∷◌, ◌++◌, length, map, O
 use Rattle.std.specs.Option.{option_map}
 use Rattle.sc_definitions.specs.Ring.{Ops}
 use Rattle.sc_definitions.specs.Residues.{residues}
+use Rattle.sc_definitions.specs.Quadratic.{quadratic, pair_extension}
+use Rattle.sc_definitions.specs.Sixteen.{tower}
 use Rattle.sc_definitions.specs.Tables.{evaluation, rows_of}
 use Rattle.sc_definitions.specs.declared.events.Event.{Event}
 use Rattle.sc_definitions.specs.Events.{Rules, Extension, own_extension}
@@ -12,7 +14,6 @@ use Rattle.sc_definitions.specs.Replays.{given_rounds}
 use Rattle.sc_definitions.specs.Problem.{Problem, honest_of}
 use Rattle.sc_challenger.specs.Hashed.{hash_rules}
 use Rattle.sc_table.specs.Strategy.{order_of}
-use Rattle.sc_audit.specs.declared.job.Strategy.TheVariants.{Plain}
 use Rattle.sc_audit.specs.declared.error.AuditError.{AuditError}
 use Rattle.sc_audit.specs.declared.error.AuditError.TheVariants.{Unbuilt, JobShape, StrategyUnfit, FalseClaim, MissingSumcheckData, RoundCountMismatch, PowWitnessCountMismatch, InvalidPowWitness, NoWitness, NoMemory}
 use Rattle.sc_audit.specs.declared.error.Form.TheVariants.{Verdict}
@@ -21,6 +22,8 @@ use Rattle.sc_audit.specs.Refusals.{refusal_of}
 use Rattle.sc_audit.specs.Figures.{Figures, Finding, holds, refuted, lucky}
 use Rattle.sc_audit.specs.Audits.{begun, figures_from}
 use Rattle.sumcheck_run.specs.declared.reply.Outcome.TheVariants.{Holds, Refuted}
+use Rattle.sumcheck_run.specs.declared.job.FieldName.{FieldName}
+use Rattle.sumcheck_run.specs.declared.job.FieldName.TheVariants.{F65537, F257x2, F16}
 use Rattle.sumcheck_run.specs.declared.job.Job.{Job}
 use Rattle.sumcheck_run.specs.declared.job.Challenger.{Challenger}
 use Rattle.sumcheck_run.specs.declared.job.Challenger.TheVariants.{Scripted, Hash}
@@ -28,25 +31,35 @@ use Rattle.sumcheck_run.specs.declared.job.Proof.{Proof}
 use Rattle.sumcheck_run.specs.declared.job.Mode.{Mode}
 use Rattle.sumcheck_run.specs.declared.job.Mode.TheVariants.{Build, Check}
 use Rattle.sumcheck_run.specs.Reply.{Reply, no_witness, proof_refused, refused}
-use Rattle.sumcheck_run.specs.Elements.{field_size}
 use Rattle.sumcheck_run.specs.Statements.{all_claims}
 use Rattle.sumcheck_run.specs.Witnesses.{honest_rounds, first_failing}
 use Rattle.sumcheck_run.specs.Lines.{claim_line, round_lines, residual_line, eval_line, weight_line, holds_line, refuted_line, unbuilt_text, shape_fault_text, fit_fault_text, false_claim_text, missing_text, rounds_text, witnesses_text, witness_text}
 
 -- ---- the case that a job is
 
--- the field of the jobs: the integers modulo 65537
-abbrev pub field : Ops
-field = residues field_size
+-- A field that challenges are in, over a base field: its operations on numbers, how many elements the base field has, the parts of an element in the
+-- base field, and the number of a base element's image.
+pub record Fields : Type 0 where
+  pub ops : Ops
+  pub base_size : ℕ
+  pub extension : Extension
+  pub embedding : ℕ → ℕ
+
+-- The fields of a name: the integers modulo 65537 over themselves; a + b u over the integers modulo 257, where u^2 = 3; the field of 16 elements over
+-- itself, whose numbers have the bits of 1, w, y and wy, where w^2 = w + 1 and y^2 = y + w.
+abbrev pub fields_of : FieldName → Fields
+fields_of F65537 = record { ops = residues 65537; base_size = 65537; extension = own_extension; embedding = λ n. n }
+fields_of F257x2 = record { ops = quadratic (residues 257) 3; base_size = 257; extension = pair_extension (residues 257); embedding = λ n. n }
+fields_of F16 = record { ops = tower; base_size = 16; extension = own_extension; embedding = λ n. n }
 
 -- the job's problem: a table of values, with its statements batched from the power 0 on
-abbrev pub problem_of : Job → Problem
-problem_of job = record {
+abbrev pub problem_of : (ℕ → ℕ) → Job → Problem
+problem_of embedding job = record {
   basis = evaluation;
   order = order_of job.order;
   variables = job.variables;
-  table = rows_of job.table;
-  statements = all_claims job.groups;
+  table = λ b. embedding (rows_of job.table b);
+  statements = all_claims embedding job.groups;
   batching = job.batching;
   initial = 0;
 }
@@ -59,26 +72,26 @@ abbrev pub given_of : Proof → Given
 given_of proof = record { messages = map values_of proof.rounds; witnesses = proof.witnesses }
 
 abbrev pub task_of : Mode → Task
-task_of Build = build Plain
+task_of (Build strategy) = build strategy
 task_of (Check proof) = check (option_map given_of proof)
 
 -- the job's case
-abbrev pub case_of : Job → Case
-case_of job = record {
+abbrev pub case_of : (ℕ → ℕ) → Job → Case
+case_of embedding job = record {
   rows = length job.table;
   bits = job.bits;
-  problem = problem_of job;
+  problem = problem_of embedding job;
   task = task_of job.mode;
 }
 
--- what a challenger answers
-abbrev pub rules_by : Challenger → Rules
-rules_by (Scripted script) = scripted_rules script.draws script.witnesses
-rules_by Hash = hash_rules field_size
+-- what a challenger over a base field of so many elements answers
+abbrev pub rules_by : ℕ → Challenger → Rules
+rules_by base_size (Scripted script) = scripted_rules script.draws script.witnesses
+rules_by base_size Hash = hash_rules base_size
 
 -- what the job's challenger answers
-abbrev pub rules_of : Job → Rules
-rules_of job = rules_by job.challenger
+abbrev pub rules_of : Fields → Job → Rules
+rules_of k job = rules_by k.base_size job.challenger
 
 -- ---- the reply to a case
 
@@ -143,6 +156,10 @@ reply_by None reply = reply
 unfoldable pub case_reply : Ops → Rules → Extension → ℕ → List Event → Case → Reply
 case_reply o R E size h c = reply_by (refusal_of o R.max_bits c) (rounds_reply o R E h c (rounds_of o R E size h c c.task))
 
--- what a job is answered, over the integers modulo 65537 and under its own challenger
-unfoldable pub judge : Job → Reply
-judge job = case_reply field (rules_of job) own_extension field_size [] (case_of job)
+-- what a job is answered over these fields and under its own challenger
+unfoldable pub judge_over : Fields → Job → Reply
+judge_over k job = case_reply k.ops (rules_of k job) k.extension k.base_size [] (case_of k.embedding job)
+
+-- what a job is answered, over the fields that it names
+abbrev pub judge : Job → Reply
+judge job = judge_over (fields_of job.field) job

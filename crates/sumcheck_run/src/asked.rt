@@ -7,18 +7,21 @@ ghost use Rattle.sumcheck_run.specs.Report.{case_of, given_of, task_of};
 use crate::elements::{elements, messages};
 use crate::job::{Job, Mode, Proof};
 use crate::statements::constraint_of;
-use sc_audit::{Job as AuditJob, Mode as AuditMode, Strategy};
-use sc_field::{Field, NoMemory};
+use sc_audit::{Job as AuditJob, Mode as AuditMode};
+use sc_field::{ExtensionField, Field, NoMemory};
 use sc_rounds::SumcheckData;
 use std::alloc::Global;
 
 /// The audit of the elements that a job names by their numbers.
-pub(crate) fn audit_job<F: Field>(alloc: Global, job: &Job) -> Result<AuditJob<F, F>, NoMemory>
-    requires { JobFits F.ops.size job.now }
-    ensures { IfOk result (λ asked. case_in F.number F.number (λ x. x) asked ≡ case_of job.now) }
+pub(crate) fn audit_job<F: Field, EF: ExtensionField<F>>(
+    alloc: Global,
+    job: &Job,
+) -> Result<AuditJob<F, EF>, NoMemory>
+    requires { JobFits (record { base = F.ops.size; extension = EF.ops.size }) job.now }
+    ensures { IfOk result (λ asked. case_in F.number EF.number EF.embedding asked ≡ case_of EF.embedding job.now) }
 {
     let variables = job.variables as usize;
-    let batching = F::element(job.batching);
+    let batching = EF::element(job.batching);
     Ok(AuditJob {
         table: elements(alloc, job.table.as_slice())?,
         constraint: constraint_of(alloc, job.groups.as_slice(), variables, batching)?,
@@ -29,21 +32,27 @@ pub(crate) fn audit_job<F: Field>(alloc: Global, job: &Job) -> Result<AuditJob<F
 }
 
 // What is done with it.
-fn audit_mode<F: Field>(alloc: Global, mode: &Mode) -> Result<AuditMode<F, F>, NoMemory>
-    requires { ModeFits F.ops.size mode.now }
-    ensures { IfOk result (λ asked. task_in F.number F.number asked ≡ task_of mode.now) }
+fn audit_mode<F: Field, EF: ExtensionField<F>>(
+    alloc: Global,
+    mode: &Mode,
+) -> Result<AuditMode<F, EF>, NoMemory>
+    requires { ModeFits (record { base = F.ops.size; extension = EF.ops.size }) mode.now }
+    ensures { IfOk result (λ asked. task_in F.number EF.number asked ≡ task_of mode.now) }
 {
     match mode {
-        Mode::Build => Ok(AuditMode::Build(Strategy::Plain)),
+        Mode::Build(strategy) => Ok(AuditMode::Build(*strategy)),
         Mode::Check(None) => Ok(AuditMode::Check(None)),
         Mode::Check(Some(proof)) => Ok(AuditMode::Check(Some(proof_data(alloc, proof)?))),
     }
 }
 
 // The data of a proof.
-fn proof_data<F: Field>(alloc: Global, proof: &Proof) -> Result<SumcheckData<F, F>, NoMemory>
-    requires { ProofFits F.ops.size proof.now }
-    ensures { IfOk result (λ d. given_in F.number F.number d ≡ given_of proof.now) }
+fn proof_data<F: Field, EF: ExtensionField<F>>(
+    alloc: Global,
+    proof: &Proof,
+) -> Result<SumcheckData<F, EF>, NoMemory>
+    requires { ProofFits (record { base = F.ops.size; extension = EF.ops.size }) proof.now }
+    ensures { IfOk result (λ d. given_in F.number EF.number d ≡ given_of proof.now) }
 {
     Ok(SumcheckData {
         polynomial_evaluations: messages(alloc, proof.rounds.as_slice())?,

@@ -1,10 +1,52 @@
 //! What a job says.
 ghost use Rattle.std.specs.Prelude.{◌≡◌, length};
+ghost use Rattle.sumcheck_run.specs.Elements.{sizes_of};
 ghost use Rattle.sumcheck_run.specs.Statements.{group_claims};
 
+use sc_audit::Strategy;
 use sc_table::{Row, VariableOrder};
 
-/// A scripted challenger: its draws, and for each test the witnesses that pass, all by their numbers.
+/// The field of a table's entries, with the extension that points, values and challenges are in.
+#[derive(Clone, Copy, Debug, PartialEq, Eq)]
+pub enum FieldName {
+    /// The integers modulo 65537, over themselves.
+    F65537,
+    /// Over the integers modulo 257: the elements a + b u with `u^2 = 3`. Such an element has the number a + 257 b.
+    F257x2,
+    /// The field of 16 elements, over itself, by numbers with the bits of 1, w, y and wy, where `w^2 = w + 1` and `y^2 = y + w`.
+    F16,
+}
+
+/// How many elements a base field and its extension have.
+#[derive(Clone, Copy, Debug, PartialEq, Eq)]
+pub struct Sizes {
+    pub base: u64,
+    pub extension: u64,
+}
+
+impl FieldName {
+    /// How many elements the two fields have.
+    pub fn sizes(self) -> Sizes
+        ensures { result ≡ sizes_of self }
+    {
+        match self {
+            FieldName::F65537 => Sizes {
+                base: 65537,
+                extension: 65537,
+            },
+            FieldName::F257x2 => Sizes {
+                base: 257,
+                extension: 66049,
+            },
+            FieldName::F16 => Sizes {
+                base: 16,
+                extension: 16,
+            },
+        }
+    }
+}
+
+/// A scripted challenger: its draws, and for each test the witnesses that pass, all elements of the base field by their numbers.
 #[derive(Drop)]
 pub struct Script {
     /// The draws, in order.
@@ -47,7 +89,7 @@ pub struct SuccessorClaim {
     pub value: u64,
 }
 
-/// The claim that the sum of the table's entries times the powers of a scalar has a value.
+/// The claim that the sum of the table's entries times the powers of a scalar of the base field has a value.
 #[derive(Drop)]
 pub struct ScalarClaim {
     /// The scalar.
@@ -56,7 +98,7 @@ pub struct ScalarClaim {
     pub value: u64,
 }
 
-/// The claim that the sum of the table's entries times products of a point's coordinates has a value.
+/// The claim that the sum of the table's entries times products of the coordinates of a point over the base field has a value.
 #[derive(Drop)]
 pub struct ProductClaim {
     /// The point's coordinates, the one of the highest row digit first.
@@ -81,7 +123,7 @@ pub enum Group {
 impl Group {
     /// How many claims there are.
     pub fn len(&self) -> usize
-        ensures { result ≡ length (group_claims self.now) }
+        ensures { result ≡ length (group_claims (λ n. n) self.now) }
     {
         match self {
             Group::Equality(claims) => claims.len(),
@@ -104,8 +146,8 @@ pub struct Proof {
 /// What is done with a job.
 #[derive(Drop)]
 pub enum Mode {
-    /// Its rounds are built.
-    Build,
+    /// Its rounds are built, by a strategy.
+    Build(Strategy),
     /// The rounds of a proof are checked. A table without a variable needs no proof.
     Check(Option<Proof>),
 }
@@ -113,13 +155,15 @@ pub enum Mode {
 /// A job: a table with claims on it, and a challenger. Elements stand by their numbers.
 #[derive(Drop)]
 pub struct Job {
+    /// Over which fields.
+    pub field: FieldName,
     /// What answers draws and tests.
     pub challenger: Challenger,
     /// Which variable a round binds.
     pub order: VariableOrder,
     /// The difficulty of each round's test in bits, at most 65,535, or 0 for no test.
     pub bits: u64,
-    /// The table, row 0 first.
+    /// The table of elements of the base field, row 0 first.
     pub table: Row<u64>,
     /// How many coordinates the points of the claims have, at most 64.
     pub variables: u64,

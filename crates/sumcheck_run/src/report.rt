@@ -1,47 +1,63 @@
 //! The answer to a job.
 ghost use Rattle.std.specs.Prelude.{◌≡◌, ◌⊎◌, ◌<◌, ◌++◌, IfOk, OnOk, None, [], map, string_bytes};
 ghost use Rattle.sc_definitions.specs.Scripted.{scripted_rules};
-ghost use Rattle.sc_definitions.specs.Events.{own_extension};
 ghost use Rattle.sc_rounds.specs.Data.{pair_of};
 ghost use Rattle.sc_audit.specs.Cases.{case_in};
 ghost use Rattle.sc_audit.specs.Figures.{figures_in, finding_in};
 ghost use Rattle.sc_audit.specs.Refusals.{refusal_of};
-ghost use Rattle.sumcheck_run.specs.Elements.{field_size};
+ghost use Rattle.sumcheck_run.specs.Elements.{sizes_of};
 ghost use Rattle.sumcheck_run.specs.Job.{JobFits, ScriptFits};
 ghost use Rattle.sumcheck_run.specs.Lines.{round_lines};
-ghost use Rattle.sumcheck_run.specs.Report.{case_of, case_reply, field, figure_lines, figures_reply, finding_reply, judge, rules_of};
+ghost use Rattle.sumcheck_run.specs.Report.{Fields, case_of, case_reply, fields_of, figure_lines, figures_reply, finding_reply, judge, judge_over, rules_of};
 
 use crate::asked::audit_job;
-use crate::job::{self, Job, Mode, Script};
+use crate::job::{self, FieldName, Job, Mode, Script};
 use crate::refusals::refuse;
 use crate::reply::{Answer, Outcome};
 use crate::{elements, lines};
-use sc_audit::{AuditError, Form, Job as AuditJob, Report, Verdict, audit};
+use sc_audit::{AuditError, Form, Job as AuditJob, Report, Strategy, Verdict, audit};
 use sc_challenger::{Challenger, HashChallenger, ScriptedChallenger};
-use sc_field::{F65537, Field, NoMemory};
+use sc_field::{
+    ExtensionField, F257, F257x2, F65537, Field, IntoTranscriptField, NoMemory, Poly16, Tower16,
+};
 use sc_table::RoundMessage;
 use std::alloc::Global;
 
 /// The answer to a job: its report, or why there is none. The numbers are given up before the audit begins.
-#[tactic(auto, using(crate::proofs::BuildReplies::built_holds))]
 pub fn judge_job(alloc: Global, job: Job) -> Result<Answer, NoMemory>
-    requires { JobFits field_size job }
+    requires { JobFits (sizes_of job.field) job }
     ensures reply { IfOk result (λ a. a ≡ judge job) }
 
     // So a build that is not refused holds, unless a round at a difficulty has no witness.
-    ensures holds { job.mode ≡ Mode.Build → refusal_of field (rules_of job).max_bits (case_of job) ≡ None
+    ensures holds { (strategy : Strategy) → job.mode ≡ Mode.Build strategy → let k : Fields = fields_of job.field in
+        refusal_of k.ops (rules_of k job).max_bits (case_of k.embedding job) ≡ None
         → ((judge job).outcome ≡ Outcome.Holds) ⊎ ((0 < job.bits) × ((judge job).outcome ≡ Outcome.NoWitness)) }
 {
-    let asked: AuditJob<F65537, F65537> = audit_job(alloc, &job)?;
+    match job.field {
+        FieldName::F65537 => judge_in::<F65537, F65537, F65537>(alloc, job),
+        FieldName::F257x2 => judge_in::<F257, F257x2, F257x2>(alloc, job),
+        FieldName::F16 => judge_in::<Tower16, Tower16, Poly16>(alloc, job),
+    }
+}
+
+// The same over fields of these types. Represented tables are in `R`.
+fn judge_in<F: Field, EF: ExtensionField<F>, R: IntoTranscriptField<EF>>(
+    alloc: Global,
+    job: Job,
+) -> Result<Answer, NoMemory>
+    requires { JobFits (record { base = F.ops.size; extension = EF.ops.size }) job }
+    ensures { IfOk result (λ a. a ≡ judge_over (record { ops = EF.ops; base_size = F.ops.size; extension = EF.extension; embedding = EF.embedding }) job) }
+{
+    let asked: AuditJob<F, EF> = audit_job(alloc, &job)?;
     match challenger_in(job) {
         job::Challenger::Scripted(script) => {
-            let mut challenger = scripted(alloc, &script)?;
+            let mut challenger: ScriptedChallenger<F> = scripted(alloc, &script)?;
             drop(script);
-            answer_of(alloc, &asked, &mut challenger)
+            answer_of::<F, EF, R, ScriptedChallenger<F>>(alloc, &asked, &mut challenger)
         }
         job::Challenger::Hash => {
-            let mut challenger: HashChallenger<F65537> = HashChallenger::new(alloc);
-            answer_of(alloc, &asked, &mut challenger)
+            let mut challenger: HashChallenger<F> = HashChallenger::new(alloc);
+            answer_of::<F, EF, R, HashChallenger<F>>(alloc, &asked, &mut challenger)
         }
     }
 }
@@ -55,10 +71,10 @@ fn challenger_in(job: Job) -> job::Challenger
 }
 
 // The challenger with an empty history that a script describes.
-fn scripted(alloc: Global, script: &Script) -> Result<ScriptedChallenger<F65537>, NoMemory>
-    requires { ScriptFits field_size script.now }
-    ensures history { IfOk result (λ c. ⟦<ScriptedChallenger<F65537> as Challenger<F65537>>⟧.history c ≡ []) }
-    ensures rules { IfOk result (λ c. ⟦<ScriptedChallenger<F65537> as Challenger<F65537>>⟧.rules c
+fn scripted<F: Field>(alloc: Global, script: &Script) -> Result<ScriptedChallenger<F>, NoMemory>
+    requires { ScriptFits F.ops.size script.now }
+    ensures history { IfOk result (λ c. ⟦<ScriptedChallenger<F> as Challenger<F>>⟧.history c ≡ []) }
+    ensures rules { IfOk result (λ c. ⟦<ScriptedChallenger<F> as Challenger<F>>⟧.rules c
         ≡ scripted_rules script.now.draws script.now.witnesses) }
 {
     let draws = elements::elements(alloc, script.draws.as_slice())?;
@@ -67,23 +83,26 @@ fn scripted(alloc: Global, script: &Script) -> Result<ScriptedChallenger<F65537>
 }
 
 // The answer to an audit.
-fn answer_of<F: Field, C: Challenger<F>>(
+fn answer_of<F: Field, EF: ExtensionField<F>, R: IntoTranscriptField<EF>, C: Challenger<F>>(
     alloc: Global,
-    asked: &AuditJob<F, F>,
+    asked: &AuditJob<F, EF>,
     challenger: &mut C,
 ) -> Result<Answer, NoMemory>
-    ensures { IfOk result (λ a. a ≡ case_reply F.ops (C.rules challenger.old) own_extension F.ops.size (C.history challenger.old)
-        (case_in F.number F.number (λ x. x) asked.now)) }
+    ensures { IfOk result (λ a. a ≡ case_reply EF.ops (C.rules challenger.old) EF.extension F.ops.size (C.history challenger.old)
+        (case_in F.number EF.number EF.embedding asked.now)) }
 {
-    match audit::<F, F, F, C>(alloc, asked, challenger) {
+    match audit::<F, EF, R, C>(alloc, asked, challenger) {
         Ok(report) => show(alloc, &report),
         Err(error) => refuse(alloc, error),
     }
 }
 
 // The answer that shows a report.
-fn show<F: Field>(alloc: Global, report: &Report<F, F>) -> Result<Answer, NoMemory>
-    ensures { IfOk result (λ a. a ≡ figures_reply (figures_in F.number F.number report.now)) }
+fn show<F: Field, EF: ExtensionField<F>>(
+    alloc: Global,
+    report: &Report<F, EF>,
+) -> Result<Answer, NoMemory>
+    ensures { IfOk result (λ a. a ≡ figures_reply (figures_in F.number EF.number report.now)) }
 {
     let text = report_text(alloc, report)?;
     say_verdict(alloc, text, &report.verdict)
@@ -115,8 +134,11 @@ fn say_verdict<F: Field>(
 
 // The lines of a report up to the verdict.
 #[tactic(auto, unfolding(crate::specs::Report::figure_lines))]
-fn report_text<F: Field>(alloc: Global, report: &Report<F, F>) -> Result<String, NoMemory>
-    ensures { IfOk result (λ s. string_bytes s ≡ figure_lines (figures_in F.number F.number report.now)) }
+fn report_text<F: Field, EF: ExtensionField<F>>(
+    alloc: Global,
+    report: &Report<F, EF>,
+) -> Result<String, NoMemory>
+    ensures { IfOk result (λ s. string_bytes s ≡ figure_lines (figures_in F.number EF.number report.now)) }
 {
     let mut text = String::new(alloc);
     lines::push_claim(&mut text, report.claim.index())?;
@@ -133,14 +155,14 @@ fn report_text<F: Field>(alloc: Global, report: &Report<F, F>) -> Result<String,
 }
 
 // The lines of rounds, as far as there are messages and challenges, with as many witnesses as there are.
-fn push_rounds<F: Field>(
+fn push_rounds<F: Field, EF: Field>(
     text: &mut String,
-    messages: &[RoundMessage<F>],
+    messages: &[RoundMessage<EF>],
     witnesses: &[F],
-    challenges: &[F],
+    challenges: &[EF],
 ) -> Result<(), NoMemory>
     ensures { OnOk result (string_bytes text.new ≡ string_bytes text.old
-        ++ round_lines 0 (map (pair_of F.number) messages.now) (map F.number witnesses.now) (map F.number challenges.now)) }
+        ++ round_lines 0 (map (pair_of EF.number) messages.now) (map F.number witnesses.now) (map EF.number challenges.now)) }
 {
     for i in 0..messages.len().min(challenges.len()) {
         let message = messages[i];

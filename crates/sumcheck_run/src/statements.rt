@@ -9,22 +9,22 @@ ghost use Rattle.sumcheck_run.specs.Statements.{EqualityFits, GroupFits, Product
 
 use crate::elements::elements;
 use crate::job::{EqualityClaim, Group, ProductClaim, ScalarClaim, SuccessorClaim};
-use sc_field::{Field, NoMemory};
+use sc_field::{ExtensionField, Field, NoMemory};
 use sc_statements::{Constraint, EqStatement, NextStatement, SelectStatement, Statements};
 use sc_table::Point;
 use std::alloc::Global;
 
 /// The groups of claims on tables of so many variables as groups of statements, with the element whose powers batch them.
-pub(crate) fn constraint_of<F: Field>(
+pub(crate) fn constraint_of<F: Field, EF: ExtensionField<F>>(
     alloc: Global,
     groups: &[Group],
     variables: usize,
-    batching: F,
-) -> Result<Constraint<F, F>, NoMemory>
-    requires { All (GroupFits F.ops.size variables) groups.now }
-    ensures statements { IfOk result (λ c. constraint_statements F.number F.number c ≡ all_claims groups.now) }
+    batching: EF,
+) -> Result<Constraint<F, EF>, NoMemory>
+    requires { All (GroupFits (record { base = F.ops.size; extension = EF.ops.size }) variables) groups.now }
+    ensures statements { IfOk result (λ c. constraint_statements (λ x. EF.embedding (F.number x)) EF.number c ≡ all_claims EF.embedding groups.now) }
     ensures arity { IfOk result (λ c. constraint_arity c ≡ variables) }
-    ensures challenge { IfOk result (λ c. constraint_challenge F.number c ≡ F.number batching) }
+    ensures challenge { IfOk result (λ c. constraint_challenge EF.number c ≡ EF.number batching) }
     ensures power { IfOk result (λ c. constraint_power c ≡ 0) }
 {
     let mut made = Vec::with_capacity(alloc, groups.len())?;
@@ -35,13 +35,13 @@ pub(crate) fn constraint_of<F: Field>(
 }
 
 // The claims of a group as statements.
-fn statements_of<F: Field>(
+fn statements_of<F: Field, EF: ExtensionField<F>>(
     alloc: Global,
     group: &Group,
     variables: usize,
-) -> Result<Statements<F, F>, NoMemory>
-    requires { GroupFits F.ops.size variables group.now }
-    ensures statements { IfOk result (λ g. group_statements F.number F.number g ≡ group_claims group.now) }
+) -> Result<Statements<F, EF>, NoMemory>
+    requires { GroupFits (record { base = F.ops.size; extension = EF.ops.size }) variables group.now }
+    ensures statements { IfOk result (λ g. group_statements (λ x. EF.embedding (F.number x)) EF.number g ≡ group_claims EF.embedding group.now) }
     ensures arity { IfOk result (λ g. group_arity g ≡ variables) }
 {
     match group {
@@ -103,36 +103,36 @@ fn successor_of<F: Field>(
 }
 
 // The claims as statements that a scalar's powers select a value.
-fn scalars_of<F: Field>(
+fn scalars_of<F: Field, EF: ExtensionField<F>>(
     alloc: Global,
     claims: &[ScalarClaim],
     variables: usize,
-) -> Result<SelectStatement<F, F>, NoMemory>
-    requires { All (ScalarFits F.ops.size) claims.now }
-    ensures statements { IfOk result (λ s. select_statements F.number F.number s ≡ map scalar_statement claims.now) }
+) -> Result<SelectStatement<F, EF>, NoMemory>
+    requires { All (ScalarFits (record { base = F.ops.size; extension = EF.ops.size })) claims.now }
+    ensures statements { IfOk result (λ s. select_statements (λ x. EF.embedding (F.number x)) EF.number s ≡ map (scalar_statement EF.embedding) claims.now) }
     ensures arity { IfOk result (λ s. select_arity s ≡ variables) }
 {
     let mut statement = SelectStatement::initialize(alloc, variables);
     for claim in claims {
-        statement.add_constraint(F::element(claim.scalar), F::element(claim.value))?;
+        statement.add_constraint(F::element(claim.scalar), EF::element(claim.value))?;
     }
     Ok(statement)
 }
 
 // The claims as statements that a direct point's products select a value.
-fn products_of<F: Field>(
+fn products_of<F: Field, EF: ExtensionField<F>>(
     alloc: Global,
     claims: &[ProductClaim],
     variables: usize,
-) -> Result<SelectStatement<F, F>, NoMemory>
-    requires { All (ProductFits F.ops.size variables) claims.now }
-    ensures statements { IfOk result (λ s. select_statements F.number F.number s ≡ map product_statement claims.now) }
+) -> Result<SelectStatement<F, EF>, NoMemory>
+    requires { All (ProductFits (record { base = F.ops.size; extension = EF.ops.size }) variables) claims.now }
+    ensures statements { IfOk result (λ s. select_statements (λ x. EF.embedding (F.number x)) EF.number s ≡ map (product_statement EF.embedding) claims.now) }
     ensures arity { IfOk result (λ s. select_arity s ≡ variables) }
 {
     let mut statement = SelectStatement::initialize(alloc, variables);
     for claim in claims {
         let point = Point::new(elements(alloc, claim.point.as_slice())?);
-        statement.add_point_constraint(point, F::element(claim.value))?;
+        statement.add_point_constraint(point, EF::element(claim.value))?;
     }
     Ok(statement)
 }

@@ -1,10 +1,10 @@
-use Rattle.std.proofs.Common.{map, ap, ◌∙◌, refl}
+use Rattle.std.proofs.Common.{ap, ◌∙◌, refl}
 use Rattle.sumcheck_run.specs.Statements.{all_claims}
 use Rattle.sumcheck_run.proofs.ReportLaws.{asked-case}
 use Rattle.sumcheck_run.proofs.asked.audit_job.Goals as goal
 
 pub returns : goal.returns
 returns g c =
-    asked-case g.F.Field.number _ _ _ _ _ _ _ c.args.job.now (c.in_ok-elements.ensures ∙ c.as_slice.ensures) refl c.in_ok-constraint_of.ensures.arity
-    (c.in_ok-constraint_of.ensures.statements ∙ ap all_claims c.as_slice-2.ensures)
+    asked-case g.EF.Algebra.embedding g.F.Field.number _ _ _ _ _ _ _ c.args.job.now (c.in_ok-elements.ensures ∙ c.as_slice.ensures) refl c.in_ok-constraint_of.ensures.arity
+    (c.in_ok-constraint_of.ensures.statements ∙ ap (all_claims g.EF.Algebra.embedding) c.as_slice-2.ensures)
     (c.in_ok-constraint_of.ensures.challenge ∙ c.element-batching.ensures) c.in_ok-constraint_of.ensures.power c.in_ok-audit_mode.ensures

@@ -7,5 +7,5 @@ use Rattle.sumcheck_run.proofs.groups.are_few.Goals as goal
 
 pub returns-then-count-room : goal.returns-then-count-room
 returns-then-count-room c =
-    let all = length-flat_map-read group_claims c.args.groups.now c.group-item.result c.loop-group.group-index (omega arith) c.group-item.is in
-    sym (lt-leb (length (all_claims c.args.groups.now)) most_statements (omega (arith, all, c.len-count.ensures, c.if-count-room.true, c.loop-group.invariant)))
+    let all = length-flat_map-read (group_claims (λ n. n)) c.args.groups.now c.group-item.result c.loop-group.group-index (omega arith) c.group-item.is in
+    sym (lt-leb (length (all_claims (λ n. n) c.args.groups.now)) most_statements (omega (arith, all, c.len-count.ensures, c.if-count-room.true, c.loop-group.invariant)))

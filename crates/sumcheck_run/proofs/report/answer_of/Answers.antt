@@ -14,5 +14,5 @@ returns-in-Ok g c =
 pub returns-in-Err : goal.returns-in-Err
 returns-in-Err g c =
     IfOk-weaker c.refuse.result _ _
-    (λ a e. e.0 ∙ told-reply _ _ _ _ _ _ g.met.F.Field.is_field.ring tt c.audit.result _ _ e.1 c.in-Err.is c.audit.ensures.refused (c.audit.ensures.caused _ c.in-Err.is))
+    (λ a e. e.0 ∙ told-reply _ _ _ _ _ _ g.met.EF.Field.is_field.ring tt c.audit.result _ _ e.1 c.in-Err.is c.audit.ensures.refused (c.audit.ensures.caused _ c.in-Err.is))
     c.refuse.ensures

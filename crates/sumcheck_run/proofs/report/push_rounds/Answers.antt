@@ -7,12 +7,13 @@ use Rattle.sumcheck_run.proofs.report.push_rounds.Goals as goal
 
 pub loop-i-preserved : goal.loop-i-preserved
 loop-i-preserved g c =
-    let number = g.F.Field.number in
+    let base = g.F.Field.number in
+    let number = g.EF.Field.number in
     let i = c.loop-i.i in
     let m = c.index-messages-i.result in
     let r = c.index-challenges-i.result in
     let start = string_bytes c.args.text.now in
-    let ws = map number c.args.witnesses.now in
+    let ws = map base c.args.witnesses.now in
     let done = round_lines 0 (map (pair_of number) (take i c.args.messages.now)) ws (map number (take i c.args.challenges.now)) in
     let more = round_line i (pair_of number m) (slice_get ws i) (number r) in
     let low : i < length c.args.messages.now = omega (arith, c.loop-i-test.true, c.min-i-end.ensures) in
@@ -28,7 +29,8 @@ loop-i-preserved g c =
 
 pub returns : goal.returns
 returns g c =
-    let number = g.F.Field.number in
+    let base = g.F.Field.number in
+    let number = g.EF.Field.number in
     c.loop-i.invariant
     ∙ ap (λ t. string_bytes c.args.text.now ++ t)
-    (round_lines-all (pair_of number) number 0 c.loop-i.i (map number c.args.witnesses.now) c.args.messages.now c.args.challenges.now (omega (arith, c.loop-i-test.false, c.min-i-end.ensures)))
+    (round_lines-all (pair_of number) number 0 c.loop-i.i (map base c.args.witnesses.now) c.args.messages.now c.args.challenges.now (omega (arith, c.loop-i-test.false, c.min-i-end.ensures)))

@@ -5,5 +5,6 @@ use Rattle.sumcheck_run.proofs.report.push_rounds.Given as goal
 
 abbrev pub invariant-loop-i : goal.invariant-loop-i
 invariant-loop-i g l =
-    let number = g.F.Field.number in
-    string_bytes l.text ≡ string_bytes l.fn.text ++ round_lines 0 (map (pair_of number) (take l.i l.messages)) (map number l.witnesses) (map number (take l.i l.challenges))
+    let base = g.F.Field.number in
+    let number = g.EF.Field.number in
+    string_bytes l.text ≡ string_bytes l.fn.text ++ round_lines 0 (map (pair_of number) (take l.i l.messages)) (map base l.witnesses) (map number (take l.i l.challenges))

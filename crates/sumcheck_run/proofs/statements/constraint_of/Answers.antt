@@ -7,7 +7,7 @@ use Rattle.sumcheck_run.proofs.statements.constraint_of.Goals as goal
 
 pub loop-group-preserved : goal.loop-group-preserved
 loop-group-preserved g c = record {
-  shown = rw c.in_ok-push.ensures.items (flat_map-read (group_statements g.F.Field.number g.F.Field.number) group_claims c.loop-group.made.items c.args.groups.now
+  shown = rw c.in_ok-push.ensures.items (flat_map-read (group_statements (λ x. g.EF.Algebra.embedding (g.F.Field.number x)) g.EF.Field.number) (group_claims g.EF.Algebra.embedding) c.loop-group.made.items c.args.groups.now
       c.in_ok-statements_of.field-0 c.group-item.result c.loop-group.group-index (omega arith) c.group-item.is c.loop-group.invariant.shown c.in_ok-statements_of.ensures.statements);
   arity = rw c.in_ok-push.ensures.items (All-push (λ s. group_arity s ≡ c.args.variables) c.loop-group.made.items c.in_ok-statements_of.field-0
       c.loop-group.invariant.arity c.in_ok-statements_of.ensures.arity);

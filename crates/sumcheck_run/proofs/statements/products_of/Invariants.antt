@@ -5,7 +5,7 @@ use Rattle.sumcheck_run.proofs.statements.products_of.Given as goal
 
 abbrev pub invariant-loop-claim : goal.invariant-loop-claim
 invariant-loop-claim g l = record {
-  shown : select_statements g.F.Field.number g.F.Field.number l.statement ≡ map product_statement (take l.claim-index l.claims);
+  shown : select_statements (λ x. g.EF.Algebra.embedding (g.F.Field.number x)) g.EF.Field.number l.statement ≡ map (product_statement g.EF.Algebra.embedding) (take l.claim-index l.claims);
   arity : select_arity l.statement ≡ l.variables;
   kind : scalars_of l.statement ≡ [];
 }

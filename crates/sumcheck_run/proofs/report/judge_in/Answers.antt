@@ -1,0 +1,20 @@
+use Rattle.std.proofs.Common.{sym, ◌∙◌, ap}
+use Rattle.std.proofs.lemmas.Result.{IfOk-weaker}
+use Rattle.sumcheck_run.specs.Report.{Fields, rules_by}
+use Rattle.sumcheck_run.proofs.ReportLaws.{judged}
+use Rattle.sumcheck_run.proofs.report.judge_in.Goals as goal
+
+pub returns-in-Scripted : goal.returns-in-Scripted
+returns-in-Scripted g c =
+    let k : Fields = record { ops = g.EF.Field.ops; base_size = g.F.Field.ops.size; extension = g.EF.ExtensionField.extension; embedding = g.EF.Algebra.embedding } in
+    IfOk-weaker c.answer_of.result _ _
+    (λ a e. e ∙ judged k c.args.job _ _ _ (c.in_ok-challenger-in-Scripted.ensures.rules ∙ ap (rules_by g.F.Field.ops.size) (sym c.in-Scripted.is ∙ c.challenger_in.ensures))
+    c.in_ok-challenger-in-Scripted.ensures.history c.in_ok-asked.ensures)
+    c.answer_of.ensures
+
+pub returns : goal.returns
+returns g c =
+    let k : Fields = record { ops = g.EF.Field.ops; base_size = g.F.Field.ops.size; extension = g.EF.ExtensionField.extension; embedding = g.EF.Algebra.embedding } in
+    IfOk-weaker c.answer_of-in-Hash.result _ _
+    (λ a e. e ∙ judged k c.args.job _ _ _ (c.new-challenger.ensures.rules ∙ ap (rules_by g.F.Field.ops.size) (sym c.in-Hash.is ∙ c.challenger_in.ensures)) c.new-challenger.ensures.history c.in_ok-asked.ensures)
+    c.answer_of-in-Hash.ensures
