@@ -1,4 +1,5 @@
 //! Whole runs over memory.
+mod fields;
 mod jobs;
 mod kinds;
 

@@ -90,7 +90,7 @@ pub(super) const ROWS: [(&str, &str, u8, &str); 16] = [
 ];
 
 // What stands in the first job, what in its place is refused, and by what text.
-pub(super) const CHANGES: [(&str, &str, &str); 81] = [
+pub(super) const CHANGES: [(&str, &str, &str); 82] = [
     // a member that is missing
     (r#""field":"65537","#, "", "bad-job field"),
     (
@@ -121,8 +121,9 @@ pub(super) const CHANGES: [(&str, &str, &str); 81] = [
     (r#","mode":{"build":"plain"}"#, "", "bad-job mode"),
     (r#""build":"plain""#, "", "bad-job mode"),
     // a member of another form
-    (r#""65537""#, r#""16""#, "unbuilt field"),
-    (r#""65537""#, r#""257x2""#, "unbuilt field"),
+    (r#""65537""#, r#""16 ""#, "bad-job field"),
+    (r#""65537""#, r#""257x3""#, "bad-job field"),
+    (r#""65537""#, "16", "bad-job field"),
     (r#""65537""#, "65537", "bad-job field"),
     (r#""65537""#, r#""257""#, "bad-job field"),
     (SCRIPT, r#""script""#, "bad-job challenger"),
@@ -194,7 +195,7 @@ pub(super) const CHANGES: [(&str, &str, &str); 81] = [
         r#"{"check":{"rounds":[[2,65535],[0,65537]],"witnesses":[]}}"#,
         "bad-job mode",
     ),
-    (r#""plain""#, r#""represented""#, "unbuilt mode"),
+    (r#""plain""#, r#""Represented""#, "bad-job mode"),
     (r#""plain""#, r#"{"small-value":2}"#, "unbuilt mode"),
     (r#""plain""#, r#""masked""#, "bad-job mode"),
     (r#""plain""#, "null", "bad-job mode"),
@@ -337,7 +338,7 @@ pub(super) const SUFFIX_MODES: [(&str, u8, &str); 9] = [
 ];
 
 // What stands in the first job, and in its place what is read as the same job.
-pub(super) const SAME: [(&str, &str); 9] = [
+pub(super) const SAME: [(&str, &str); 10] = [
     // the last of two members counts
     (
         r#""order":"prefix""#,
@@ -352,6 +353,8 @@ pub(super) const SAME: [(&str, &str); 9] = [
     (r#""build""#, r#""checks":null,"build""#),
     // no test is made of a witness
     (r#""witnesses":[]"#, r#""witnesses":[[1],[]]"#),
+    // integers modulo 65537 represent themselves
+    (r#""plain""#, r#""represented""#),
     (r#"{"field""#, "\r\n\t { \"field\""),
 ];
 
