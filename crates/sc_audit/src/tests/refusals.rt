@@ -8,8 +8,8 @@ use std::alloc::Global;
 
 // Nothing is appended to the history, which has a draw.
 const REFUSED: Case = Case {
-    name: "a strategy on a representation",
-    task: Task::Build(Strategy::Represented),
+    name: "a strategy on small values",
+    task: Task::Build(Strategy::SmallValue { variables: 1 }),
     draws: &[13, 8, 12],
     past: &[Word(3), Word(16), Draw],
     answer: Err(AuditError::Unbuilt(Form::Mode)),
@@ -48,13 +48,8 @@ const FEW_ROUNDS: Case = Case {
     ..REFUSED
 };
 
-static REFUSALS: [Case; 17] = [
+static REFUSALS: [Case; 18] = [
     REFUSED,
-    Case {
-        name: "a strategy on small values",
-        task: Task::Build(Strategy::SmallValue { variables: 1 }),
-        ..REFUSED
-    },
     Case {
         name: "an empty table",
         table: &[],
@@ -98,6 +93,11 @@ static REFUSALS: [Case; 17] = [
     Case {
         name: "false claims at the greatest difficulty",
         pow_bits: 16,
+        ..FALSE
+    },
+    Case {
+        name: "false claims under a representation",
+        task: Task::Build(Strategy::Represented),
         ..FALSE
     },
     Case {
@@ -158,6 +158,14 @@ static REFUSALS: [Case; 17] = [
         answer: Err(AuditError::NoWitness { round: 1 }),
         ..BUILD
     },
+    Case {
+        name: "no witness passes in the second round under a representation",
+        pow_bits: 1,
+        task: Task::Build(Strategy::Represented),
+        good: &[&[5]],
+        answer: Err(AuditError::NoWitness { round: 1 }),
+        ..BUILD
+    },
 ];
 
 #[test]
@@ -201,12 +209,16 @@ static SHAPES: [(&str, &[u64], usize, usize, Option<ShapeFault>); 4] = [
 // What is done at fault, and what is told of it where the shape fits.
 static FAULTS: [(Task, AuditError); 6] = [
     (
-        Task::Build(Strategy::Represented),
+        Task::Build(Strategy::SmallValue { variables: 1 }),
         AuditError::Unbuilt(Form::Mode),
     ),
     (
-        Task::Build(Strategy::SmallValue { variables: 1 }),
-        AuditError::Unbuilt(Form::Mode),
+        Task::Build(Strategy::Represented),
+        AuditError::FalseClaim {
+            statement: 0,
+            claimed: 9,
+            actual: 14,
+        },
     ),
     (
         Task::Build(Strategy::Plain),

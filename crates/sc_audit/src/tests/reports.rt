@@ -101,6 +101,25 @@ const TESTED: Case = Case {
     ..PREFIX
 };
 
+// The same on a representation, which the field is of itself.
+const REPRESENTED: Case = Case {
+    name: "prefix order on a representation",
+    task: Task::Build(Strategy::Represented),
+    ..PREFIX
+};
+
+const REPRESENTED_SUFFIX: Case = Case {
+    name: "suffix order on a representation",
+    task: Task::Build(Strategy::Represented),
+    ..SUFFIX
+};
+
+const REPRESENTED_TESTED: Case = Case {
+    name: "prefix order with tests on a representation",
+    task: Task::Build(Strategy::Represented),
+    ..TESTED
+};
+
 // Rounds that were built, of which one was altered.
 const ALTERED_FIRST: Case = Case {
     name: "another value at 0 in the first round",
@@ -244,7 +263,7 @@ const POINT: Case = Case {
     ..PREFIX
 };
 
-static POINTS: [Case; 7] = [
+static POINTS: [Case; 8] = [
     POINT,
     Case {
         name: "no proof behind a history",
@@ -259,6 +278,11 @@ static POINTS: [Case; 7] = [
     Case {
         name: "a build",
         task: Task::Build(Strategy::Plain),
+        ..POINT
+    },
+    Case {
+        name: "a build on a representation",
+        task: Task::Build(Strategy::Represented),
         ..POINT
     },
     Case {
@@ -368,9 +392,16 @@ const FAILS_FIRST: Case = Case {
 };
 
 // The same behind a history with a draw.
-static BEHIND: [Case; 2] = [
+static BEHIND: [Case; 3] = [
     Case {
         name: "rounds that are built",
+        draws: &[13, 8, 12],
+        past: &[Word(3), Word(16), Draw],
+        ..PREFIX
+    },
+    Case {
+        name: "rounds that are built on a representation",
+        task: Task::Build(Strategy::Represented),
         draws: &[13, 8, 12],
         past: &[Word(3), Word(16), Draw],
         ..PREFIX
@@ -383,17 +414,17 @@ static BEHIND: [Case; 2] = [
     },
 ];
 
-static HONEST: [Case; 2] = [PREFIX, SUFFIX];
+static HONEST: [Case; 4] = [PREFIX, SUFFIX, REPRESENTED, REPRESENTED_SUFFIX];
 
 static LARGE_HONEST: [Case; 2] = [LARGE_PREFIX, LARGE_SUFFIX];
 
-static BUILT: [Case; 3] = [PREFIX, SUFFIX, TESTED];
+static BUILT: [Case; 4] = [PREFIX, SUFFIX, TESTED, REPRESENTED_TESTED];
 
 static ALTERED: [Case; 3] = [ALTERED_FIRST, ALTERED_LAST, ALTERED_TESTED];
 
 static LUCKY: [Case; 4] = [LUCKY_ROUND, UNLUCKY_ROUND, LUCKY_BATCH, UNLUCKY_BATCH];
 
-static WITNESSES: [Case; 4] = [TESTED, TURNED, HANDED_IN, OTHER_WITNESS];
+static WITNESSES: [Case; 5] = [TESTED, REPRESENTED_TESTED, TURNED, HANDED_IN, OTHER_WITNESS];
 
 static FAILS: [Case; 2] = [FAILS_SECOND, FAILS_FIRST];
 

@@ -2,7 +2,7 @@
 ghost use Rattle.std.specs.Prelude.{◌<◌, refl};
 ghost use Rattle.std.proofs.Common.{lit<, lit≤};
 ghost use Rattle.sc_definitions.specs.Residues.{residues};
-ghost use Rattle.sc_field.specs.ResiduesLaws.{eqb_iff};
+ghost use Rattle.sc_field.specs.PrimeLaws.{eqb_iff};
 ghost use Rattle.sc_audit.specs.Seventeen.{seventeen_field, seventeen_two};
 
 use sc_field::Field;
@@ -16,7 +16,7 @@ pub struct F17 {
     ghost below: { value < 17 },
 }
 
-#[tactic(auto, using(crate::specs::Seventeen::seventeen_plus, crate::specs::Seventeen::seventeen_times, crate::specs::Seventeen::seventeen_opposite))]
+#[tactic(auto, using(crate::specs::Seventeen::seventeen_plus, crate::specs::Seventeen::seventeen_times, crate::specs::Seventeen::seventeen_opposite, crate::specs::Seventeen::seventeen_inverse))]
 impl Field for F17 {
     ghost ops = { residues 17 };
 
@@ -85,6 +85,15 @@ impl Field for F17 {
     fn neg(self) -> F17 {
         F17 {
             value: (MODULUS - self.value) % MODULUS,
+        }
+    }
+
+    // The power 16 of each integer that is not 0 is 1.
+    fn inverse(self) -> Option<F17> {
+        if self.value == 0 {
+            None
+        } else {
+            Some(self.exp_u64(15))
         }
     }
 }
