@@ -4,12 +4,14 @@ ghost use Rattle.sc_statements.specs.EqStatements.{eq_arity};
 
 mod refusals;
 mod reports;
+mod representations;
 mod seventeen;
+mod traced;
 
 use crate::{AuditError, Job, Mode, Report, Strategy, Verdict, audit};
 use sc_challenger::{Challenger, Event, ScriptedChallenger};
 use sc_definitions::Event::{Draw, Test, Word};
-use sc_field::{Field, NoMemory};
+use sc_field::{ExtensionField, Field, IntoTranscriptField, NoMemory};
 use sc_rounds::SumcheckData;
 use sc_statements::{Constraint, EqStatement, Statements};
 use sc_table::{Point, RoundMessage, VariableOrder};
@@ -65,7 +67,7 @@ struct Case {
     events: &'static [Event],
 }
 
-// ---- The bytes of seeds, over a field as its own extension and in the basis of values; each digit is a word.
+// ---- The bytes of seeds, over a field as its own extension unless another degree is said, and in the basis of values; each digit is a word.
 
 // version 1, and the protocol's name behind its length
 const HEAD: &str = "01000000000000001570332d73756d636865636b2d717561647261746963";
@@ -79,6 +81,13 @@ const WITNESS: &str = "0300000000000000010100000000000000010000000000000009726f7
 // a challenge of one part, one value
 const CHALLENGE: &str =
     "020000000000000001000000000000000001000000000000000f726f756e645f6368616c6c656e6765";
+
+// the message and the challenge of an extension of degree 2
+const VALUES_OF_TWO: &str =
+    "010000000000000002010000000000000002000000000000000a726f756e645f706f6c79";
+
+const CHALLENGE_OF_TWO: &str =
+    "020000000000000002000000000000000001000000000000000f726f756e645f6368616c6c656e6765";
 
 // a label of one byte, the basis
 const BASIS: &str = "000000000000000100";
@@ -169,11 +178,11 @@ fn statements<F: Field>(
 }
 
 // The proof of these rounds and witnesses.
-fn proof<F: Field>(
+fn proof<F: Field, EF: ExtensionField<F>>(
     alloc: Global,
     rounds: &[Pair],
     witnesses: &[u64],
-) -> Result<SumcheckData<F, F>, NoMemory> {
+) -> Result<SumcheckData<F, EF>, NoMemory> {
     let messages = rounds
         .iter()
         .map(|pair| RoundMessage {
@@ -188,7 +197,10 @@ fn proof<F: Field>(
 }
 
 // A case's mode.
-fn mode<F: Field>(alloc: Global, task: Task) -> Result<Mode<F, F>, NoMemory> {
+fn mode<F: Field, EF: ExtensionField<F>>(
+    alloc: Global,
+    task: Task,
+) -> Result<Mode<F, EF>, NoMemory> {
     match task {
         Task::Build(strategy) => Ok(Mode::Build(strategy)),
         Task::CheckNone => Ok(Mode::Check(None)),
@@ -206,7 +218,10 @@ fn table<F: Field>(alloc: Global, case: &Case) -> Result<Vec<F>, NoMemory> {
 }
 
 // A case's statements.
-fn constraint<F: Field>(alloc: Global, case: &Case) -> Result<Constraint<F, F>, NoMemory> {
+fn constraint<F: Field, EF: ExtensionField<F>>(
+    alloc: Global,
+    case: &Case,
+) -> Result<Constraint<F, EF>, NoMemory> {
     let first = statements(alloc, case.variables, case.claims)?;
     let second = statements(alloc, case.variables, case.further)?;
     let groups = vec![in alloc; Statements::Eq(first), Statements::Eq(second)]?;
@@ -214,7 +229,10 @@ fn constraint<F: Field>(alloc: Global, case: &Case) -> Result<Constraint<F, F>, 
 }
 
 // A case's job.
-fn job<F: Field>(alloc: Global, case: &Case) -> Result<Job<F, F>, NoMemory> {
+fn job<F: Field, EF: ExtensionField<F>>(
+    alloc: Global,
+    case: &Case,
+) -> Result<Job<F, EF>, NoMemory> {
     Ok(Job {
         table: table(alloc, case)?,
         constraint: constraint(alloc, case)?,
@@ -272,7 +290,10 @@ fn are_pairs<F: Field>(messages: &[RoundMessage<F>], pairs: &[Pair]) -> bool {
 }
 
 // The first figure of a report that is not as wanted, if there is one.
-fn wrong_figure<F: Field>(report: &Report<F, F>, wanted: &Figures) -> Option<&'static str> {
+fn wrong_figure<F: Field, EF: ExtensionField<F>>(
+    report: &Report<F, EF>,
+    wanted: &Figures,
+) -> Option<&'static str> {
     let parts = [
         ("claim", report.claim.index() == wanted.claim),
         (
@@ -311,8 +332,8 @@ fn is_verdict<F>(verdict: &Verdict<F>, holds: bool) -> bool {
 }
 
 // The first part of an answer that is not as wanted, if there is one.
-fn wrong_part<F: Field>(
-    answer: &Result<Report<F, F>, AuditError>,
+fn wrong_part<F: Field, EF: ExtensionField<F>>(
+    answer: &Result<Report<F, EF>, AuditError>,
     wanted: &Result<Figures, AuditError>,
 ) -> Option<&'static str> {
     match (answer, wanted) {
@@ -330,13 +351,13 @@ fn wrong_part<F: Field>(
 }
 
 // The first part of an audit's answer that is not as a case says, if there is one.
-fn wrong_answer<F: Field>(
+fn wrong_answer<F: Field, EF: ExtensionField<F>, R: IntoTranscriptField<EF>>(
     alloc: Global,
     case: &Case,
-    job: &Job<F, F>,
+    job: &Job<F, EF>,
     challenger: &mut ScriptedChallenger<F>,
 ) -> Option<&'static str> {
-    let answer = audit::<F, F, F, ScriptedChallenger<F>>(alloc, job, challenger);
+    let answer = audit::<F, EF, R, ScriptedChallenger<F>>(alloc, job, challenger);
     wrong_part(&answer, &case.answer)
 }
 
@@ -375,31 +396,43 @@ fn wrong_history(
 }
 
 // The first part of an audit's answer and of the history that it leaves that is not as a case says, if there is one.
-fn wrong_in<F: Field>(
+fn wrong_in<F: Field, EF: ExtensionField<F>, R: IntoTranscriptField<EF>>(
     alloc: Global,
     case: &Case,
-    job: &Job<F, F>,
+    job: &Job<F, EF>,
     challenger: &mut ScriptedChallenger<F>,
 ) -> Result<Option<&'static str>, NoMemory> {
-    match wrong_answer(alloc, case, job, challenger) {
+    match wrong_answer::<F, EF, R>(alloc, case, job, challenger) {
         Some(part) => Ok(Some(part)),
         None => wrong_history(alloc, case, challenger.events()),
     }
 }
 
 // The same of the case's own job and challenger.
-fn wrong_at<F: Field>(alloc: Global, case: &Case) -> Result<Option<&'static str>, NoMemory> {
+fn wrong_at<F: Field, EF: ExtensionField<F>, R: IntoTranscriptField<EF>>(
+    alloc: Global,
+    case: &Case,
+) -> Result<Option<&'static str>, NoMemory> {
     let mut challenger = challenger::<F>(alloc, case)?;
-    let job = job(alloc, case)?;
-    wrong_in(alloc, case, &job, &mut challenger)
+    let job = job::<F, EF>(alloc, case)?;
+    wrong_in::<F, EF, R>(alloc, case, &job, &mut challenger)
 }
 
 // Asserts that each of these cases is answered as it says.
-fn assert_all<F: Field, A: Abort>(rt: &A, alloc: Global, cases: &[Case]) -> Result<(), NoMemory> {
+fn assert_over<F: Field, EF: ExtensionField<F>, R: IntoTranscriptField<EF>, A: Abort>(
+    rt: &A,
+    alloc: Global,
+    cases: &[Case],
+) -> Result<(), NoMemory> {
     for case in cases {
         let name = case.name;
-        let wrong = wrong_at::<F>(alloc, case)?;
+        let wrong = wrong_at::<F, EF, R>(alloc, case)?;
         assert_eq!(rt; wrong, None, "{name}");
     }
     Ok(())
+}
+
+// The same over a field as its own extension and representation.
+fn assert_all<F: Field, A: Abort>(rt: &A, alloc: Global, cases: &[Case]) -> Result<(), NoMemory> {
+    assert_over::<F, F, F, A>(rt, alloc, cases)
 }

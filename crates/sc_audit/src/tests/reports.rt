@@ -437,7 +437,7 @@ fn honest_rounds_are_built_in_either_order(rt: HostRuntime) -> Result<(), NoMemo
 // A case's job with the rounds that it builds as a proof.
 fn checking_job<F: Field>(alloc: Global, case: &Case) -> Result<Job<F, F>, AuditError> {
     let mut challenger = challenger::<F>(alloc, case)?;
-    let mut job = job::<F>(alloc, case)?;
+    let mut job = job::<F, F>(alloc, case)?;
     let report = audit::<F, F, F, ScriptedChallenger<F>>(alloc, &job, &mut challenger)?;
     job.mode = Mode::Check(Some(report.rounds));
     Ok(job)
@@ -447,7 +447,7 @@ fn checking_job<F: Field>(alloc: Global, case: &Case) -> Result<Job<F, F>, Audit
 fn wrong_again<F: Field>(alloc: Global, case: &Case) -> Result<Option<&'static str>, AuditError> {
     let job = checking_job::<F>(alloc, case)?;
     let mut challenger = challenger::<F>(alloc, case)?;
-    Ok(wrong_in(alloc, case, &job, &mut challenger)?)
+    Ok(wrong_in::<F, F, F>(alloc, case, &job, &mut challenger)?)
 }
 
 // Asserts that each of these builds has its report and its history again where its rounds are checked.
