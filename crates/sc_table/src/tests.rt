@@ -52,6 +52,13 @@ fn a_row_keeps_its_items(rt: HostRuntime) -> Result<(), Fail> {
 }
 
 #[test]
+fn a_table_gives_its_values_away(rt: HostRuntime) -> Result<(), Fail> {
+    let evals = four(rt.alloc())?.into_evals();
+    assert!(rt; have_numbers(&evals, &[1, 2, 3, 4]));
+    Ok(())
+}
+
+#[test]
 fn a_point_copied_and_reversed(rt: HostRuntime) -> Result<(), Fail> {
     let z = Point::new(elements(rt.alloc(), &[2, 3])?);
     assert!(rt; have_numbers(z.copy(rt.alloc())?.as_slice(), &[2, 3]));
