@@ -10,3 +10,4 @@ pub mod ConstraintPoints
 pub mod InStep
 pub mod AddedEntries
 pub mod SeedLaws
+pub mod FourRows

@@ -16,6 +16,8 @@ mod tests;
 #[cfg(test)]
 mod tests_constraint;
 #[cfg(test)]
+mod tests_repr;
+#[cfg(test)]
 mod tests_step;
 mod transcript;
 

@@ -32,7 +32,7 @@ pub(crate) fn elements(alloc: Global, numbers: &[u64]) -> Result<Vec<F65537>, No
     Ok(elements)
 }
 
-pub(crate) fn have_numbers(elements: &[F65537], numbers: &[u64]) -> bool {
+pub(crate) fn have_numbers<F: Field>(elements: &[F], numbers: &[u64]) -> bool {
     elements.len() == numbers.len()
         && elements
             .iter()
