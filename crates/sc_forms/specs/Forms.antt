@@ -21,10 +21,6 @@ at_most_form most d = option_and_then (λ n. if nat_le n most then Some n else N
 abbrev pub literal_form : List ℕ → Data → Option ⊤
 literal_form text d = option_and_then (λ s. if bytes_eq s text then Some tt else None) (as_str d)
 
--- a value of one of two forms, and no more is said of it
-abbrev pub either_form : {A B : Type 0} → (Data → Option A) → (Data → Option B) → Data → Option ⊤
-either_form left right d = if is_some (left d) then Some tt else option_map (λ _. tt) (right d)
-
 -- no value
 abbrev pub no_form : Data → Option ⊤
 no_form d = None

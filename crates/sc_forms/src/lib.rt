@@ -5,18 +5,18 @@
 //! [`read_value`] reads bytes as a JSON value.
 #![tactic(auto)]
 
-mod either;
 mod form;
 mod input;
 mod lists;
 mod literal;
+mod no_form;
 mod numbers;
 #[cfg(test)]
 mod tests;
 
-pub use either::{Either, NoForm};
 pub use form::{Form, Misread, is_object, member};
 pub use input::{NoValue, read_value};
 pub use lists::{ListOf, ListOfLength, PairOf};
 pub use literal::Literal;
+pub use no_form::NoForm;
 pub use numbers::{AtMost, Below, Unsigned};

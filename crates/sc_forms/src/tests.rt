@@ -3,8 +3,8 @@ ghost use Rattle.std.specs.Prelude.{codes, option_and_then, option_map};
 ghost use Rattle.sc_forms.specs.Forms.{below_form, list_form, member_form};
 
 use crate::{
-    AtMost, Below, Either, Form, ListOf, ListOfLength, Literal, Misread, NoForm, NoValue, PairOf,
-    Unsigned, is_object, member, read_value,
+    AtMost, Below, Form, ListOf, ListOfLength, Literal, Misread, NoForm, NoValue, PairOf, Unsigned,
+    is_object, member, read_value,
 };
 use sc_table::Row;
 use serde_json::Value;
@@ -268,18 +268,8 @@ fn a_table_of_a_million_numbers_is_read(rt: HostRuntime) -> Result<(), Fail> {
 }
 
 #[test]
-fn one_of_two_forms_or_none_at_all(rt: HostRuntime) -> Result<(), Fail> {
-    let kinds = Either {
-        left: Literal { text: "next" },
-        right: Below { bound: 10 },
-    };
-    for (text, want) in [
-        ("\"next\"", Ok(())),
-        ("9", Ok(())),
-        ("10", Err(Misread::NotOfForm)),
-        ("\"eq\"", Err(Misread::NotOfForm)),
-    ] {
-        assert_eq!(rt; read_text(rt.alloc(), &kinds, text)?, want, "{text}");
+fn no_value_is_of_no_form(rt: HostRuntime) -> Result<(), Fail> {
+    for text in ["\"next\"", "9", "null", "{}"] {
         assert_eq!(rt;
             read_text(rt.alloc(), &NoForm, text)?,
             Err(Misread::NotOfForm),
