@@ -1,5 +1,5 @@
 -- What a round sends and binds, as a ring map takes it to another field.
-use Rattle.std.proofs.Common.{◌≡◌, ℕ, zero, suc, ◌+◌, ◌*◌, ◌^◌, ◌<◌, List, [], ◌∷◌, map, slice_index, refl, ap, sym, ◌∙◌, arith}
+use Rattle.std.proofs.Common.{◌≡◌, ℕ, zero, suc, ◌+◌, ◌*◌, ◌^◌, ◌<◌, List, [], ◌∷◌, map, slice_index, refl, ap, sym, ◌∙◌}
 use Rattle.std.proofs.Math.Path.{fun_ext}
 use Rattle.sc_definitions.specs.Ring.{Ops, IsRing, IsRingMap, plus, times, minus}
 use Rattle.sc_definitions.specs.Tables.{evaluation, Order, prefix, suffix, entries, sum_below, inner, bound, bound_low, bound_in}

@@ -1,17 +1,16 @@
 -- What a prover over a representation holds.
-use Rattle.std.proofs.Common.{◌≡◌, ◌↔◌, ℕ, zero, suc, ◌+◌, ◌*◌, ◌^◌, ◌<◌, List, length, map, IsTrue, nat_eq, Result, IfOk, refl, ap, sym, ◌∙◌, subst, arith}
+use Rattle.std.proofs.Common.{◌≡◌, ◌↔◌, ℕ, zero, suc, ◌*◌, ◌^◌, ◌<◌, List, length, map, IsTrue, nat_eq, refl, ap, sym, ◌∙◌, subst, arith}
 use Rattle.std.proofs.Math.Nat.{pow-suc}
 use Rattle.std.proofs.lemmas.Bool.{eqb-true, eq-eqb}
 use Rattle.std.proofs.lemmas.List.{length-map}
-use Rattle.std.proofs.lemmas.Result.{IfOk-weaker}
 use Rattle.sc_definitions.specs.Ring.{Ops, IsRing, IsRepresentation, times}
-use Rattle.sc_definitions.specs.Tables.{entries, inner, sum_below}
+use Rattle.sc_definitions.specs.Tables.{inner, sum_below}
 use Rattle.sc_definitions.proofs.Sums.{element-sum}
 use Rattle.sc_definitions.proofs.RingLaws.{element_below}
 use Rattle.sc_table.specs.Polys.{variables_of, table_of}
 use Rattle.sc_table.specs.declared.poly.Poly.{Poly}
 use Rattle.sc_rounds.specs.Represented.{TablesAgree}
-use Rattle.sc_rounds.proofs.MappedRounds.{image, AreBelow, image_inner}
+use Rattle.sc_rounds.proofs.MappedRounds.{image_inner}
 
 -- lengths that are powers of two
 pub pow-same : (a b : ℕ) → 2 ^ a ≡ 2 ^ b → a ≡ b

@@ -1,11 +1,11 @@
-use Rattle.std.proofs.Common.{◌≡◌, ◌++◌, ℕ, length, Err, sym, ◌∙◌, ap, inl, inr, refl}
+use Rattle.std.proofs.Common.{◌≡◌, Err, sym, ◌∙◌, ap, inl, inr}
 use Rattle.std.proofs.lemmas.List.{length-map}
-use Rattle.sc_definitions.specs.Tables.{evaluation, entries}
+use Rattle.sc_definitions.specs.Tables.{evaluation}
 use Rattle.sc_definitions.specs.Events.{words}
 use Rattle.sc_definitions.specs.Seeds.{quadratic_seed}
 use Rattle.sc_definitions.specs.Rounds.{next_claim}
 use Rattle.sc_table.specs.Strategy.{order_of}
-use Rattle.sc_statements.specs.Constraints.{constraint_arity, constraint_challenge, constraint_power, constraint_statements}
+use Rattle.sc_statements.specs.Constraints.{constraint_arity}
 use Rattle.sc_rounds.specs.declared.error.SumcheckError.TheVariants.{NoMemory}
 use Rattle.sc_rounds.specs.Data.{witness_count}
 use Rattle.sc_rounds.proofs.InStep.{invalid_is}

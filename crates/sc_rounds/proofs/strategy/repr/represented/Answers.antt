@@ -1,4 +1,4 @@
-use Rattle.std.proofs.Common.{◌∙◌, ap, sym}
+use Rattle.std.proofs.Common.{◌∙◌, sym}
 use Rattle.sc_rounds.proofs.MappedRounds.{same_images, there_and_back}
 use Rattle.sc_rounds.proofs.RepresentedLaws.{pow-same, same_length}
 use Rattle.sc_rounds.proofs.strategy.repr.represented.Goals as goal

@@ -1,4 +1,4 @@
-use Rattle.std.proofs.Common.{◌≡◌, ℕ, ap, ◌∙◌, ◌++◌, inl, inr, ⊎_elim, refl, map}
+use Rattle.std.proofs.Common.{ℕ, ap, ◌++◌, inl, inr, ⊎_elim, refl, map}
 use Rattle.sc_rounds.specs.Shapes.{seed_of}
 use Rattle.sc_definitions.specs.Events.{words}
 use Rattle.sc_rounds.specs.Data.{messages_in, witnesses_in}
