@@ -7,3 +7,4 @@ pub mod BuiltReports
 pub mod CountLaws
 pub mod CheckedReports
 pub mod CauseLaws
+pub mod AgreeingBuilds

@@ -3,4 +3,5 @@ pub mod Refusals
 pub mod Figures
 pub mod Audits
 pub mod Built
+pub mod Laws
 pub mod Seventeen

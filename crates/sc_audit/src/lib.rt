@@ -9,6 +9,7 @@ mod checking;
 mod common;
 mod error;
 mod job;
+mod laws;
 mod report;
 mod shape;
 mod strategies;
@@ -16,6 +17,7 @@ mod strategies;
 pub use audits::audit;
 pub use error::{AuditError, FitFault, Form, ShapeFault};
 pub use job::{Job, Mode, Strategy};
+pub use laws::build_laws;
 pub use report::{Report, Verdict};
 pub use sc_svo::{Grid, Grids};
 

@@ -2,7 +2,7 @@
 use super::{
     BASIS, CHALLENGE_OF_TWO, Case, Figures, HEAD, PREFIX, Task, VALUES_OF_TWO, assert_over,
 };
-use crate::{AuditError, Strategy};
+use crate::{AuditError, Strategy, build_laws};
 use sc_definitions::Event::{Draw, Word};
 use sc_field::{F257, F257x2, NoMemory, Poly16, Tower16};
 use sc_table::VariableOrder;
@@ -193,4 +193,10 @@ static PAIR_BUILDS: [Case; 6] = [
 #[test]
 fn an_extension_may_represent_itself(rt: HostRuntime) -> Result<(), NoMemory> {
     assert_over::<F257, F257x2, F257x2, HostRuntime>(&rt, rt.alloc(), &PAIR_BUILDS)
+}
+
+#[test]
+fn builds_agree_by_law(_rt: HostRuntime) -> Result<(), NoMemory> {
+    build_laws();
+    Ok(())
 }
