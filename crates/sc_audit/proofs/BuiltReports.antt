@@ -16,12 +16,12 @@ use Rattle.sc_definitions.specs.Messages.{message_of}
 use Rattle.sc_definitions.proofs.RoundLaws.{honest_pair-message}
 use Rattle.sc_definitions.proofs.PlayedLaws.{value-played, message-same}
 use Rattle.sc_definitions.proofs.BuildLaws.{first_false_claim-all, built-residual}
-use Rattle.sc_rounds.specs.Data.{witnesses_of, witness_count}
+use Rattle.sc_transcript.specs.Data.{witnesses_of, witness_count}
 use Rattle.sc_rounds.specs.Batches.{PlaysBatch, FailsBatch}
 use Rattle.sc_rounds.specs.Products.{EndsRound}
-use Rattle.sc_rounds.specs.declared.error.SumcheckError.{SumcheckError}
-use Rattle.sc_rounds.specs.declared.error.SumcheckError.TheVariants.{RoundCountMismatch, MissingSumcheckData, InvalidPowWitness, MissingPowWitness, PowWitnessCountMismatch, WireSizeMismatch, EvenCharacteristic, MaskTooShort, NoRounds, OpeningShapeMismatch, NoWitness, NoMemory}
-use Rattle.sc_rounds.specs.Invalid.{FindsNone as IsUnfound}
+use Rattle.sc_transcript.specs.declared.error.SumcheckError.{SumcheckError}
+use Rattle.sc_transcript.specs.declared.error.SumcheckError.TheVariants.{RoundCountMismatch, MissingSumcheckData, InvalidPowWitness, MissingPowWitness, PowWitnessCountMismatch, WireSizeMismatch, EvenCharacteristic, MaskTooShort, NoRounds, OpeningShapeMismatch, NoWitness, NoMemory}
+use Rattle.sc_transcript.specs.Invalid.{FindsNone as IsUnfound}
 use Rattle.sc_definitions.proofs.BuiltLaws.{length-messages}
 use Rattle.sc_rounds.proofs.InStep.{given_played, count_witnesses, none_failing}
 use Rattle.sc_audit.specs.declared.job.Strategy.{Strategy}

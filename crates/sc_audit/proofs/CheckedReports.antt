@@ -13,7 +13,7 @@ use Rattle.sc_definitions.specs.Replays.{Replays, ReplaysSome, given_rounds}
 use Rattle.sc_definitions.specs.Problem.{claim_of, residual_of}
 use Rattle.sc_definitions.proofs.BuiltLaws.{length-challenges}
 use Rattle.sc_definitions.proofs.ReplayLaws.{length-given_rounds, messages-given_rounds}
-use Rattle.sc_rounds.specs.Data.{witness_count, witnesses_of}
+use Rattle.sc_transcript.specs.Data.{witness_count, witnesses_of}
 use Rattle.sc_audit.specs.Cases.{Task, check}
 use Rattle.sc_audit.specs.Figures.{Figures, figures_of}
 use Rattle.sc_audit.specs.Audits.{begun, IsAudited, IsBrokenOff}

@@ -1,4 +1,3 @@
-pub mod Lengths
 pub mod ShapeLaws
 pub mod SameTables
 pub mod FigureLaws

@@ -8,9 +8,9 @@ use Rattle.sc_definitions.specs.Transcript.{Round, sent, messages_of, rounds_eve
 use Rattle.sc_definitions.specs.Replays.{AllPass, given_rounds, IsInvalidAt}
 use Rattle.sc_definitions.specs.Seeds.{quadratic_seed}
 use Rattle.sc_definitions.specs.Problem.{claim_of, honest_of}
-use Rattle.sc_rounds.specs.Data.{witnesses_of}
-use Rattle.sc_rounds.specs.declared.error.SumcheckError.{SumcheckError}
-use Rattle.sc_rounds.specs.declared.error.SumcheckError.TheVariants as replay
+use Rattle.sc_transcript.specs.Data.{witnesses_of}
+use Rattle.sc_transcript.specs.declared.error.SumcheckError.{SumcheckError}
+use Rattle.sc_transcript.specs.declared.error.SumcheckError.TheVariants as replay
 use Rattle.sc_audit.specs.declared.error.AuditError.{AuditError}
 use Rattle.sc_audit.specs.declared.error.AuditError.TheVariants.{Unbuilt, JobShape, StrategyUnfit, FalseClaim, MissingSumcheckData, RoundCountMismatch, PowWitnessCountMismatch, InvalidPowWitness, NoWitness, NoMemory}
 use Rattle.sc_audit.specs.declared.error.Form.TheVariants.{Mode, Verdict}

@@ -5,7 +5,7 @@ use Rattle.sc_definitions.specs.Ring.{Ops}
 use Rattle.sc_definitions.specs.Events.{Rules, Extension}
 use Rattle.sc_definitions.specs.Transcript.{Round, messages_of, challenges, IsBuilt}
 use Rattle.sc_definitions.specs.Problem.{claim_of, honest_of, eval_of, weight_value_of}
-use Rattle.sc_rounds.specs.Data.{messages_in, witnesses_in, witnesses_of}
+use Rattle.sc_transcript.specs.Data.{messages_in, witnesses_in, witnesses_of}
 use Rattle.sc_audit.specs.declared.strategies.Built.{Built}
 use Rattle.sc_audit.specs.Cases.{Case}
 use Rattle.sc_audit.specs.Audits.{begun}

@@ -5,8 +5,8 @@ use Rattle.sc_definitions.specs.Tables.{evaluation, entries}
 use Rattle.sc_definitions.specs.Problem.{Problem}
 use Rattle.sc_table.specs.Strategy.{order_of}
 use Rattle.sc_statements.specs.Constraints.{constraint_arity, constraint_challenge, constraint_power, constraint_statements}
-use Rattle.sc_rounds.specs.declared.data.SumcheckData.{SumcheckData}
-use Rattle.sc_rounds.specs.Data.{messages_in, witnesses_in}
+use Rattle.sc_transcript.specs.declared.data.SumcheckData.{SumcheckData}
+use Rattle.sc_transcript.specs.Data.{messages_in, witnesses_in}
 use Rattle.sc_audit.specs.declared.job.Strategy.{Strategy}
 use Rattle.sc_audit.specs.declared.job.Mode.{Mode}
 use Rattle.sc_audit.specs.declared.job.Mode.TheVariants.{Build, Check}

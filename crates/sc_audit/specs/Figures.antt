@@ -4,7 +4,7 @@ use Rattle.sc_definitions.specs.declared.false_claim.FalseClaim.{FalseClaim}
 use Rattle.sc_definitions.specs.Ring.{Ops, times}
 use Rattle.sc_definitions.specs.Statements.{first_false_claim}
 use Rattle.sc_definitions.specs.Problem.{Problem, claim_of, residual_of, eval_of, weight_value_of}
-use Rattle.sc_rounds.specs.Data.{messages_in, witnesses_in}
+use Rattle.sc_transcript.specs.Data.{messages_in, witnesses_in}
 use Rattle.sc_audit.specs.declared.report.Report.{Report}
 use Rattle.sc_audit.specs.declared.report.Verdict.{Verdict}
 use Rattle.sc_audit.specs.declared.report.Verdict.TheVariants.{Holds, Refuted, LuckyBatch, LuckyRound}

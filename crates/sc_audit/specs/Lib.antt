@@ -4,4 +4,3 @@ pub mod Figures
 pub mod Audits
 pub mod Built
 pub mod Laws
-pub mod Seventeen

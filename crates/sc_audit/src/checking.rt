@@ -6,7 +6,7 @@ ghost use Rattle.sc_definitions.specs.Problem.{claim_of, residual_of};
 ghost use Rattle.sc_table.specs.Polys.{variables_of, table_of};
 ghost use Rattle.sc_table.specs.Strategy.{order_of};
 ghost use Rattle.sc_statements.specs.Constraints.{constraint_arity};
-ghost use Rattle.sc_rounds.specs.Data.{messages_in, witnesses_in};
+ghost use Rattle.sc_transcript.specs.Data.{messages_in, witnesses_in};
 ghost use Rattle.sc_audit.specs.Cases.{case_in, given_in, problem_in, check};
 ghost use Rattle.sc_audit.specs.Refusals.{task_refusal, count_refusal};
 ghost use Rattle.sc_audit.specs.Figures.{figures_in, figures_of, finding_by, finding_in, false_claim_of, lucky};

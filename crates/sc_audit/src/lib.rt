@@ -20,6 +20,3 @@ pub use job::{Job, Mode, Strategy};
 pub use laws::build_laws;
 pub use report::{Report, Verdict};
 pub use sc_svo::{Grid, Grids};
-
-#[cfg(test)]
-mod tests;

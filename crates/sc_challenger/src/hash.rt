@@ -25,7 +25,7 @@ const MAX_BITS: usize = 16;
 pub struct HashChallenger<F: Field> {
     events: Vec<Event>,
     // the state of the events, so that no history is hashed twice
-    pub(crate) state: [u8; 32],
+    state: [u8; 32],
     field: PhantomData<F>,
     ghost state_is: { state ≡ state_of events.items },
 }
@@ -48,6 +48,13 @@ impl<F: Field> HashChallenger<F> {
         ensures { result.now ≡ ⟦<HashChallenger<F> as Challenger<F>>⟧.history self.now }
     {
         self.events.as_slice()
+    }
+
+    /// The state of the history, from which its next draw or test follows.
+    pub fn state(&self) -> [u8; 32]
+        ensures { result ≡ state_of (⟦<HashChallenger<F> as Challenger<F>>⟧.history self.now) }
+    {
+        self.state
     }
 
     // Appends an event.

@@ -8,10 +8,6 @@ mod hash;
 mod interaction;
 mod scripted;
 mod separator;
-#[cfg(test)]
-mod tests;
-#[cfg(test)]
-mod tests_hash;
 
 pub use challenger::Challenger;
 pub use extension::{observe_ext, sample_ext};

@@ -20,3 +20,4 @@ pub mod WorkedTables
 pub mod WorkedRounds
 pub mod WorkedSeeds
 pub mod ReplayLaws
+pub mod Lengths

@@ -8,7 +8,7 @@ use Rattle.sc_definitions.specs.declared.events.Event.{Event}
 use Rattle.sc_definitions.specs.Rounds.{claim_along}
 use Rattle.sc_definitions.specs.Events.{Rules, Extension, words}
 use Rattle.sc_definitions.specs.Transcript.{Round, round_of, messages_of, sent, before_draw, round_events, rounds_events, challenge, challenges}
-use Rattle.sc_definitions.specs.Replays.{round_passes, AllPass, given_rounds, IsBegun, Replays, ReplaysSome, IsInvalidAt}
+use Rattle.sc_definitions.specs.Replays.{round_passes, AllPass, given_rounds, IsBegun, Replays, IsInvalidAt}
 use Rattle.sc_definitions.proofs.BuiltLaws.{challenges-append, length-challenges, length-messages, claim_along-append}
 
 pub AllPass-append : (R : Rules) (E : Extension) (bits : ℕ) (h : List Event) (rs : List Round) (r : Round) →
@@ -60,11 +60,6 @@ Replays-more next R R₁ E bits bits₁ h₀ c₀ rs i r h h₁ out out₁ c c�
       passes = AllPass_take R E bits h₀ rs i r lt p.passes (rw (is, ← p.history, ← er, ← eb) pass);
     }
 
--- the same, where the loop began at another name of the same state
-pub Replays-at : (next : ℕ → List ℕ → ℕ → ℕ) (R R' : Rules) (E : Extension) (bits : ℕ) (h₀ h₀' : List Event) (c₀ : ℕ) (rs rs' : List Round) (h h' : List Event) (out : List ℕ) (c : ℕ) →
-    R ≡ R' → h₀ ≡ h₀' → rs ≡ rs' → h' ≡ h → Replays next R E bits h₀ c₀ rs h out c → Replays next R' E bits h₀' c₀ rs' h' out c
-Replays-at next R R' E bits h₀ h₀' c₀ rs rs' h h' out c er eb es e p = rw (← er, ← eb, ← es, e) p
-
 pub take_whole : (rs : List Round) (i : ℕ) → i ≡ length rs → take i rs ≡ rs
 take_whole rs i e = rw e (take-length rs)
 
@@ -81,10 +76,6 @@ Invalid-from next R R₀ R₁ E bits bits₁ h₀ h₀' c₀ rs i j r h h₁ h�
   fails = rw (← e0, ← e1, ← eb) f;
   history = eh2 ∙ eh1 ∙ rw eb;
 }
-
-pub ReplaysSome-from : (next : ℕ → List ℕ → ℕ → ℕ) (R R₀ : Rules) (E : Extension) (bits : ℕ) (h₀ h₀' : List Event) (c₀ : ℕ) (rs : List Round) (j : ℕ) (h h₂ : List Event) (out : List ℕ) (c : ℕ) →
-    R₀ ≡ R → h₀' ≡ h₀ → Replays next R₀ E bits h₀' c₀ (take j rs) h out c → h₂ ≡ h → ReplaysSome next R E bits h₀ c₀ rs h₂ c
-ReplaysSome-from next R R₀ E bits h₀ h₀' c₀ rs j h h₂ out c e0 eh p e2 = record { count = j; out = out; replays = rw (← e0, ← eh, e2) p }
 
 -- ---- rounds that are handed in
 

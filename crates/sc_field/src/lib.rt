@@ -17,8 +17,6 @@ mod poly16;
 mod powers;
 mod prime;
 mod representation;
-#[cfg(test)]
-mod tests;
 mod tower16;
 
 pub use algebra::{Algebra, ExtensionField};
@@ -27,7 +25,7 @@ pub use f257x2::F257x2;
 pub use f65537::F65537;
 pub use field::Field;
 pub use laws::{field_laws, power_laws, sum_laws};
-pub use memory::NoMemory;
+pub use memory::{NoMemory, with_room};
 pub use poly16::Poly16;
 pub use powers::Powers;
 pub use representation::{FromTable, IntoTranscriptField};

@@ -1,7 +1,7 @@
 //! Want of memory.
-ghost use Rattle.std.specs.Prelude.{◌≡◌};
+ghost use Rattle.std.specs.Prelude.{◌≡◌, ◌≤◌, [], IfOk, vec_capacity};
 
-use std::alloc::{AllocError, AllocFailed};
+use std::alloc::{AllocError, AllocFailed, Global};
 
 /// A call wanted more memory than there was.
 #[derive(Clone, Copy, Debug, PartialEq, Eq)]
@@ -25,4 +25,12 @@ impl<T: Drop> From<AllocFailed<T>> for NoMemory {
     fn from(_error: AllocFailed<T>) -> NoMemory {
         NoMemory
     }
+}
+
+/// An empty list with room for so many items, each of which is then pushed without want of memory.
+pub fn with_room<T>(alloc: Global, items: usize) -> Result<Vec<T>, NoMemory>
+    ensures empty { IfOk result (λ v. v.items ≡ []) }
+    ensures room { IfOk result (λ v. items ≤ vec_capacity v) }
+{
+    Ok(Vec::with_capacity(alloc, items)?)
 }

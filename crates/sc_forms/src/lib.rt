@@ -11,8 +11,6 @@ mod lists;
 mod literal;
 mod no_form;
 mod numbers;
-#[cfg(test)]
-mod tests;
 
 pub use form::{Form, Misread, is_object, member};
 pub use input::{NoValue, read_value};

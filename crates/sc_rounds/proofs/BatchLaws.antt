@@ -10,9 +10,9 @@ use Rattle.sc_definitions.specs.Transcript.{Round, round_of, messages_of}
 use Rattle.sc_definitions.specs.Played.{IsPlayed}
 use Rattle.sc_definitions.proofs.BuiltLaws.{messages-append}
 use Rattle.sc_definitions.proofs.PlayedLaws.{IsPlayed-none, IsPlayed-more}
-use Rattle.sc_rounds.specs.declared.error.SumcheckError.{SumcheckError}
-use Rattle.sc_rounds.specs.declared.error.SumcheckError.TheVariants.{NoMemory, NoWitness}
-use Rattle.sc_rounds.specs.Data.{witnesses_of}
+use Rattle.sc_transcript.specs.declared.error.SumcheckError.{SumcheckError}
+use Rattle.sc_transcript.specs.declared.error.SumcheckError.TheVariants.{NoMemory, NoWitness}
+use Rattle.sc_transcript.specs.Data.{witnesses_of}
 use Rattle.sc_rounds.specs.Products.{PlaysRound, EndsRound}
 use Rattle.sc_rounds.specs.Batches.{PlaysBatch, StopsBatch, FailsBatch}
 

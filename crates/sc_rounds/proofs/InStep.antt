@@ -10,10 +10,10 @@ use Rattle.sc_definitions.specs.Events.{Rules, Extension}
 use Rattle.sc_definitions.specs.Transcript.{Round, round_of, messages_of, round_events, rounds_events, challenge, HasFirstWitness, IsBuilt}
 use Rattle.sc_definitions.specs.Replays.{round_passes, AllPass, given_rounds, Replays, IsInvalidAt}
 use Rattle.sc_definitions.proofs.BuiltLaws.{length-messages}
-use Rattle.sc_rounds.specs.declared.error.SumcheckError.{SumcheckError}
-use Rattle.sc_rounds.specs.declared.error.SumcheckError.TheVariants.{RoundCountMismatch, MissingSumcheckData, InvalidPowWitness, MissingPowWitness, PowWitnessCountMismatch, WireSizeMismatch, EvenCharacteristic, MaskTooShort, NoRounds, OpeningShapeMismatch, NoWitness, NoMemory}
-use Rattle.sc_rounds.specs.Invalid.{IsInvalid, FindsNone}
-use Rattle.sc_rounds.specs.Data.{witness_count, witnesses_of}
+use Rattle.sc_transcript.specs.declared.error.SumcheckError.{SumcheckError}
+use Rattle.sc_transcript.specs.declared.error.SumcheckError.TheVariants.{RoundCountMismatch, MissingSumcheckData, InvalidPowWitness, MissingPowWitness, PowWitnessCountMismatch, WireSizeMismatch, EvenCharacteristic, MaskTooShort, NoRounds, OpeningShapeMismatch, NoWitness, NoMemory}
+use Rattle.sc_transcript.specs.Invalid.{IsInvalid, FindsNone}
+use Rattle.sc_transcript.specs.Data.{witness_count, witnesses_of}
 use Rattle.sc_rounds.specs.Batches.{PlaysBatch}
 
 -- ---- the rounds of what was appended

@@ -1,6 +1,3 @@
-pub mod StepLaws
-pub mod RoundWords
-pub mod WitnessReads
 pub mod PairRounds
 pub mod MappedRounds
 pub mod RepresentedLaws
@@ -9,5 +6,3 @@ pub mod TakenLaws
 pub mod ConstraintPoints
 pub mod InStep
 pub mod AddedEntries
-pub mod SeedLaws
-pub mod FourRows

@@ -10,7 +10,7 @@ use Rattle.sc_definitions.specs.Events.{Rules, Extension, NonePasses}
 use Rattle.sc_definitions.specs.Transcript.{sent}
 use Rattle.sc_definitions.proofs.Sums.{sum-same}
 use Rattle.sc_definitions.proofs.MessageLaws.{inner-bound_in}
-use Rattle.sc_rounds.specs.Data.{IsAppended}
+use Rattle.sc_transcript.specs.Data.{IsAppended}
 use Rattle.sc_rounds.specs.Products.{PlaysRound, EndsRound}
 
 -- a power of two with a variable left is even

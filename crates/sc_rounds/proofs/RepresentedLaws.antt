@@ -1,6 +1,5 @@
 -- What a prover over a representation holds.
 use Rattle.std.proofs.Common.{◌≡◌, ◌↔◌, ℕ, zero, suc, ◌*◌, ◌^◌, ◌<◌, List, length, map, IsTrue, nat_eq, refl, ap, sym, ◌∙◌, subst, arith}
-use Rattle.std.proofs.Math.Nat.{pow-suc}
 use Rattle.std.proofs.lemmas.Bool.{eqb-true, eq-eqb}
 use Rattle.std.proofs.lemmas.List.{length-map}
 use Rattle.sc_definitions.specs.Ring.{Ops, IsRing, IsRepresentation, times}
@@ -11,13 +10,6 @@ use Rattle.sc_table.specs.Polys.{variables_of, table_of}
 use Rattle.sc_table.specs.declared.poly.Poly.{Poly}
 use Rattle.sc_rounds.specs.Represented.{TablesAgree}
 use Rattle.sc_rounds.proofs.MappedRounds.{image_inner}
-
--- lengths that are powers of two
-pub pow-same : (a b : ℕ) → 2 ^ a ≡ 2 ^ b → a ≡ b
-pow-same zero zero e = refl
-pow-same zero (suc b) e = let twice : 2 ^ suc b ≡ 2 ^ b * 2 = pow-suc 2 b in let one : 2 ^ 0 ≡ 1 = refl in absurd (omega arith)
-pow-same (suc a) zero e = let twice : 2 ^ suc a ≡ 2 ^ a * 2 = pow-suc 2 a in let one : 2 ^ 0 ≡ 1 = refl in absurd (omega arith)
-pow-same (suc a) (suc b) e = let left : 2 ^ suc a ≡ 2 ^ a * 2 = pow-suc 2 a in let right : 2 ^ suc b ≡ 2 ^ b * 2 = pow-suc 2 b in ap suc (pow-same a b (omega arith))
 
 -- lists of the same numbers have one length
 pub same_length : {X Y : Type 0} (f : X → ℕ) (g : Y → ℕ) (xs : List X) (ys : List Y) → map f xs ≡ map g ys → length xs ≡ length ys

@@ -9,7 +9,7 @@ use Rattle.sc_definitions.specs.Transcript.{Round, messages_of}
 use Rattle.sc_definitions.specs.Played.{IsPlayed}
 use Rattle.sc_statements.specs.declared.constraint.Constraint.{Constraint}
 use Rattle.sc_statements.specs.Constraints.{constraint_challenge, constraint_power, constraint_statements}
-use Rattle.sc_rounds.specs.Data.{witnesses_of}
+use Rattle.sc_transcript.specs.Data.{witnesses_of}
 use Rattle.sc_rounds.specs.Products.{EndsRound}
 
 -- Rounds on the tables f and w of n variables and a claim, from h on, with `left` variables left: they are built and appended to data, rs are their

@@ -1,15 +1,13 @@
--- Laws of shapes, and of batches and their replays, whatever the challengers: `next_claim` folds a claim, and data is what a batch has appended to
+-- Laws of batches and their replays, whatever the challengers: `next_claim` folds a claim, and data is what a batch has appended to
 -- empty data.
-use Rattle.std.specs.Prelude.{◌≡◌, ℕ, ◌^◌, ◌<◌, ◌≤◌, List, []}
+use Rattle.std.specs.Prelude.{◌≡◌, ℕ, List, []}
 use Rattle.sc_definitions.specs.declared.events.Event.{Event}
 use Rattle.sc_definitions.specs.Ring.{Ops}
 use Rattle.sc_definitions.specs.Tables.{evaluation, Order}
 use Rattle.sc_definitions.specs.Rounds.{next_claim}
 use Rattle.sc_definitions.specs.Events.{Rules, Extension}
 use Rattle.sc_definitions.specs.Replays.{given_rounds, Replays, IsInvalidAt}
-use Rattle.sc_rounds.specs.declared.transcript.SumcheckShape.{SumcheckShape}
 use Rattle.sc_rounds.specs.Batches.{PlaysBatch}
-use Rattle.sc_rounds.specs.Shapes.{seed_of}
 
 -- The data of a batch can be replayed: from the history and the claim with which the batch began, with its challenges, to the history and the claim
 -- that the prover has after it.
@@ -36,10 +34,3 @@ NoneIsInvalid o =
     (rs : List ℕ) (left : ℕ) (f' w' : ℕ → ℕ) (claim' : ℕ) (h' : List Event) (messages : List (List ℕ)) (witnesses : List ℕ) →
     PlaysBatch order o R E bits n f w claim h rs left f' w' claim' h' [] [] messages witnesses →
     (i : ℕ) (hv : List Event) (c : ℕ) → IsInvalidAt (next_claim evaluation o) R E bits h claim (given_rounds messages witnesses) i hv c → ⊥
-
--- Two shapes of one round or more whose seeds are the same, over extensions of one degree, have as many rounds, the same difficulty and the same basis.
--- A difficulty is below 2^64 here, as every `usize` is.
-abbrev pub SeedsTellShapes : Type 0
-SeedsTellShapes =
-    (degree : ℕ) (s s' : SumcheckShape) → 1 ≤ s.num_rounds → 1 ≤ s'.num_rounds → s.pow_bits < 2 ^ 64 → s'.pow_bits < 2 ^ 64 →
-    seed_of degree s ≡ seed_of degree s' → (s.num_rounds ≡ s'.num_rounds) × (s.pow_bits ≡ s'.pow_bits) × (s.basis ≡ s'.basis)

@@ -1,9 +1,6 @@
-pub mod Shapes
-pub mod Data
 pub mod Products
 pub mod Batches
 pub mod Provers
 pub mod Represented
-pub mod Invalid
 pub mod ConstraintValues
 pub mod Laws

@@ -9,7 +9,7 @@ use Rattle.sc_definitions.specs.Transcript.{round_of, sent}
 use Rattle.sc_definitions.specs.Played.{IsRound}
 use Rattle.sc_table.specs.Polys.{variables_of, table_of}
 use Rattle.sc_table.specs.Strategy.{order_of}
-use Rattle.sc_rounds.specs.Data.{witnesses_of}
+use Rattle.sc_transcript.specs.Data.{witnesses_of}
 use Rattle.sc_rounds.specs.declared.product_polynomial.ProductPolynomial.{ProductPolynomial}
 
 -- how many variables both tables have

@@ -1,29 +1,22 @@
-//! Laws of shapes and of batches, as contracts: a caller calls the function and has them.
+//! Laws of batches, as contracts: a caller calls the function and has them.
 ghost use Rattle.std.specs.Prelude.{◌≡◌, ◌⊎◌, ◌+◌, ◌≤◌, [], ◌++◌, Err, IfOk, OnOk, OnErr, map};
 ghost use Rattle.sc_definitions.specs.Events.{words};
 ghost use Rattle.sc_definitions.specs.Seeds.{quadratic_seed};
 ghost use Rattle.sc_definitions.specs.Tables.{evaluation};
-ghost use Rattle.sc_rounds.specs.Data.{messages_in, witnesses_in};
+ghost use Rattle.sc_transcript.specs.Data.{messages_in, witnesses_in};
 ghost use Rattle.sc_rounds.specs.Products.{variables_in, order_in, evals_in, weights_in};
 ghost use Rattle.sc_rounds.specs.Batches.{PlaysBatch, weights_with, claim_with};
 ghost use Rattle.sc_rounds.specs.Provers.{IsTrueIfSome};
-ghost use Rattle.sc_rounds.specs.Invalid.{FindsNone};
-ghost use Rattle.sc_rounds.specs.Laws.{BatchesReplay, ReplaysAgree, NoneIsInvalid, SeedsTellShapes};
+ghost use Rattle.sc_transcript.specs.Invalid.{FindsNone};
+ghost use Rattle.sc_rounds.specs.Laws.{BatchesReplay, ReplaysAgree, NoneIsInvalid};
 
-use crate::data::SumcheckData;
-use crate::error::SumcheckError;
 use crate::strategy::SumcheckProver;
 use sc_challenger::Challenger;
 use sc_field::{ExtensionField, Field};
 use sc_statements::Constraint;
 use sc_table::{Basis, Point};
+use sc_transcript::{SumcheckData, SumcheckError};
 use std::alloc::Global;
-
-/// The law that a seed tells its shape: two shapes of one round or more whose seeds are the same, over extensions of one degree, have as many rounds,
-/// the same difficulty and the same basis. It holds for every degree and every number of rounds.
-pub fn shape_laws()
-    ensures seeds { SeedsTellShapes }
-{}
 
 /// Laws of the replay of a batch of rounds that was played onto empty data, in either order, at every difficulty, by whatever rules and extension:
 /// from the history and the claim with which the batch began it has a replay, every replay has its challenges and leaves its history and its claim,

@@ -5,26 +5,16 @@
 //! variable there. After n rounds what is left of the claim is the product of the two values at the challenges.
 #![tactic(auto)]
 
-mod data;
-mod error;
 mod eval_constraints;
 mod laws;
 mod product_polynomial;
 mod strategy;
-#[cfg(test)]
-mod tests;
-#[cfg(test)]
-mod tests_constraint;
-#[cfg(test)]
-mod tests_repr;
-#[cfg(test)]
-mod tests_step;
-mod transcript;
 
-pub use data::{SumcheckData, verify_final_sumcheck_rounds};
-pub use error::SumcheckError;
 pub use eval_constraints::EvalConstraints;
-pub use laws::{batch_in_step, replay_laws, shape_laws};
+pub use laws::{batch_in_step, replay_laws};
 pub use product_polynomial::ProductPolynomial;
+pub use sc_transcript::{
+    ProverTranscript, SumcheckData, SumcheckError, SumcheckShape, VerifierTranscript, shape_laws,
+    verify_final_sumcheck_rounds,
+};
 pub use strategy::{ReprSumcheckProver, SumcheckProver};
-pub use transcript::{ProverTranscript, SumcheckShape, VerifierTranscript};

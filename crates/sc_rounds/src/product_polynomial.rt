@@ -6,16 +6,14 @@ ghost use Rattle.sc_table.specs.Polys.{variables_of, table_of};
 ghost use Rattle.sc_table.specs.Strategy.{order_of};
 ghost use Rattle.sc_statements.specs.Constraints.{constraint_arity, constraint_challenge, constraint_power, constraint_statements};
 ghost use Rattle.sc_statements.specs.Batches.{AddsBatch};
-ghost use Rattle.sc_rounds.specs.Shapes.{events_of, seed_of};
+ghost use Rattle.sc_transcript.specs.Shapes.{events_of, seed_of};
 ghost use Rattle.sc_definitions.specs.Events.{words};
 
-use crate::data::{SumcheckData, with_room};
-use crate::error::SumcheckError;
-use crate::transcript::{ProverTranscript, SumcheckShape};
 use sc_challenger::Challenger;
-use sc_field::{ExtensionField, Field, IntoTranscriptField, NoMemory};
+use sc_field::{ExtensionField, Field, IntoTranscriptField, NoMemory, with_room};
 use sc_statements::Constraint;
 use sc_table::{Basis, Point, Poly, VariableOrder};
+use sc_transcript::{ProverTranscript, SumcheckData, SumcheckError, SumcheckShape};
 use std::alloc::Global;
 use std::marker::PhantomData;
 
@@ -30,10 +28,10 @@ pub struct ProductPolynomial<F, EF> {
 }
 
 impl<F: Field, EF: ExtensionField<F>> ProductPolynomial<F, EF> {
-    ghost use Rattle.sc_rounds.specs.Data.{messages_in, witnesses_in, spare_in};
+    ghost use Rattle.sc_transcript.specs.Data.{messages_in, witnesses_in, spare_in};
     ghost use Rattle.sc_rounds.specs.Products.{variables_in, order_in, evals_in, weights_in, sum_in, PlaysRound, EndsRound};
     ghost use Rattle.sc_rounds.specs.Batches.{PlaysBatch, StopsBatch, FailsBatch, IsUnbegun};
-    ghost use Rattle.sc_rounds.specs.Invalid.{FindsNone};
+    ghost use Rattle.sc_transcript.specs.Invalid.{FindsNone};
 
     /// The pair of these tables, which have as many variables.
     pub fn new_unpacked(order: VariableOrder, evals: Poly<EF>, weights: Poly<EF>) -> Self

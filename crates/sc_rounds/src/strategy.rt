@@ -11,14 +11,12 @@ ghost use Rattle.sc_definitions.specs.Statements.{batched_weight, batched_claim}
 ghost use Rattle.sc_statements.specs.Constraints.{constraint_challenge, constraint_power, constraint_statements};
 ghost use Rattle.sc_rounds.specs.Products.{sum_in};
 
-use crate::data::SumcheckData;
-use crate::error::SumcheckError;
 use crate::product_polynomial::ProductPolynomial;
-use crate::transcript::SumcheckShape;
 use sc_challenger::Challenger;
 use sc_field::{ExtensionField, Field, NoMemory};
 use sc_statements::Constraint;
 use sc_table::{Basis, Point, Poly, VariableOrder};
+use sc_transcript::{SumcheckData, SumcheckError, SumcheckShape};
 use std::alloc::Global;
 
 mod repr;
@@ -35,10 +33,10 @@ pub struct SumcheckProver<F: Field, EF: ExtensionField<F>> {
 }
 
 impl<F: Field, EF: ExtensionField<F>> SumcheckProver<F, EF> {
-    ghost use Rattle.sc_rounds.specs.Data.{messages_in, witnesses_in};
+    ghost use Rattle.sc_transcript.specs.Data.{messages_in, witnesses_in};
     ghost use Rattle.sc_rounds.specs.Products.{variables_in, order_in, evals_in, weights_in};
     ghost use Rattle.sc_rounds.specs.Batches.{PlaysBatch, StopsBatch, FailsBatch, IsUnplayed, weights_with, claim_with};
-    ghost use Rattle.sc_rounds.specs.Invalid.{FindsNone};
+    ghost use Rattle.sc_transcript.specs.Invalid.{FindsNone};
     ghost use Rattle.sc_rounds.specs.Provers.{IsTrueConstraint, IsTrueIfSome};
 
     /// A prover of a claim that is true, as [`SumcheckProver::sum_is_true`] tests.

@@ -10,10 +10,6 @@ mod constraint;
 mod evaluated;
 mod list;
 mod statement;
-#[cfg(test)]
-mod tests;
-#[cfg(test)]
-mod tests_kinds;
 mod weights;
 
 pub use claim::Claim;

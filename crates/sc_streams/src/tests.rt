@@ -100,8 +100,8 @@ fn a_writer_that_takes_nothing_fails(rt: HostRuntime) {
 }
 
 #[test]
-fn a_sink_of_ten_bytes_takes_ten_and_then_fails(rt: HostRuntime) -> Result<(), Fail> {
-    let mut sink = MemSink::new(rt.alloc(), 10, Vec::new(rt.alloc()))?;
+fn a_sink_of_ten_bytes_takes_ten_and_then_fails(rt: HostRuntime) {
+    let mut sink = MemSink::new(rt.alloc(), 10, Vec::new(rt.alloc())).expect(&rt, "an answer");
     assert_eq!(rt; sink.write(b"abcdef"), Ok(6));
     assert_eq!(rt; sink.write(b"ghijkl"), Ok(4));
     assert_eq!(rt; sink.write(b"m"), Err(Failed));
@@ -109,20 +109,18 @@ fn a_sink_of_ten_bytes_takes_ten_and_then_fails(rt: HostRuntime) -> Result<(), F
     assert_eq!(rt; sink.bytes(), b"abcdefghij".as_slice());
     assert_eq!(rt; sink.calls(), 4);
     assert_eq!(rt; sink.faults, 1);
-    Ok(())
 }
 
 #[test]
-fn a_source_fails_at_the_listed_call_alone(rt: HostRuntime) -> Result<(), Fail> {
-    let bytes = b"abcdef".to_vec(rt.alloc())?;
-    let mut source = MemSource::new(bytes, [1].to_vec(rt.alloc())?);
+fn a_source_fails_at_the_listed_call_alone(rt: HostRuntime) {
+    let bytes = b"abcdef".to_vec(rt.alloc()).expect(&rt, "an answer");
+    let mut source = MemSource::new(bytes, [1].to_vec(rt.alloc()).expect(&rt, "an answer"));
     let mut piece = [0; 2];
     assert_eq!(rt; source.read(&mut piece), Ok(2));
     assert_eq!(rt; source.read(&mut piece), Err(Failed));
     assert_eq!(rt; source.read(&mut piece), Ok(2));
     assert_eq!(rt; piece, *b"cd");
     assert_eq!(rt; source.faults, 1);
-    Ok(())
 }
 
 #[test]
@@ -149,32 +147,36 @@ fn read_all_reads_one_byte_past_the_limit_and_stops_at_the_end(
 }
 
 #[test]
-fn a_fault_in_mid_stream_is_told(rt: HostRuntime) -> Result<(), Fail> {
-    let bytes = vec![in rt.alloc(); 7; 70_000]?;
-    let mut source = MemSource::new(bytes, [1].to_vec(rt.alloc())?);
+fn a_fault_in_mid_stream_is_told(rt: HostRuntime) {
+    let bytes = vec![in rt.alloc(); 7; 70_000].expect(&rt, "an answer");
+    let mut source = MemSource::new(bytes, [1].to_vec(rt.alloc()).expect(&rt, "an answer"));
     let read = read_all(rt.alloc(), &mut source, 100_000);
     assert_eq!(rt; read.err(), Some(ReadFault::Failed));
-    let mut sink = MemSink::new(rt.alloc(), 4, Vec::new(rt.alloc()))?;
+    let mut sink = MemSink::new(rt.alloc(), 4, Vec::new(rt.alloc())).expect(&rt, "an answer");
     assert_eq!(rt; write_all(&mut sink, b"abcdef"), Err(Failed));
     assert_eq!(rt; sink.bytes(), b"abcd".as_slice());
-    Ok(())
 }
 
 #[test]
-fn bytes_come_through_unchanged(rt: HostRuntime) -> Result<(), Fail> {
+fn bytes_come_through_unchanged(rt: HostRuntime) {
     let mut bytes = Vec::new(rt.alloc());
     for i in 0..70_000u32 {
-        bytes.push((i % 251) as u8)?;
+        bytes.push((i % 251) as u8).expect(&rt, "an answer");
     }
-    let mut plain = PlainSource::new(bytes.clone()?);
-    assert_eq!(rt; read_all(rt.alloc(), &mut plain, 100_000)?, bytes);
+    let mut plain = PlainSource::new(bytes.clone().expect(&rt, "an answer"));
+    assert_eq!(rt;
+        read_all(rt.alloc(), &mut plain, 100_000).expect(&rt, "an answer"),
+        bytes
+    );
     let mut standard = StdSource::new(bytes.as_slice());
-    assert_eq!(rt; read_all(rt.alloc(), &mut standard, 100_000)?, bytes);
-    let mut sink = MemSink::new(rt.alloc(), 70_000, Vec::new(rt.alloc()))?;
+    assert_eq!(rt;
+        read_all(rt.alloc(), &mut standard, 100_000).expect(&rt, "an answer"),
+        bytes
+    );
+    let mut sink = MemSink::new(rt.alloc(), 70_000, Vec::new(rt.alloc())).expect(&rt, "an answer");
     assert_eq!(rt; write_all(&mut sink, &bytes), Ok(()));
     assert_eq!(rt; sink.bytes(), bytes.as_slice());
     let mut written = StdSink::new(Vec::new(rt.alloc()));
     assert_eq!(rt; write_all(&mut written, &bytes), Ok(()));
     assert_eq!(rt; written.writer, bytes);
-    Ok(())
 }

@@ -11,8 +11,6 @@ mod point;
 mod poly;
 mod row;
 mod strategy;
-#[cfg(test)]
-mod tests;
 
 pub use lagrange::{extrapolate_01inf, lagrange_weights_01inf};
 pub use laws::strategy_laws;

@@ -8,8 +8,6 @@ mod equality;
 mod next;
 mod row_weights;
 mod select;
-#[cfg(test)]
-mod tests;
 
 pub use next::NextConstraint;
 pub use row_weights::RowWeights;

@@ -20,10 +20,10 @@ use Rattle.sc_audit.specs.Audits.{begun, figures_from}
 use Rattle.sc_field.specs.ResiduesLaws.{residues_field}
 use Rattle.sc_field.specs.F257x2Laws.{f257x2_field}
 use Rattle.sc_field.specs.SixteenLaws.{tower_field}
-use Rattle.sumcheck_run.specs.declared.job.FieldName.{FieldName}
-use Rattle.sumcheck_run.specs.declared.job.FieldName.TheVariants.{F65537, F257x2, F16}
-use Rattle.sumcheck_run.specs.declared.job.Job.{Job}
-use Rattle.sumcheck_run.specs.declared.job.Mode.TheVariants.{Build}
+use Rattle.sumcheck_jobs.specs.declared.job.FieldName.{FieldName}
+use Rattle.sumcheck_jobs.specs.declared.job.FieldName.TheVariants.{F65537, F257x2, F16}
+use Rattle.sumcheck_jobs.specs.declared.job.Job.{Job}
+use Rattle.sumcheck_jobs.specs.declared.job.Mode.TheVariants.{Build}
 use Rattle.sumcheck_run.specs.declared.reply.Outcome.TheVariants.{Holds, NoWitness}
 use Rattle.sumcheck_run.specs.Reply.{no_witness}
 use Rattle.sumcheck_run.specs.Witnesses.{honest_rounds}

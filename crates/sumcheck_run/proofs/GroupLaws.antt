@@ -1,11 +1,10 @@
 -- What several groups say, group after group.
-use Rattle.std.proofs.Common.{◌≡◌, ℕ, ◌+◌, ◌<◌, ◌≤◌, List, [], ◌∷◌, ◌++◌, length, get_or, take, map, refl, sym, ◌∙◌, ap, arith}
+use Rattle.std.proofs.Common.{◌≡◌, ℕ, ◌+◌, ◌<◌, List, [], ◌∷◌, ◌++◌, length, get_or, take, map, refl, sym, ◌∙◌, ap}
 use Rattle.std.specs.List.{flat_map}
 use Rattle.std.proofs.lemmas.List.{take_more, flat_map_more, map_more}
 use Rattle.sc_definitions.specs.Statements.{Statement, claims, products}
-use Rattle.sumcheck_run.specs.declared.job.ProductClaim.{ProductClaim}
-use Rattle.sumcheck_run.specs.Statements.{product_statement}
-use Rattle.std.proofs.lemmas.List.Folds.{length-flat_map-take}
+use Rattle.sumcheck_jobs.specs.declared.job.ProductClaim.{ProductClaim}
+use Rattle.sumcheck_jobs.specs.Statements.{product_statement}
 
 -- one more of the one list says the same as the item that was read at an index of the other
 pub flat_map-read : {X Y A : Type 0} (f : X → List A) (h : Y → List A) (xs : List X) (ys : List Y) (x : X) (y : Y) (i : ℕ) → i < length ys → y ≡ get_or ys i y →
@@ -13,11 +12,6 @@ pub flat_map-read : {X Y A : Type 0} (f : X → List A) (h : Y → List A) (xs :
 flat_map-read f h xs ys x y i below is before same =
     sym (flat_map_more f [] xs x) ∙ ap (λ l. l ++ f x) before ∙ ap (λ l. flat_map h (take i ys) ++ l) (same ∙ ap h is)
     ∙ flat_map_more h [] (take i ys) (get_or ys i y) ∙ ap (flat_map h) (sym (take_more ys i y below))
-
--- so many as before, and those of the item that was read at an index, are not more than all
-pub length-flat_map-read : {Y A : Type 0} (h : Y → List A) (ys : List Y) (y : Y) (i : ℕ) → i < length ys → y ≡ get_or ys i y →
-    length (flat_map h (take i ys)) + length (h y) ≤ length (flat_map h ys)
-length-flat_map-read h ys y i below is = omega (arith, length-flat_map-take h ys i y below, ap (λ z. length (h z)) is)
 
 -- the images of a list of elements are those of their numbers
 pub embedded_numbers : {X : Type 0} (embedding : ℕ → ℕ) (number : X → ℕ) (xs : List X) (ns : List ℕ) → map number xs ≡ ns → map (λ x. embedding (number x)) xs ≡ map embedding ns

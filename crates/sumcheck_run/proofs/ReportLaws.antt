@@ -18,8 +18,8 @@ use Rattle.sc_audit.specs.Cases.{Case, Task, build, check}
 use Rattle.sc_audit.specs.Refusals.{refusal_of}
 use Rattle.sc_audit.specs.Figures.{Figures, holds, figures_of}
 use Rattle.sc_audit.specs.Audits.{begun, AreRounds, Plays, IsAudited, IsLucky, IsFailing, IsUnground, IsCaused}
-use Rattle.sumcheck_run.specs.declared.job.Job.{Job}
-use Rattle.sumcheck_run.specs.Statements.{all_claims}
+use Rattle.sumcheck_jobs.specs.declared.job.Job.{Job}
+use Rattle.sumcheck_jobs.specs.Statements.{all_claims}
 use Rattle.sumcheck_run.specs.Report.{Fields, task_of, case_of, rules_of, refusal_reply, finding_reply, figures_reply, figure_lines, or_no_witness, unless_failing, passing_rounds, rounds_of, rounds_reply, reply_by, case_reply, judge_over}
 use Rattle.sumcheck_run.proofs.WitnessLaws.{AreLow, honest_rounds-whole, honest_rounds-none, none_passes, first_failing-at, first_failing-none}
 use Rattle.sumcheck_run.proofs.BuildReplies.{all-true, built-finding}

@@ -10,7 +10,7 @@ use Rattle.sc_definitions.specs.declared.events.Event.{Event}
 use Rattle.sc_definitions.specs.Events.{Rules, Extension, NonePasses}
 use Rattle.sc_definitions.specs.Transcript.{Round, round_of, sent, round_events, rounds_events, challenge, challenges, HasFirstWitness, IsBuilt}
 use Rattle.sc_definitions.specs.Replays.{round_passes, AllPass}
-use Rattle.sc_rounds.specs.Data.{witnesses_of}
+use Rattle.sc_transcript.specs.Data.{witnesses_of}
 use Rattle.sumcheck_run.specs.Witnesses.{least_below, witness_at, with_witness, round_before, honest_rounds, first_failing}
 
 -- ---- the least number that passes

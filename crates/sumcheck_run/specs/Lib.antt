@@ -1,10 +1,5 @@
 pub mod Reply
-pub mod Members
-pub mod Elements
-pub mod Groups
-pub mod Job
 pub mod Lines
-pub mod Statements
 pub mod Witnesses
 pub mod Report
 pub mod Program

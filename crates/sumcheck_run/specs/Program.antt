@@ -3,11 +3,11 @@ use Rattle.std.specs.Prelude.{ℕ, List, [], ◌∷◌, length, codes, Bool, tru
 use Rattle.serde_json.specs.Data.{Data}
 use Rattle.sc_forms.specs.Values.{value_of}
 use Rattle.sumcheck_run.specs.Reply.{Reply, refused, usage}
-use Rattle.sumcheck_run.specs.Job.{job_of}
-use Rattle.sumcheck_run.specs.Members.{misfit_text}
-use Rattle.sumcheck_run.specs.declared.member.Misfit.{Misfit}
+use Rattle.sumcheck_jobs.specs.Job.{job_of}
+use Rattle.sumcheck_jobs.specs.Members.{misfit_text}
+use Rattle.sumcheck_jobs.specs.declared.member.Misfit.{Misfit}
 use Rattle.sumcheck_run.specs.Report.{judge}
-use Rattle.sumcheck_run.specs.declared.job.Job.{Job}
+use Rattle.sumcheck_jobs.specs.declared.job.Job.{Job}
 use Rattle.sumcheck_run.specs.declared.command.Command.{Command}
 use Rattle.sumcheck_run.specs.declared.command.Command.TheVariants.{Audit}
 

@@ -22,16 +22,16 @@ use Rattle.sc_audit.specs.Refusals.{refusal_of}
 use Rattle.sc_audit.specs.Figures.{Figures, Finding, holds, refuted, lucky}
 use Rattle.sc_audit.specs.Audits.{begun, figures_from}
 use Rattle.sumcheck_run.specs.declared.reply.Outcome.TheVariants.{Holds, Refuted}
-use Rattle.sumcheck_run.specs.declared.job.FieldName.{FieldName}
-use Rattle.sumcheck_run.specs.declared.job.FieldName.TheVariants.{F65537, F257x2, F16}
-use Rattle.sumcheck_run.specs.declared.job.Job.{Job}
-use Rattle.sumcheck_run.specs.declared.job.Challenger.{Challenger}
-use Rattle.sumcheck_run.specs.declared.job.Challenger.TheVariants.{Scripted, Hash}
-use Rattle.sumcheck_run.specs.declared.job.Proof.{Proof}
-use Rattle.sumcheck_run.specs.declared.job.Mode.{Mode}
-use Rattle.sumcheck_run.specs.declared.job.Mode.TheVariants.{Build, Check}
+use Rattle.sumcheck_jobs.specs.declared.job.FieldName.{FieldName}
+use Rattle.sumcheck_jobs.specs.declared.job.FieldName.TheVariants.{F65537, F257x2, F16}
+use Rattle.sumcheck_jobs.specs.declared.job.Job.{Job}
+use Rattle.sumcheck_jobs.specs.declared.job.Challenger.{Challenger}
+use Rattle.sumcheck_jobs.specs.declared.job.Challenger.TheVariants.{Scripted, Hash}
+use Rattle.sumcheck_jobs.specs.declared.job.Proof.{Proof}
+use Rattle.sumcheck_jobs.specs.declared.job.Mode.{Mode}
+use Rattle.sumcheck_jobs.specs.declared.job.Mode.TheVariants.{Build, Check}
 use Rattle.sumcheck_run.specs.Reply.{Reply, no_witness, proof_refused, refused}
-use Rattle.sumcheck_run.specs.Statements.{all_claims}
+use Rattle.sumcheck_jobs.specs.Statements.{all_claims}
 use Rattle.sumcheck_run.specs.Witnesses.{honest_rounds, first_failing}
 use Rattle.sumcheck_run.specs.Lines.{claim_line, round_lines, residual_line, eval_line, weight_line, holds_line, refuted_line, unbuilt_text, shape_fault_text, fit_fault_text, false_claim_text, missing_text, rounds_text, witnesses_text, witness_text}
 

@@ -1,16 +1,16 @@
 //! The audit that a job asks for.
 ghost use Rattle.std.specs.Prelude.{◌≡◌, IfOk};
 ghost use Rattle.sc_audit.specs.Cases.{case_in, given_in, task_in};
-ghost use Rattle.sumcheck_run.specs.Job.{JobFits, ModeFits, ProofFits};
+ghost use Rattle.sumcheck_jobs.specs.Job.{JobFits, ModeFits, ProofFits};
 ghost use Rattle.sumcheck_run.specs.Report.{case_of, given_of, task_of};
 
 use crate::elements::{elements, messages};
-use crate::job::{Job, Mode, Proof};
 use crate::statements::constraint_of;
 use sc_audit::{Job as AuditJob, Mode as AuditMode};
 use sc_field::{ExtensionField, Field, NoMemory};
 use sc_rounds::SumcheckData;
 use std::alloc::Global;
+use sumcheck_jobs::{Job, Mode, Proof};
 
 /// The audit of the elements that a job names by their numbers.
 pub(crate) fn audit_job<F: Field, EF: ExtensionField<F>>(

@@ -1,7 +1,7 @@
 //! Numbers as elements of a field.
 ghost use Rattle.std.specs.Prelude.{◌≡◌, ◌<◌, All, IfOk, map};
 ghost use Rattle.std.specs.List.{slice_get};
-ghost use Rattle.sc_rounds.specs.Data.{pair_of};
+ghost use Rattle.sc_transcript.specs.Data.{pair_of};
 ghost use Rattle.sumcheck_run.specs.Report.{values_of};
 
 use sc_field::{Field, NoMemory};

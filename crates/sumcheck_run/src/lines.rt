@@ -1,11 +1,11 @@
 //! The lines of a report, and the texts of refusals, of the numbers in them.
 ghost use Rattle.std.specs.Prelude.{◌≡◌, ◌++◌, [], ◌∷◌, OnOk, IfOk, string_bytes};
 ghost use Rattle.sumcheck_run.specs.Lines.{claim_line, eval_line, false_claim_text, fit_fault_text, holds_line, missing_text, refuted_line, residual_line, round_line, rounds_text, shape_fault_text, spaced, unbuilt_text, weight_line, witness_text, witnesses_text};
-ghost use Rattle.sumcheck_run.specs.Members.{misfit_text};
+ghost use Rattle.sumcheck_jobs.specs.Members.{misfit_text};
 
-use crate::member::Misfit;
 use sc_audit::{FitFault, Form, ShapeFault};
 use std::alloc::{AllocError, Global};
+use sumcheck_jobs::Misfit;
 
 #[tactic(auto, unfolding(crate::specs::Lines::claim_line))]
 pub(crate) fn push_claim(text: &mut String, claim: u64) -> Result<(), AllocError>
@@ -70,7 +70,7 @@ pub(crate) fn push_refuted(text: &mut String) -> Result<(), AllocError>
     text.push_str("verdict refuted\n")
 }
 
-#[tactic(auto, unfolding(crate::specs::Members::misfit_text))]
+#[tactic(auto, unfolding(sumcheck_jobs::specs::Members::misfit_text))]
 pub(crate) fn misfit_text(alloc: Global, fault: Misfit) -> Result<String, AllocError>
     ensures { IfOk result (λ s. string_bytes s ≡ misfit_text fault) }
 {

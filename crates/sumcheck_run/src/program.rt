@@ -3,19 +3,18 @@ ghost use Rattle.std.specs.Prelude.{◌≡◌, ◌⊎◌, ◌<◌, ◌≤◌, �
 ghost use Rattle.sc_streams.specs.Faults.{HasRisen};
 ghost use Rattle.sumcheck_run.specs.Program.{audit_reply, bad_json, command_of, json_reply, max_input, reads_input, reply_of, too_long};
 ghost use Rattle.sumcheck_run.specs.Reply.{refused};
-ghost use Rattle.sumcheck_run.specs.Members.{misfit_text};
+ghost use Rattle.sumcheck_jobs.specs.Members.{misfit_text};
 ghost use Rattle.sumcheck_run.specs.Run.{IsAnswered, IsCutShort, IsRead, WritesReply};
 
 use crate::command::{Command, needs_input, read_command};
 use crate::lines;
-use crate::member::{Misfit, Unread};
-use crate::reading::read_job;
 use crate::reply::Answer;
 use crate::report::judge_job;
 use sc_field::NoMemory;
 use sc_forms::{NoValue, read_value};
 use sc_streams::{ReadFault, Sink, Source, read_all, write_all};
 use std::alloc::Global;
+use sumcheck_jobs::{Misfit, Unread, read_job};
 
 // The greatest number of bytes of an input.
 const MAX_INPUT: usize = 67_108_864;

@@ -1,17 +1,16 @@
 //! The answer to a job.
 ghost use Rattle.std.specs.Prelude.{◌≡◌, ◌⊎◌, ◌<◌, ◌++◌, IfOk, OnOk, None, [], map, string_bytes};
 ghost use Rattle.sc_definitions.specs.Scripted.{scripted_rules};
-ghost use Rattle.sc_rounds.specs.Data.{pair_of};
+ghost use Rattle.sc_transcript.specs.Data.{pair_of};
 ghost use Rattle.sc_audit.specs.Cases.{case_in};
 ghost use Rattle.sc_audit.specs.Figures.{figures_in, finding_in};
 ghost use Rattle.sc_audit.specs.Refusals.{refusal_of};
-ghost use Rattle.sumcheck_run.specs.Elements.{sizes_of};
-ghost use Rattle.sumcheck_run.specs.Job.{JobFits, ScriptFits};
+ghost use Rattle.sumcheck_jobs.specs.Elements.{sizes_of};
+ghost use Rattle.sumcheck_jobs.specs.Job.{JobFits, ScriptFits};
 ghost use Rattle.sumcheck_run.specs.Lines.{round_lines};
 ghost use Rattle.sumcheck_run.specs.Report.{Fields, case_of, case_reply, fields_of, figure_lines, figures_reply, finding_reply, judge, judge_over, rules_of};
 
 use crate::asked::audit_job;
-use crate::job::{self, FieldName, Job, Mode, Script};
 use crate::refusals::refuse;
 use crate::reply::{Answer, Outcome};
 use crate::{elements, lines};
@@ -22,6 +21,7 @@ use sc_field::{
 };
 use sc_table::RoundMessage;
 use std::alloc::Global;
+use sumcheck_jobs::{FieldName, Job, Mode, Script};
 
 /// The answer to a job: its report, or why there is none. The numbers are given up before the audit begins.
 pub fn judge_job(alloc: Global, job: Job) -> Result<Answer, NoMemory>
@@ -50,12 +50,12 @@ fn judge_in<F: Field, EF: ExtensionField<F>, R: IntoTranscriptField<EF>>(
 {
     let asked: AuditJob<F, EF> = audit_job(alloc, &job)?;
     match challenger_in(job) {
-        job::Challenger::Scripted(script) => {
+        sumcheck_jobs::Challenger::Scripted(script) => {
             let mut challenger: ScriptedChallenger<F> = scripted(alloc, &script)?;
             drop(script);
             answer_of::<F, EF, R, ScriptedChallenger<F>>(alloc, &asked, &mut challenger)
         }
-        job::Challenger::Hash => {
+        sumcheck_jobs::Challenger::Hash => {
             let mut challenger: HashChallenger<F> = HashChallenger::new(alloc);
             answer_of::<F, EF, R, HashChallenger<F>>(alloc, &asked, &mut challenger)
         }
@@ -63,7 +63,7 @@ fn judge_in<F: Field, EF: ExtensionField<F>, R: IntoTranscriptField<EF>>(
 }
 
 // The challenger that a job describes. The rest of the job is given up.
-fn challenger_in(job: Job) -> job::Challenger
+fn challenger_in(job: Job) -> sumcheck_jobs::Challenger
     ensures { result ≡ job.challenger }
 {
     let Job { challenger, .. } = job;

@@ -5,14 +5,14 @@ ghost use Rattle.sc_statements.specs.EqStatements.{eq_arity, eq_statements};
 ghost use Rattle.sc_statements.specs.Groups.{group_arity, group_statements};
 ghost use Rattle.sc_statements.specs.NextStatements.{next_arity, next_statements};
 ghost use Rattle.sc_statements.specs.SelectStatements.{select_arity, select_statements};
-ghost use Rattle.sumcheck_run.specs.Statements.{EqualityFits, GroupFits, ProductFits, ScalarFits, SuccessorFits, all_claims, equality_statement, group_claims, product_statement, scalar_statement, successor_statement};
+ghost use Rattle.sumcheck_jobs.specs.Statements.{EqualityFits, GroupFits, ProductFits, ScalarFits, SuccessorFits, all_claims, equality_statement, group_claims, product_statement, scalar_statement, successor_statement};
 
 use crate::elements::elements;
-use crate::job::{EqualityClaim, Group, ProductClaim, ScalarClaim, SuccessorClaim};
 use sc_field::{ExtensionField, Field, NoMemory};
 use sc_statements::{Constraint, EqStatement, NextStatement, SelectStatement, Statements};
 use sc_table::Point;
 use std::alloc::Global;
+use sumcheck_jobs::{EqualityClaim, Group, ProductClaim, ScalarClaim, SuccessorClaim};
 
 /// The groups of claims on tables of so many variables as groups of statements, with the element whose powers batch them.
 pub(crate) fn constraint_of<F: Field, EF: ExtensionField<F>>(

@@ -7,14 +7,12 @@ ghost use Rattle.sc_table.specs.Polys.{variables_of, table_of};
 ghost use Rattle.sc_table.specs.Strategy.{order_of};
 ghost use Rattle.sc_rounds.specs.Products.{sum_in};
 
-use crate::data::SumcheckData;
-use crate::error::SumcheckError;
 use crate::product_polynomial::{ProductPolynomial, dot};
 use crate::strategy::SumcheckProver;
-use crate::transcript::SumcheckShape;
 use sc_challenger::Challenger;
 use sc_field::{ExtensionField, Field, IntoTranscriptField, NoMemory};
 use sc_table::{Basis, Point, Poly, VariableOrder};
+use sc_transcript::{SumcheckData, SumcheckError, SumcheckShape};
 use std::alloc::Global;
 use std::marker::PhantomData;
 
@@ -32,10 +30,10 @@ pub struct ReprSumcheckProver<F: Field, EF: ExtensionField<F>, R: IntoTranscript
 }
 
 impl<F: Field, EF: ExtensionField<F>, R: IntoTranscriptField<EF>> ReprSumcheckProver<F, EF, R> {
-    ghost use Rattle.sc_rounds.specs.Data.{messages_in, witnesses_in};
+    ghost use Rattle.sc_transcript.specs.Data.{messages_in, witnesses_in};
     ghost use Rattle.sc_rounds.specs.Products.{variables_in, order_in, evals_in, weights_in};
     ghost use Rattle.sc_rounds.specs.Batches.{PlaysBatch, StopsBatch, FailsBatch, IsUnplayed};
-    ghost use Rattle.sc_rounds.specs.Invalid.{FindsNone};
+    ghost use Rattle.sc_transcript.specs.Invalid.{FindsNone};
     ghost use Rattle.sc_rounds.specs.Represented.{TablesAgree};
 
     /// The same prover with its tables and its claim in `R`. A prover that is refused is given up.

@@ -6,8 +6,8 @@ use Rattle.sc_definitions.specs.Seeds.{quadratic_seed}
 use Rattle.sc_definitions.specs.Rounds.{next_claim}
 use Rattle.sc_table.specs.Strategy.{order_of}
 use Rattle.sc_statements.specs.Constraints.{constraint_arity}
-use Rattle.sc_rounds.specs.declared.error.SumcheckError.TheVariants.{NoMemory}
-use Rattle.sc_rounds.specs.Data.{witness_count}
+use Rattle.sc_transcript.specs.declared.error.SumcheckError.TheVariants.{NoMemory}
+use Rattle.sc_transcript.specs.Data.{witness_count}
 use Rattle.sc_rounds.proofs.InStep.{invalid_is}
 use Rattle.sc_audit.specs.Audits.{refusal_by}
 use Rattle.sc_audit.proofs.BuiltReports.{report-built, broken-built, rounds-built, witnesses-built, none_invalid-built}

@@ -12,8 +12,8 @@ use Rattle.sc_definitions.proofs.ReplayLaws.{length-given_rounds}
 use Rattle.sc_table.specs.Strategy.{order_of}
 use Rattle.sc_statements.specs.Constraints.{constraint_arity, constraint_challenge, constraint_power, constraint_statements}
 use Rattle.sc_statements.proofs.BatchSteps.{claim-alone}
-use Rattle.sc_rounds.specs.Data.{messages_in, witnesses_in, witness_count}
-use Rattle.sc_rounds.specs.declared.error.SumcheckError.TheVariants as replay
+use Rattle.sc_transcript.specs.Data.{messages_in, witnesses_in, witness_count}
+use Rattle.sc_transcript.specs.declared.error.SumcheckError.TheVariants as replay
 use Rattle.sc_rounds.proofs.InStep.{invalid_is}
 use Rattle.sc_audit.specs.declared.error.AuditError.TheVariants.{Unbuilt, RoundCountMismatch, PowWitnessCountMismatch, NoMemory}
 use Rattle.sc_audit.specs.declared.error.Form.TheVariants.{Verdict}

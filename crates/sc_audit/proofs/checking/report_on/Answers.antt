@@ -4,7 +4,7 @@ use Rattle.sc_definitions.specs.Statements.{batched_weight}
 use Rattle.sc_definitions.specs.Problem.{eval_of, weight_value_of}
 use Rattle.sc_table.specs.Strategy.{order_of}
 use Rattle.sc_statements.specs.Constraints.{constraint_arity, constraint_challenge, constraint_power, constraint_statements}
-use Rattle.sc_rounds.specs.Data.{messages_in, witnesses_in}
+use Rattle.sc_transcript.specs.Data.{messages_in, witnesses_in}
 use Rattle.sc_audit.specs.Figures.{finding_by, false_claim_of, is_matched}
 use Rattle.sc_audit.proofs.FigureLaws.{stated, figures-are, finding-is, matched-told, eval-at, weight-at}
 use Rattle.sc_audit.proofs.checking.report_on.Goals as goal

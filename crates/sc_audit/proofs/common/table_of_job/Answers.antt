@@ -1,5 +1,5 @@
 use Rattle.std.proofs.Common.{sym, ◌∙◌, rules}
-use Rattle.sc_audit.proofs.Lengths.{pow-same}
+use Rattle.sc_definitions.proofs.Lengths.{pow-same}
 use Rattle.sc_audit.proofs.common.table_of_job.Goals as goal
 
 pub returns-clause-variables : goal.returns-clause-variables

@@ -4,7 +4,7 @@ use Rattle.sc_definitions.proofs.BuildLaws.{batch-true, first_false_claim-all}
 use Rattle.sc_table.specs.Polys.{variables_of}
 use Rattle.sc_statements.specs.Constraints.{constraint_arity}
 use Rattle.sc_rounds.specs.Products.{evals_in, weights_in}
-use Rattle.sc_audit.proofs.Lengths.{pow-same}
+use Rattle.sc_definitions.proofs.Lengths.{pow-same}
 use Rattle.sc_audit.proofs.Embedded.{entry-embedded, length-embedded}
 use Rattle.sc_audit.proofs.FigureLaws.{weights-batched, claim-batched}
 use Rattle.sc_audit.proofs.SameTables.{inner-same}

@@ -7,7 +7,7 @@ use Rattle.sc_definitions.proofs.LoopLaws.{entry-read}
 use Rattle.sc_table.specs.Strategy.{order_of}
 use Rattle.sc_statements.specs.Constraints.{constraint_arity}
 use Rattle.sc_rounds.specs.Products.{variables_in, order_in, evals_in, weights_in}
-use Rattle.sc_rounds.specs.declared.error.SumcheckError.TheVariants.{NoMemory, NoWitness}
+use Rattle.sc_transcript.specs.declared.error.SumcheckError.TheVariants.{NoMemory, NoWitness}
 use Rattle.sc_rounds.proofs.MappedRounds.{same_images}
 use Rattle.sc_audit.specs.Audits.{refusal_by}
 use Rattle.sc_audit.proofs.BuiltReports.{played-case, built-case, unground-built, finds_none_is}

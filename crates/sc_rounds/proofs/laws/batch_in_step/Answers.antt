@@ -3,7 +3,7 @@ use Rattle.std.proofs.lemmas.List.{length-map}
 use Rattle.sc_definitions.specs.Tables.{evaluation}
 use Rattle.sc_definitions.specs.Events.{words}
 use Rattle.sc_definitions.specs.Seeds.{quadratic_seed}
-use Rattle.sc_rounds.specs.declared.error.SumcheckError.TheVariants.{NoMemory}
+use Rattle.sc_transcript.specs.declared.error.SumcheckError.TheVariants.{NoMemory}
 use Rattle.sc_rounds.proofs.TakenLaws.{claim_begun}
 use Rattle.sc_rounds.proofs.InStep.{out_of_memory, invalid_is, message_count, found_count, same_challenges, same_histories, same_claims, none_invalid}
 use Rattle.sc_rounds.proofs.laws.batch_in_step.Goals as goal

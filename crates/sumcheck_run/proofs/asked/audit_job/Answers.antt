@@ -1,5 +1,5 @@
 use Rattle.std.proofs.Common.{ap, ◌∙◌, refl}
-use Rattle.sumcheck_run.specs.Statements.{all_claims}
+use Rattle.sumcheck_jobs.specs.Statements.{all_claims}
 use Rattle.sumcheck_run.proofs.ReportLaws.{asked-case}
 use Rattle.sumcheck_run.proofs.asked.audit_job.Goals as goal
 

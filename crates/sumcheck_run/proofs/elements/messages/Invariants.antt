@@ -1,5 +1,5 @@
 use Rattle.std.proofs.Common.{◌≡◌, map, take}
-use Rattle.sc_rounds.specs.Data.{pair_of}
+use Rattle.sc_transcript.specs.Data.{pair_of}
 use Rattle.sumcheck_run.specs.Report.{values_of}
 use Rattle.sumcheck_run.proofs.elements.messages.Given as goal
 

@@ -1,6 +1,6 @@
 use Rattle.std.proofs.Common.{◌≡◌, ◌++◌, [], ◌∷◌, ◌+◌, ◌<◌, length, map, take, sym, ◌∙◌, ap, append_assoc, string_bytes, arith}
 use Rattle.std.specs.List.{slice_get}
-use Rattle.sc_rounds.specs.Data.{pair_of}
+use Rattle.sc_transcript.specs.Data.{pair_of}
 use Rattle.sumcheck_run.specs.Lines.{round_line, round_lines}
 use Rattle.sumcheck_run.proofs.LineLaws.{round_lines-more, round_lines-all}
 use Rattle.sumcheck_run.proofs.report.push_rounds.Goals as goal

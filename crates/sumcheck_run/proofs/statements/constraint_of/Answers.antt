@@ -1,7 +1,7 @@
 use Rattle.std.proofs.Common.{arith, ◌≡◌}
 use Rattle.std.proofs.lemmas.List.Elements.{All-push}
 use Rattle.sc_statements.specs.Groups.{group_arity, group_statements}
-use Rattle.sumcheck_run.specs.Statements.{group_claims}
+use Rattle.sumcheck_jobs.specs.Statements.{group_claims}
 use Rattle.sumcheck_run.proofs.GroupLaws.{flat_map-read}
 use Rattle.sumcheck_run.proofs.statements.constraint_of.Goals as goal
 

@@ -1,6 +1,6 @@
 use Rattle.std.proofs.Common.{◌≡◌, All, take}
 use Rattle.sc_statements.specs.Groups.{all_statements, group_arity}
-use Rattle.sumcheck_run.specs.Statements.{all_claims}
+use Rattle.sumcheck_jobs.specs.Statements.{all_claims}
 use Rattle.sumcheck_run.proofs.statements.constraint_of.Given as goal
 
 abbrev pub invariant-loop-group : goal.invariant-loop-group

@@ -1,6 +1,6 @@
 use Rattle.std.proofs.Common.{◌≡◌, map, take}
 use Rattle.sc_statements.specs.EqStatements.{eq_arity, eq_statements}
-use Rattle.sumcheck_run.specs.Statements.{equality_statement}
+use Rattle.sumcheck_jobs.specs.Statements.{equality_statement}
 use Rattle.sumcheck_run.proofs.statements.equality_of.Given as goal
 
 abbrev pub invariant-loop-claim : goal.invariant-loop-claim

@@ -1,6 +1,6 @@
 use Rattle.std.proofs.Common.{◌≡◌, ℕ, suc, length, map, ap, sym, refl, Err, ◌∙◌, arith, rules}
 use Rattle.std.proofs.lemmas.List.{map-append}
-use Rattle.sc_rounds.specs.declared.error.SumcheckError.TheVariants.{NoMemory, NoWitness}
+use Rattle.sc_transcript.specs.declared.error.SumcheckError.TheVariants.{NoMemory, NoWitness}
 use Rattle.sc_rounds.specs.Products.{variables_in, evals_in, weights_in}
 use Rattle.sc_rounds.proofs.BatchLaws.{batch_none, batch_more, batch_at, ends_at}
 use Rattle.sc_rounds.proofs.product_polynomial.ProductPolynomial.play.Goals as goal

@@ -1,5 +1,5 @@
 use Rattle.std.proofs.Common.{◌≡◌, ℕ, ◌+◌, ◌≤◌, ◌^◌, ◌<◌, map, vec_len, vec_capacity}
-use Rattle.sc_rounds.specs.Data.{messages_in, witnesses_in}
+use Rattle.sc_transcript.specs.Data.{messages_in, witnesses_in}
 use Rattle.sc_rounds.specs.Products.{variables_in, order_in, evals_in, weights_in, sum_in}
 use Rattle.sc_rounds.specs.Batches.{PlaysBatch}
 use Rattle.sc_rounds.proofs.product_polynomial.ProductPolynomial.play.Given as goal

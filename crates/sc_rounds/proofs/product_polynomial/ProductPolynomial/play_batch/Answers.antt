@@ -1,5 +1,5 @@
 use Rattle.std.proofs.Common.{◌≡◌, ap, sym, ◌∙◌, inr, refl, rules, Err, map}
-use Rattle.sc_rounds.specs.declared.error.SumcheckError.TheVariants.{NoMemory, NoWitness}
+use Rattle.sc_transcript.specs.declared.error.SumcheckError.TheVariants.{NoMemory, NoWitness}
 use Rattle.sc_rounds.proofs.BatchLaws.{batch_from, stops_from, fails_from, told_at}
 use Rattle.sc_rounds.proofs.product_polynomial.ProductPolynomial.play_batch.Goals as goal
 

@@ -1,7 +1,7 @@
 use Rattle.std.proofs.Common.{ap, ◌∙◌, ◌++◌, inl, inr, ⊎_elim, map}
 use Rattle.sc_definitions.specs.Events.{words}
-use Rattle.sc_rounds.specs.Shapes.{seed_of}
-use Rattle.sc_rounds.specs.Data.{messages_in, witnesses_in}
+use Rattle.sc_transcript.specs.Shapes.{seed_of}
+use Rattle.sc_transcript.specs.Data.{messages_in, witnesses_in}
 use Rattle.sc_rounds.specs.Products.{variables_in, evals_in, weights_in}
 use Rattle.sc_rounds.proofs.BatchLaws.{ok_batch, failed_batch, stopped_batch}
 use Rattle.sc_rounds.proofs.strategy.SumcheckProver.compute_sumcheck_polynomials.Goals as goal

@@ -1,6 +1,7 @@
 use Rattle.std.proofs.Common.{◌∙◌, sym}
 use Rattle.sc_rounds.proofs.MappedRounds.{same_images, there_and_back}
-use Rattle.sc_rounds.proofs.RepresentedLaws.{pow-same, same_length}
+use Rattle.sc_definitions.proofs.Lengths.{pow-same}
+use Rattle.sc_rounds.proofs.RepresentedLaws.{same_length}
 use Rattle.sc_rounds.proofs.strategy.repr.represented.Goals as goal
 
 pub returns-clause-variables : goal.returns-clause-variables

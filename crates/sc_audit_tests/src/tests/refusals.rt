@@ -1,0 +1,319 @@
+//! What is refused before a round is played, each behind a history.
+use super::seventeen::F17;
+use super::{Case, PREFIX, Task, assert_all};
+use sc_audit::{AuditError, Form, ShapeFault, Strategy};
+use sc_definitions::Event::{Draw, Word};
+use sc_field::NoMemory;
+use std::alloc::Global;
+
+// Nothing is appended to the history, which has a draw.
+const REFUSED: Case = Case {
+    name: "a strategy on small values",
+    task: Task::Build(Strategy::SmallValue { variables: 1 }),
+    draws: &[13, 8, 12],
+    past: &[Word(3), Word(16), Draw],
+    answer: Err(AuditError::Unbuilt(Form::Mode)),
+    seed: &[],
+    events: &[],
+    ..PREFIX
+};
+
+// Rounds that are to be built.
+const BUILD: Case = Case {
+    task: Task::Build(Strategy::Plain),
+    ..REFUSED
+};
+
+// The second claim and the third are false.
+const FALSE: Case = Case {
+    name: "false claims",
+    claims: &[(&[2, 5], 14)],
+    further: &[(&[11, 3], 16), (&[1, 0], 2)],
+    answer: Err(AuditError::FalseClaim {
+        statement: 1,
+        claimed: 16,
+        actual: 15,
+    }),
+    ..BUILD
+};
+
+// A proof of one round.
+const FEW_ROUNDS: Case = Case {
+    name: "a round too few",
+    task: Task::Check(&[(15, 7)], &[]),
+    answer: Err(AuditError::RoundCountMismatch {
+        expected: 2,
+        actual: 1,
+    }),
+    ..REFUSED
+};
+
+static REFUSALS: [Case; 18] = [
+    REFUSED,
+    Case {
+        name: "an empty table",
+        table: &[],
+        answer: Err(AuditError::JobShape(ShapeFault::TableLength { len: 0 })),
+        ..BUILD
+    },
+    Case {
+        name: "a table of three rows",
+        table: &[3, 14, 15],
+        answer: Err(AuditError::JobShape(ShapeFault::TableLength { len: 3 })),
+        ..BUILD
+    },
+    Case {
+        name: "a difficulty above the greatest one",
+        pow_bits: 17,
+        answer: Err(AuditError::JobShape(ShapeFault::Difficulty {
+            bits: 17,
+            bound: 16,
+        })),
+        ..BUILD
+    },
+    Case {
+        name: "statements on fewer variables",
+        variables: 1,
+        answer: Err(AuditError::JobShape(ShapeFault::Arity {
+            expected: 2,
+            actual: 1,
+        })),
+        ..BUILD
+    },
+    Case {
+        name: "statements on more variables",
+        variables: 3,
+        answer: Err(AuditError::JobShape(ShapeFault::Arity {
+            expected: 2,
+            actual: 3,
+        })),
+        ..BUILD
+    },
+    FALSE,
+    Case {
+        name: "false claims at the greatest difficulty",
+        pow_bits: 16,
+        ..FALSE
+    },
+    Case {
+        name: "false claims under a representation",
+        task: Task::Build(Strategy::Represented),
+        ..FALSE
+    },
+    Case {
+        name: "no proof",
+        task: Task::CheckNone,
+        answer: Err(AuditError::MissingSumcheckData { expected_rounds: 2 }),
+        ..REFUSED
+    },
+    FEW_ROUNDS,
+    Case {
+        name: "a round too many",
+        task: Task::Check(&[(15, 7), (5, 11), (0, 0)], &[]),
+        answer: Err(AuditError::RoundCountMismatch {
+            expected: 2,
+            actual: 3,
+        }),
+        ..REFUSED
+    },
+    Case {
+        name: "a witness without a difficulty",
+        task: Task::Check(&[(15, 7), (5, 11)], &[5]),
+        answer: Err(AuditError::PowWitnessCountMismatch {
+            expected: 0,
+            actual: 1,
+        }),
+        ..REFUSED
+    },
+    Case {
+        name: "a witness too few",
+        pow_bits: 1,
+        task: Task::Check(&[(15, 7), (5, 11)], &[5]),
+        answer: Err(AuditError::PowWitnessCountMismatch {
+            expected: 2,
+            actual: 1,
+        }),
+        ..REFUSED
+    },
+    Case {
+        name: "a witness too many",
+        pow_bits: 1,
+        task: Task::Check(&[(15, 7), (5, 11)], &[5, 6, 7]),
+        answer: Err(AuditError::PowWitnessCountMismatch {
+            expected: 2,
+            actual: 3,
+        }),
+        ..REFUSED
+    },
+    Case {
+        name: "no witness passes in the first round",
+        pow_bits: 1,
+        answer: Err(AuditError::NoWitness { round: 0 }),
+        ..BUILD
+    },
+    Case {
+        name: "no witness passes in the second round",
+        pow_bits: 1,
+        good: &[&[5]],
+        answer: Err(AuditError::NoWitness { round: 1 }),
+        ..BUILD
+    },
+    Case {
+        name: "no witness passes in the second round under a representation",
+        pow_bits: 1,
+        task: Task::Build(Strategy::Represented),
+        good: &[&[5]],
+        answer: Err(AuditError::NoWitness { round: 1 }),
+        ..BUILD
+    },
+];
+
+#[test]
+fn a_refusal_leaves_the_history_as_it_was(rt: HostRuntime) -> Result<(), NoMemory> {
+    assert_all::<F17, HostRuntime>(&rt, rt.alloc(), &REFUSALS)
+}
+
+// The faults of a shape, each mended in the next row: a name, the table, the difficulty, how many variables the statements are on, and what is told. Of
+// the last row the shape fits.
+static SHAPES: [(&str, &[u64], usize, usize, Option<ShapeFault>); 4] = [
+    (
+        "all faults",
+        &[3, 14, 15],
+        17,
+        1,
+        Some(ShapeFault::TableLength { len: 3 }),
+    ),
+    (
+        "all faults but of the table's length",
+        &[3, 14, 15, 9],
+        17,
+        1,
+        Some(ShapeFault::Difficulty {
+            bits: 17,
+            bound: 16,
+        }),
+    ),
+    (
+        "a fault of the number of variables and a later one",
+        &[3, 14, 15, 9],
+        1,
+        1,
+        Some(ShapeFault::Arity {
+            expected: 2,
+            actual: 1,
+        }),
+    ),
+    ("a later fault alone", &[3, 14, 15, 9], 1, 2, None),
+];
+
+// What is done at fault, and what is told of it where the shape fits.
+static FAULTS: [(Task, AuditError); 6] = [
+    (
+        Task::Build(Strategy::SmallValue { variables: 1 }),
+        AuditError::Unbuilt(Form::Mode),
+    ),
+    (
+        Task::Build(Strategy::Represented),
+        AuditError::FalseClaim {
+            statement: 0,
+            claimed: 9,
+            actual: 14,
+        },
+    ),
+    (
+        Task::Build(Strategy::Plain),
+        AuditError::FalseClaim {
+            statement: 0,
+            claimed: 9,
+            actual: 14,
+        },
+    ),
+    (
+        Task::CheckNone,
+        AuditError::MissingSumcheckData { expected_rounds: 2 },
+    ),
+    (
+        Task::Check(&[(15, 7)], &[7, 7, 7]),
+        AuditError::RoundCountMismatch {
+            expected: 2,
+            actual: 1,
+        },
+    ),
+    (
+        Task::Check(&[(15, 7), (5, 11)], &[7, 7, 7]),
+        AuditError::PowWitnessCountMismatch {
+            expected: 2,
+            actual: 3,
+        },
+    ),
+];
+
+// Claims on one variable and on two, of which those are left that are on as many as the case says; all are false, and no witness passes.
+static FALSE_EITHER_WAY: Case = Case {
+    claims: &[(&[2], 5), (&[2, 5], 9)],
+    ..REFUSED
+};
+
+// Which of two faults comes first.
+fn first(fault: AuditError, shape_fault: Option<ShapeFault>) -> AuditError {
+    match (fault, shape_fault) {
+        (AuditError::Unbuilt(form), _) => AuditError::Unbuilt(form),
+        (_, Some(shape_fault)) => AuditError::JobShape(shape_fault),
+        (fault, None) => fault,
+    }
+}
+
+// Each shape with each fault.
+fn of_several_faults(alloc: Global) -> Result<Vec<Case>, NoMemory> {
+    let mut cases = Vec::new(alloc);
+    for (name, table, pow_bits, variables, shape_fault) in &SHAPES {
+        for (task, fault) in &FAULTS {
+            cases.push(Case {
+                name: *name,
+                table: *table,
+                pow_bits: *pow_bits,
+                variables: *variables,
+                task: *task,
+                answer: Err(first(*fault, *shape_fault)),
+                ..FALSE_EITHER_WAY
+            })?;
+        }
+    }
+    Ok(cases)
+}
+
+#[test]
+fn the_first_fault_is_told(rt: HostRuntime) -> Result<(), NoMemory> {
+    let cases = of_several_faults(rt.alloc())?;
+    assert_all::<F17, HostRuntime>(&rt, rt.alloc(), &cases)
+}
+
+// Tables of the greatest length, of the next one and of the next power of two.
+static LONG: [Case; 3] = [
+    Case {
+        name: "2^24 rows",
+        rows: 16777216,
+        answer: Err(AuditError::JobShape(ShapeFault::Arity {
+            expected: 24,
+            actual: 2,
+        })),
+        ..BUILD
+    },
+    Case {
+        name: "2^24 rows and one",
+        rows: 16777217,
+        answer: Err(AuditError::JobShape(ShapeFault::TableLength { len: 16777217 })),
+        ..BUILD
+    },
+    Case {
+        name: "2^25 rows",
+        rows: 33554432,
+        answer: Err(AuditError::JobShape(ShapeFault::TableLength { len: 33554432 })),
+        ..BUILD
+    },
+];
+
+#[test]
+fn a_table_of_more_than_two_to_the_24_rows_is_refused(rt: HostRuntime) -> Result<(), NoMemory> {
+    assert_all::<F17, HostRuntime>(&rt, rt.alloc(), &LONG)
+}

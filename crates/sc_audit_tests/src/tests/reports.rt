@@ -1,0 +1,501 @@
+//! Rounds that are built or checked.
+use super::seventeen::F17;
+use super::{
+    Case, Figures, ONE_ROUND, PREFIX, TWO_TESTED_ROUNDS, Task, assert_all, challenger, job,
+    wrong_in,
+};
+use sc_audit::{AuditError, Form, Job, Mode, Strategy, audit};
+use sc_challenger::ScriptedChallenger;
+use sc_definitions::Event::{Draw, Test, Word};
+use sc_field::{F65537, Field, NoMemory};
+use sc_table::VariableOrder;
+use std::alloc::Global;
+use std::process::Abort;
+
+// In suffix order, with the claims in two groups.
+const SUFFIX: Case = Case {
+    name: "suffix order",
+    claims: &[(&[2, 5], 14)],
+    further: &[(&[11, 3], 15)],
+    order: VariableOrder::Suffix,
+    answer: Ok(Figures {
+        claim: 6,
+        rounds: &[(2, 13), (9, 3)],
+        witnesses: &[],
+        challenges: &[8, 12],
+        residual: 12,
+        eval: 14,
+        weight: 13,
+        holds: true,
+    }),
+    events: &[Word(2), Word(13), Draw, Word(9), Word(3), Draw],
+    ..PREFIX
+};
+
+// Over the integers modulo 65537.
+const LARGE_PREFIX: Case = Case {
+    name: "prefix order modulo 65537",
+    table: &[1, 2, 3, 4],
+    claims: &[(&[0, 1], 2)],
+    batching: 1,
+    draws: &[3, 4],
+    answer: Ok(Figures {
+        claim: 2,
+        rounds: &[(2, 65535), (0, 65535)],
+        witnesses: &[],
+        challenges: &[3, 4],
+        residual: 65449,
+        eval: 11,
+        weight: 65529,
+        holds: true,
+    }),
+    events: &[Word(2), Word(65535), Draw, Word(0), Word(65535), Draw],
+    ..PREFIX
+};
+
+const LARGE_SUFFIX: Case = Case {
+    name: "suffix order modulo 65537",
+    order: VariableOrder::Suffix,
+    answer: Ok(Figures {
+        claim: 2,
+        rounds: &[(0, 1), (12, 65531)],
+        witnesses: &[],
+        challenges: &[3, 4],
+        residual: 65429,
+        eval: 12,
+        weight: 65528,
+        holds: true,
+    }),
+    events: &[Word(0), Word(1), Draw, Word(12), Word(65531), Draw],
+    ..LARGE_PREFIX
+};
+
+// The first case with a test of one bit each round.
+const TESTED: Case = Case {
+    name: "prefix order with tests",
+    pow_bits: 1,
+    good: &[&[5, 9], &[6]],
+    answer: Ok(Figures {
+        claim: 6,
+        rounds: &[(15, 7), (5, 11)],
+        witnesses: &[5, 6],
+        challenges: &[8, 12],
+        residual: 7,
+        eval: 10,
+        weight: 16,
+        holds: true,
+    }),
+    seed: &TWO_TESTED_ROUNDS,
+    events: &[
+        Word(15),
+        Word(7),
+        Word(5),
+        Test(1),
+        Draw,
+        Word(5),
+        Word(11),
+        Word(6),
+        Test(1),
+        Draw,
+    ],
+    ..PREFIX
+};
+
+// The same on a representation, which the field is of itself.
+const REPRESENTED: Case = Case {
+    name: "prefix order on a representation",
+    task: Task::Build(Strategy::Represented),
+    ..PREFIX
+};
+
+const REPRESENTED_SUFFIX: Case = Case {
+    name: "suffix order on a representation",
+    task: Task::Build(Strategy::Represented),
+    ..SUFFIX
+};
+
+const REPRESENTED_TESTED: Case = Case {
+    name: "prefix order with tests on a representation",
+    task: Task::Build(Strategy::Represented),
+    ..TESTED
+};
+
+// Rounds that were built, of which one was altered.
+const ALTERED_FIRST: Case = Case {
+    name: "another value at 0 in the first round",
+    task: Task::Check(&[(4, 7), (5, 11)], &[]),
+    answer: Ok(Figures {
+        claim: 6,
+        rounds: &[(4, 7), (5, 11)],
+        witnesses: &[],
+        challenges: &[8, 12],
+        residual: 15,
+        eval: 10,
+        weight: 16,
+        holds: false,
+    }),
+    events: &[Word(4), Word(7), Draw, Word(5), Word(11), Draw],
+    ..PREFIX
+};
+
+const ALTERED_LAST: Case = Case {
+    name: "another leading coefficient in the last round",
+    task: Task::Check(&[(2, 13), (9, 4)], &[]),
+    answer: Ok(Figures {
+        claim: 6,
+        rounds: &[(2, 13), (9, 4)],
+        witnesses: &[],
+        challenges: &[8, 12],
+        residual: 8,
+        eval: 14,
+        weight: 13,
+        holds: false,
+    }),
+    events: &[Word(2), Word(13), Draw, Word(9), Word(4), Draw],
+    ..SUFFIX
+};
+
+const ALTERED_TESTED: Case = Case {
+    name: "another leading coefficient behind which the witnesses pass",
+    task: Task::Check(&[(15, 8), (5, 11)], &[5, 6]),
+    answer: Ok(Figures {
+        claim: 6,
+        rounds: &[(15, 8), (5, 11)],
+        witnesses: &[5, 6],
+        challenges: &[8, 12],
+        residual: 16,
+        eval: 10,
+        weight: 16,
+        holds: false,
+    }),
+    events: &[
+        Word(15),
+        Word(8),
+        Word(5),
+        Test(1),
+        Draw,
+        Word(5),
+        Word(11),
+        Word(6),
+        Test(1),
+        Draw,
+    ],
+    ..TESTED
+};
+
+// A false claim over the integers modulo 65537, and a round under which the residual is right at the challenge 2.
+const LUCKY_ROUND: Case = Case {
+    name: "a round that made a false claim true",
+    table: &[1, 2],
+    variables: 1,
+    claims: &[(&[0], 5)],
+    batching: 1,
+    task: Task::Check(&[(5, 1)], &[]),
+    draws: &[2],
+    answer: Err(AuditError::Unbuilt(Form::Verdict)),
+    seed: &ONE_ROUND,
+    events: &[Word(5), Word(1), Draw],
+    ..LARGE_PREFIX
+};
+
+const UNLUCKY_ROUND: Case = Case {
+    name: "the same round at another challenge",
+    draws: &[3],
+    answer: Ok(Figures {
+        claim: 5,
+        rounds: &[(5, 1)],
+        witnesses: &[],
+        challenges: &[3],
+        residual: 65533,
+        eval: 4,
+        weight: 65535,
+        holds: false,
+    }),
+    ..LUCKY_ROUND
+};
+
+// Two false claims whose batch is true under the challenge 3, and the round of an honest prover.
+const LUCKY_BATCH: Case = Case {
+    name: "two false claims whose batch is true",
+    claims: &[(&[0], 4), (&[1], 1)],
+    batching: 3,
+    task: Task::Check(&[(1, 2)], &[]),
+    draws: &[5],
+    events: &[Word(1), Word(2), Draw],
+    ..LUCKY_ROUND
+};
+
+const UNLUCKY_BATCH: Case = Case {
+    name: "the same claims under another challenge",
+    batching: 4,
+    answer: Ok(Figures {
+        claim: 8,
+        rounds: &[(1, 2)],
+        witnesses: &[],
+        challenges: &[5],
+        residual: 71,
+        eval: 6,
+        weight: 16,
+        holds: false,
+    }),
+    ..LUCKY_BATCH
+};
+
+// A table of one row.
+const POINT: Case = Case {
+    name: "no proof",
+    table: &[7],
+    variables: 0,
+    claims: &[(&[], 7)],
+    task: Task::CheckNone,
+    answer: Ok(Figures {
+        claim: 7,
+        rounds: &[],
+        witnesses: &[],
+        challenges: &[],
+        residual: 7,
+        eval: 7,
+        weight: 1,
+        holds: true,
+    }),
+    seed: &[],
+    events: &[],
+    ..PREFIX
+};
+
+static POINTS: [Case; 8] = [
+    POINT,
+    Case {
+        name: "no proof behind a history",
+        past: &[Word(3), Word(16), Draw],
+        ..POINT
+    },
+    Case {
+        name: "a proof of no rounds",
+        task: Task::Check(&[], &[]),
+        ..POINT
+    },
+    Case {
+        name: "a build",
+        task: Task::Build(Strategy::Plain),
+        ..POINT
+    },
+    Case {
+        name: "a build on a representation",
+        task: Task::Build(Strategy::Represented),
+        ..POINT
+    },
+    Case {
+        name: "a difficulty",
+        pow_bits: 1,
+        ..POINT
+    },
+    Case {
+        name: "a false claim",
+        claims: &[(&[], 6)],
+        answer: Ok(Figures {
+            claim: 6,
+            rounds: &[],
+            witnesses: &[],
+            challenges: &[],
+            residual: 6,
+            eval: 7,
+            weight: 1,
+            holds: false,
+        }),
+        ..POINT
+    },
+    Case {
+        name: "a proof of one round",
+        past: &[Word(3), Word(16), Draw],
+        task: Task::Check(&[(5, 1)], &[]),
+        answer: Err(AuditError::RoundCountMismatch {
+            expected: 0,
+            actual: 1,
+        }),
+        ..POINT
+    },
+];
+
+// The least witness that passes comes last in its list.
+const TURNED: Case = Case {
+    name: "a list in another order",
+    good: &[&[9, 5], &[6]],
+    ..TESTED
+};
+
+// The rounds with tests as a proof.
+const HANDED_IN: Case = Case {
+    name: "the first witnesses that pass",
+    task: Task::Check(&[(15, 7), (5, 11)], &[5, 6]),
+    ..TESTED
+};
+
+const OTHER_WITNESS: Case = Case {
+    name: "another witness that passes",
+    task: Task::Check(&[(15, 7), (5, 11)], &[9, 6]),
+    answer: Ok(Figures {
+        claim: 6,
+        rounds: &[(15, 7), (5, 11)],
+        witnesses: &[9, 6],
+        challenges: &[8, 12],
+        residual: 7,
+        eval: 10,
+        weight: 16,
+        holds: true,
+    }),
+    events: &[
+        Word(15),
+        Word(7),
+        Word(9),
+        Test(1),
+        Draw,
+        Word(5),
+        Word(11),
+        Word(6),
+        Test(1),
+        Draw,
+    ],
+    ..TESTED
+};
+
+const FAILS_SECOND: Case = Case {
+    name: "a witness that fails in the second round",
+    good: &[&[5], &[7]],
+    answer: Err(AuditError::InvalidPowWitness {
+        round: 1,
+        difficulty: 1,
+    }),
+    events: &[
+        Word(15),
+        Word(7),
+        Word(5),
+        Test(1),
+        Draw,
+        Word(5),
+        Word(11),
+        Word(6),
+        Test(1),
+    ],
+    ..HANDED_IN
+};
+
+const FAILS_FIRST: Case = Case {
+    name: "a witness that fails in the first round",
+    task: Task::Check(&[(15, 7), (5, 11)], &[6, 6]),
+    answer: Err(AuditError::InvalidPowWitness {
+        round: 0,
+        difficulty: 1,
+    }),
+    events: &[Word(15), Word(7), Word(6), Test(1)],
+    ..FAILS_SECOND
+};
+
+// The same behind a history with a draw.
+static BEHIND: [Case; 3] = [
+    Case {
+        name: "rounds that are built",
+        draws: &[13, 8, 12],
+        past: &[Word(3), Word(16), Draw],
+        ..PREFIX
+    },
+    Case {
+        name: "rounds that are built on a representation",
+        task: Task::Build(Strategy::Represented),
+        draws: &[13, 8, 12],
+        past: &[Word(3), Word(16), Draw],
+        ..PREFIX
+    },
+    Case {
+        name: "a witness that fails",
+        draws: &[13, 8, 12],
+        past: &[Word(3), Word(16), Draw],
+        ..FAILS_SECOND
+    },
+];
+
+static HONEST: [Case; 4] = [PREFIX, SUFFIX, REPRESENTED, REPRESENTED_SUFFIX];
+
+static LARGE_HONEST: [Case; 2] = [LARGE_PREFIX, LARGE_SUFFIX];
+
+static BUILT: [Case; 4] = [PREFIX, SUFFIX, TESTED, REPRESENTED_TESTED];
+
+static ALTERED: [Case; 3] = [ALTERED_FIRST, ALTERED_LAST, ALTERED_TESTED];
+
+static LUCKY: [Case; 4] = [LUCKY_ROUND, UNLUCKY_ROUND, LUCKY_BATCH, UNLUCKY_BATCH];
+
+static WITNESSES: [Case; 5] = [TESTED, REPRESENTED_TESTED, TURNED, HANDED_IN, OTHER_WITNESS];
+
+static FAILS: [Case; 2] = [FAILS_SECOND, FAILS_FIRST];
+
+#[test]
+fn honest_rounds_are_built_in_either_order(rt: HostRuntime) -> Result<(), NoMemory> {
+    assert_all::<F17, HostRuntime>(&rt, rt.alloc(), &HONEST)?;
+    assert_all::<F65537, HostRuntime>(&rt, rt.alloc(), &LARGE_HONEST)
+}
+
+// A case's job with the rounds that it builds as a proof.
+fn checking_job<F: Field>(alloc: Global, case: &Case) -> Result<Job<F, F>, AuditError> {
+    let mut challenger = challenger::<F>(alloc, case)?;
+    let mut job = job::<F, F>(alloc, case)?;
+    let report = audit::<F, F, F, ScriptedChallenger<F>>(alloc, &job, &mut challenger)?;
+    job.mode = Mode::Check(Some(report.rounds));
+    Ok(job)
+}
+
+// The first part of what an audit of this proof answers and leaves that is not as the case says, if there is one.
+fn wrong_again<F: Field>(alloc: Global, case: &Case) -> Result<Option<&'static str>, AuditError> {
+    let job = checking_job::<F>(alloc, case)?;
+    let mut challenger = challenger::<F>(alloc, case)?;
+    Ok(wrong_in::<F, F, F>(alloc, case, &job, &mut challenger)?)
+}
+
+// Asserts that each of these builds has its report and its history again where its rounds are checked.
+fn assert_again<F: Field, A: Abort>(
+    rt: &A,
+    alloc: Global,
+    cases: &[Case],
+) -> Result<(), AuditError> {
+    for case in cases {
+        let name = case.name;
+        let wrong = wrong_again::<F>(alloc, case)?;
+        assert_eq!(rt; wrong, None, "{name}");
+    }
+    Ok(())
+}
+
+#[test]
+fn rounds_that_were_built_hold_when_they_are_checked(rt: HostRuntime) -> Result<(), AuditError> {
+    assert_again::<F17, HostRuntime>(&rt, rt.alloc(), &BUILT)?;
+    assert_again::<F65537, HostRuntime>(&rt, rt.alloc(), &LARGE_HONEST)
+}
+
+#[test]
+fn altered_rounds_are_refuted(rt: HostRuntime) -> Result<(), NoMemory> {
+    assert_all::<F17, HostRuntime>(&rt, rt.alloc(), &ALTERED)
+}
+
+#[test]
+fn a_lucky_challenge_has_no_verdict_yet(rt: HostRuntime) -> Result<(), NoMemory> {
+    assert_all::<F65537, HostRuntime>(&rt, rt.alloc(), &LUCKY)
+}
+
+#[test]
+fn no_rounds_need_no_proof_and_no_seed(rt: HostRuntime) -> Result<(), NoMemory> {
+    assert_all::<F17, HostRuntime>(&rt, rt.alloc(), &POINTS)
+}
+
+#[test]
+fn a_positive_difficulty_takes_a_witness_each_round(rt: HostRuntime) -> Result<(), NoMemory> {
+    assert_all::<F17, HostRuntime>(&rt, rt.alloc(), &WITNESSES)
+}
+
+#[test]
+fn the_history_ends_with_the_test_that_fails(rt: HostRuntime) -> Result<(), NoMemory> {
+    assert_all::<F17, HostRuntime>(&rt, rt.alloc(), &FAILS)
+}
+
+#[test]
+fn everything_comes_behind_the_history_that_there_was(rt: HostRuntime) -> Result<(), NoMemory> {
+    assert_all::<F17, HostRuntime>(&rt, rt.alloc(), &BEHIND)
+}

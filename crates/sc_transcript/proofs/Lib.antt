@@ -1,0 +1,5 @@
+pub mod StepLaws
+pub mod RoundWords
+pub mod WitnessReads
+pub mod SeedLaws
+pub mod ReplayedLaws

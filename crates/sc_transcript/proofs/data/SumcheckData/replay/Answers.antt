@@ -1,0 +1,57 @@
+use Rattle.std.proofs.Common.{refl, ap, sym, ◌+◌, ◌∙◌, map, length, rules}
+use Rattle.std.proofs.lemmas.List.{length-map}
+use Rattle.sc_definitions.proofs.ReplayLaws.{length-given_rounds}
+use Rattle.sc_transcript.proofs.ReplayedLaws.{replays_begin, replays_step, replays_end, counted_whole, same_count, room_left, leaves_refused}
+use Rattle.sc_transcript.proofs.data.SumcheckData.replay.Goals as goal
+
+pub rounds-init : goal.rounds-init
+rounds-init g c = record {
+  same = refl;
+  rules = ap g.C.Challenger.rules c.over-transcript.ensures.same;
+  replays = replays_begin _ _ _ _ _ _ _ _ (ap g.C.Challenger.history c.over-transcript.ensures.same) (ap (map g.EF.Field.number) c.requires.empty);
+  shape = c.over-transcript.ensures.shape;
+  played = c.over-transcript.ensures.played;
+  len = search rules;
+  room = c.requires.room;
+}
+
+pub round-requires : goal.round-requires
+round-requires g c = rw (c.rounds.invariant.played, c.rounds.invariant.shape) c.rounds-test.true
+
+pub round_at-requires : goal.round_at-requires
+round_at-requires g c = rw c.requires.counted c.rounds-test.true
+
+pub push_reserved-requires : goal.push_reserved-requires
+push_reserved-requires g c = room_left _ _ _ _ c.rounds.invariant.len c.rounds-test.true c.rounds.invariant.room
+
+pub finish-requires : goal.finish-requires
+finish-requires g c = c.rounds.invariant.played ∙ same_count _ _ c.rounds.auto.i-end c.rounds-test.false ∙ ap (λ s. s.num_rounds) (sym c.rounds.invariant.shape)
+
+pub rounds-preserved : goal.rounds-preserved
+rounds-preserved g c =
+    let before = c.rounds.invariant in
+    let played = c.in-Ok.ensures in
+    record {
+      same = played.same_reference ∙ before.same;
+      rules = played.rules ∙ before.rules;
+      replays = replays_step g.EF.Field.number _ _ _ _ _ _ _ _ _ c.rounds.i _ _ _ _ _ _ _ _ c.round_at.ensures.round before.rules (ap (λ s. s.pow_bits) before.shape) before.replays
+          played.history played.drawn c.reduce_claim.ensures played.passes c.push_reserved.ensures.items;
+      shape = played.shape ∙ before.shape;
+      played = played.played ∙ ap (λ n. n + 1) before.played;
+      len = rw (c.push_reserved.ensures.len, before.len) refl;
+      room = rw c.push_reserved.ensures.capacity before.room;
+    }
+
+pub returns-clause-leaves : goal.returns-clause-leaves
+returns-clause-leaves g c =
+    replays_end _ _ _ _ _ _ _ c.rounds.i _ _ _ _ _
+    (counted_whole c.rounds.i c.args.shape.num_rounds (length c.args.self.now.polynomial_evaluations.items) _ c.rounds.auto.i-end c.rounds-test.false (search rules) (length-given_rounds _ _ ∙ length-map _ _))
+    (search rules) (ap (map g.EF.Field.number) c.new.ensures) c.rounds.invariant.replays
+
+pub returns-in-Err-clause-leaves : goal.returns-in-Err-clause-leaves
+returns-in-Err-clause-leaves g c =
+    let before = c.rounds.invariant in
+    let refused = c.in-Err.ensures in
+    leaves_refused _ _ _ g.EF.Field.number _ _ _ _ _ _ _ _ _ c.rounds.i c.args.shape.num_rounds _ _ _ _ _ _ _ _ _ _ before.rules (ap (λ s. s.pow_bits) before.shape) before.played before.replays
+    c.round_at.ensures.round c.round_at.ensures.witness c.requires.witnessed c.rounds-test.true
+    refused.causes refused.missing refused.fails refused.invalid refused.no_memory (search rules)

@@ -1,0 +1,5 @@
+pub mod Shapes
+pub mod Data
+pub mod Invalid
+pub mod Laws
+pub mod Replayed

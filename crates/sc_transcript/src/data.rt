@@ -1,0 +1,334 @@
+//! The data of a proof, and the verifier's replay of it.
+ghost use Rattle.std.specs.Prelude.{◌≡◌, ◌≢◌, ◌⊎◌, ◌↔◌, ℕ, ◌+◌, ◌<◌, ◌≤◌, [], ◌∷◌, ◌++◌, Err, IfOk, OnOk, OnErr, IsOk, IsErrOf, IsSome, IsNone, IfSome, Some, length, map, vec_len, vec_capacity, slice_index_or, None};
+ghost use Rattle.std.specs.List.{slice_get};
+ghost use Rattle.std.specs.Option.{option_map_or};
+ghost use Rattle.sc_definitions.specs.Events.{words, NonePasses};
+ghost use Rattle.sc_definitions.specs.Rounds.{next_claim};
+ghost use Rattle.sc_definitions.specs.Transcript.{sent};
+ghost use Rattle.sc_definitions.specs.Replays.{Replays, ReplaysSome, IsInvalidAt};
+ghost use Rattle.sc_table.specs.Strategy.{basis_of};
+ghost use Rattle.sc_transcript.specs.Shapes.{seed_of, events_of, pair_round};
+ghost use Rattle.sc_transcript.specs.Data.{rounds_in, witness_count};
+ghost use Rattle.sc_transcript.specs.Invalid.{IsInvalid};
+ghost use Rattle.sc_transcript.specs.Replayed.{Leaves};
+
+use crate::error::SumcheckError;
+use crate::transcript::{ProverTranscript, SumcheckShape, VerifierTranscript};
+use sc_challenger::Challenger;
+use sc_field::{ExtensionField, Field, NoMemory, with_room};
+use sc_table::{Basis, Point, RoundMessage};
+use std::alloc::Global;
+
+/// What a prover sends in the rounds of a sumcheck.
+#[derive(Drop)]
+pub struct SumcheckData<F, EF> {
+    /// The two values of each round, the first round first.
+    pub polynomial_evaluations: Vec<RoundMessage<EF>>,
+    /// The witness of each round at a positive difficulty, and none without one.
+    pub pow_witnesses: Vec<F>,
+}
+
+impl<F: Field, EF: ExtensionField<F>> SumcheckData<F, EF> {
+    ghost use Rattle.sc_transcript.specs.Data.{messages_in, witnesses_in, spare_in, IsAppended};
+
+    /// Data without rounds.
+    pub fn new(alloc: Global) -> Self
+        ensures messages { messages_in EF.number result ≡ [] }
+        ensures witnesses { witnesses_in F.number result ≡ [] }
+    {
+        SumcheckData {
+            polynomial_evaluations: Vec::new(alloc),
+            pow_witnesses: Vec::new(alloc),
+        }
+    }
+
+    /// The two values of each round.
+    pub fn polynomial_evaluations(&self) -> &[RoundMessage<EF>]
+        ensures { result.now ≡ self.now.polynomial_evaluations.items }
+    {
+        &self.polynomial_evaluations
+    }
+
+    /// How many rounds there are.
+    pub fn num_rounds(&self) -> usize
+        ensures { result ≡ vec_len self.now.polynomial_evaluations }
+    {
+        self.polynomial_evaluations.len()
+    }
+
+    /// Makes room for this many more rounds. Room that was there stays, and where it was enough the answer is `Ok`. The rounds stay.
+    pub fn reserve(&mut self, rounds: usize) -> Result<(), NoMemory>
+        ensures messages { messages_in EF.number self.new ≡ messages_in EF.number self.old }
+        ensures witnesses { witnesses_in F.number self.new ≡ witnesses_in F.number self.old }
+        ensures ok { OnOk result (rounds ≤ spare_in self.new) }
+        ensures never_lowers { spare_in self.old ≤ spare_in self.new }
+        ensures has_room { rounds ≤ spare_in self.old → IsOk result }
+    {
+        self.polynomial_evaluations.reserve(rounds)?;
+        self.pow_witnesses.reserve(rounds)?;
+        Ok(())
+    }
+
+    /// The same data, in memory of its own.
+    pub fn copy(&self, alloc: Global) -> Result<Self, NoMemory>
+        ensures messages { IfOk result (λ d. messages_in EF.number d ≡ messages_in EF.number self.now) }
+        ensures witnesses { IfOk result (λ d. witnesses_in F.number d ≡ witnesses_in F.number self.now) }
+    {
+        Ok(SumcheckData {
+            polynomial_evaluations: Vec::from_slice(alloc, &self.polynomial_evaluations)?,
+            pow_witnesses: Vec::from_slice(alloc, &self.pow_witnesses)?,
+        })
+    }
+
+    /// Plays a round of these values, appends it, and answers its challenge. What the values mean is the basis of the transcript's shape.
+    ///
+    /// The refusals are those of [`ProverTranscript::round`], and leave the data as it was. Where the data has room for a round and the challenger for
+    /// its events, none of them is `NoMemory`, and the round takes no more room than that.
+    pub fn observe_and_sample<C: Challenger<F>>(
+        &mut self,
+        transcript: &mut ProverTranscript<'_, C, F, EF>,
+        c_a: EF,
+        c_inf: EF,
+    ) -> Result<EF, SumcheckError>
+        requires { transcript.old.played < transcript.old.shape.num_rounds }
+        ensures same_reference { transcript.new.challenger.ghost_name ≡ transcript.old.challenger.ghost_name }
+        ensures rules { C.rules transcript.new.challenger.now ≡ C.rules transcript.old.challenger.now }
+        ensures shape { transcript.new.shape ≡ transcript.old.shape }
+        ensures played { OnOk result (transcript.new.played ≡ transcript.old.played + 1) }
+        ensures not_played { OnErr result (transcript.new.played ≡ transcript.old.played) }
+        ensures appended { IfOk result (λ r. IsAppended (C.rules transcript.old.challenger.now) EF.extension transcript.old.shape.pow_bits (C.history transcript.old.challenger.now)
+            (EF.number c_a ∷ EF.number c_inf ∷ []) (EF.number r) (C.history transcript.new.challenger.now)
+            (messages_in EF.number self.old) (witnesses_in F.number self.old) (messages_in EF.number self.new) (witnesses_in F.number self.new)) }
+        ensures messages { OnErr result (messages_in EF.number self.new ≡ messages_in EF.number self.old) }
+        ensures witnesses { OnErr result (witnesses_in F.number self.new ≡ witnesses_in F.number self.old) }
+        ensures causes { OnErr result ((result ≡ Err SumcheckError.NoMemory) ⊎ (result ≡ Err (SumcheckError.NoWitness transcript.old.played))) }
+        ensures none_passes { result ≡ Err (SumcheckError.NoWitness transcript.old.played) → (0 < transcript.old.shape.pow_bits)
+            × NonePasses (C.rules transcript.old.challenger.now) (C.history transcript.old.challenger.now ++ sent EF.extension (EF.number c_a ∷ EF.number c_inf ∷ [])) transcript.old.shape.pow_bits F.ops.size }
+        ensures no_witness { result ≡ Err (SumcheckError.NoWitness transcript.old.played) → C.history transcript.new.challenger.now
+            ≡ C.history transcript.old.challenger.now ++ sent EF.extension (EF.number c_a ∷ EF.number c_inf ∷ []) }
+        ensures no_memory { result ≡ Err SumcheckError.NoMemory → C.history transcript.new.challenger.now ≡ C.history transcript.old.challenger.now }
+        ensures has_room { 1 ≤ spare_in self.old → events_of EF.DEGREE transcript.old.shape.pow_bits ≤ C.spare transcript.old.challenger.now → result ≢ Err SumcheckError.NoMemory }
+        ensures spare { OnOk result (C.spare transcript.old.challenger.now ≤ C.spare transcript.new.challenger.now + events_of EF.DEGREE transcript.old.shape.pow_bits) }
+        ensures room { OnOk result (spare_in self.old ≤ spare_in self.new + 1) }
+        ensures room_kept { OnErr result (spare_in self.old ≤ spare_in self.new) }
+    {
+        self.reserve(1)?;
+        let (challenge, witness) = transcript.round(c_a, c_inf)?;
+        self.polynomial_evaluations
+            .push_reserved(RoundMessage { c_a, c_inf });
+        if let Some(witness) = witness {
+            self.pow_witnesses.push_reserved(witness);
+        }
+        Ok(challenge)
+    }
+
+    /// Replays the rounds, as many as expected, at a difficulty of at most the challenger's [`Challenger::max_bits`], and answers their challenges in
+    /// drawing order. Each round folds `claimed_sum` to the value of the sent polynomial at its challenge.
+    ///
+    /// `RoundCountMismatch` comes exactly where the data has another number of rounds, else `PowWitnessCountMismatch` exactly where it has not one witness
+    /// a round at a positive difficulty and none without one; both before any event, and both leave everything as it was. `InvalidPowWitness` names the
+    /// first round whose witness fails: the history ends with its test, and `claimed_sum` is folded as many times. After `NoMemory` the history is the
+    /// old one followed by the events of some of the rounds, and `claimed_sum` is folded once for each of these.
+    pub fn verify_rounds<C: Challenger<F>>(
+        &self,
+        alloc: Global,
+        challenger: &mut C,
+        claimed_sum: &mut EF,
+        expected_rounds: usize,
+        pow_bits: usize,
+        basis: Basis,
+    ) -> Result<Point<EF>, SumcheckError>
+        requires { pow_bits ≤ (C.rules challenger.old).max_bits }
+        ensures rules { C.rules challenger.new ≡ C.rules challenger.old }
+        ensures rounds { result ≡ Err (SumcheckError.RoundCountMismatch expected_rounds (vec_len self.now.polynomial_evaluations))
+            ↔ (vec_len self.now.polynomial_evaluations ≢ expected_rounds) }
+        ensures witnesses { result ≡ Err (SumcheckError.PowWitnessCountMismatch (witness_count pow_bits expected_rounds) (vec_len self.now.pow_witnesses))
+            ↔ ((vec_len self.now.polynomial_evaluations ≡ expected_rounds) × (vec_len self.now.pow_witnesses ≢ witness_count pow_bits expected_rounds)) }
+        ensures counted { ((vec_len self.now.polynomial_evaluations ≢ expected_rounds) ⊎ (vec_len self.now.pow_witnesses ≢ witness_count pow_bits expected_rounds))
+            → (C.history challenger.new ≡ C.history challenger.old) × (claimed_sum.new ≡ claimed_sum.old) }
+        ensures ok { IfOk result (λ point. Replays (next_claim (basis_of basis) EF.ops) (C.rules challenger.old) EF.extension pow_bits
+            (C.history challenger.old ++ words (seed_of EF.DEGREE (record { num_rounds = expected_rounds; pow_bits = pow_bits; basis = basis }))) (EF.number claimed_sum.old)
+            (rounds_in F.number EF.number self.now) (C.history challenger.new) (map EF.number point) (EF.number claimed_sum.new)) }
+        ensures invalid { (i bits : ℕ) → result ≡ Err (SumcheckError.InvalidPowWitness i bits) → (bits ≡ pow_bits)
+            × IsInvalidAt (next_claim (basis_of basis) EF.ops) (C.rules challenger.old) EF.extension pow_bits
+            (C.history challenger.old ++ words (seed_of EF.DEGREE (record { num_rounds = expected_rounds; pow_bits = pow_bits; basis = basis }))) (EF.number claimed_sum.old)
+            (rounds_in F.number EF.number self.now) i (C.history challenger.new) (EF.number claimed_sum.new) }
+        ensures no_memory { result ≡ Err SumcheckError.NoMemory
+            → ((C.history challenger.new ≡ C.history challenger.old) × (claimed_sum.new ≡ claimed_sum.old))
+            ⊎ ReplaysSome (next_claim (basis_of basis) EF.ops) (C.rules challenger.old) EF.extension pow_bits
+            (C.history challenger.old ++ words (seed_of EF.DEGREE (record { num_rounds = expected_rounds; pow_bits = pow_bits; basis = basis }))) (EF.number claimed_sum.old)
+            (rounds_in F.number EF.number self.now) (C.history challenger.new) (EF.number claimed_sum.new) }
+        ensures causes { OnErr result ((vec_len self.now.polynomial_evaluations ≢ expected_rounds) ⊎ (vec_len self.now.pow_witnesses ≢ witness_count pow_bits expected_rounds)
+            ⊎ (result ≡ Err SumcheckError.NoMemory) ⊎ IsInvalid result) }
+    {
+        self.check_counts(expected_rounds, pow_bits)?;
+        let shape = SumcheckShape {
+            num_rounds: expected_rounds,
+            pow_bits,
+            basis,
+        };
+        self.seed_and_replay(alloc, challenger, claimed_sum, shape)
+    }
+
+    // Observes the seed, and replays the rounds behind it. The room for the challenges is made first, so that its refusal leaves everything as it was.
+    fn seed_and_replay<C: Challenger<F>>(
+        &self,
+        alloc: Global,
+        challenger: &mut C,
+        claimed_sum: &mut EF,
+        shape: SumcheckShape,
+    ) -> Result<Point<EF>, SumcheckError>
+        requires tested { shape.pow_bits ≤ (C.rules challenger.old).max_bits }
+        requires counted { vec_len self.now.polynomial_evaluations ≡ shape.num_rounds }
+        requires witnessed { vec_len self.now.pow_witnesses ≡ witness_count shape.pow_bits shape.num_rounds }
+        ensures rules { C.rules challenger.new ≡ C.rules challenger.old }
+        ensures leaves { ((result ≡ Err SumcheckError.NoMemory) × (C.history challenger.new ≡ C.history challenger.old) × (claimed_sum.new ≡ claimed_sum.old))
+            ⊎ Leaves EF.number (next_claim (basis_of shape.basis) EF.ops) (C.rules challenger.old) EF.extension shape.pow_bits
+            (C.history challenger.old ++ words (seed_of EF.DEGREE shape)) (EF.number claimed_sum.old)
+            (rounds_in F.number EF.number self.now) result (C.history challenger.new) (EF.number claimed_sum.new) }
+    {
+        let challenges = with_room(alloc, shape.num_rounds)?;
+        shape.seed::<F, EF, C>(alloc, challenger)?;
+        self.replay(challenger, claimed_sum, shape, challenges)
+    }
+
+    // Replays the rounds behind the seed. There is room for the challenges.
+    fn replay<C: Challenger<F>>(
+        &self,
+        challenger: &mut C,
+        claimed_sum: &mut EF,
+        shape: SumcheckShape,
+        mut challenges: Vec<EF>,
+    ) -> Result<Point<EF>, SumcheckError>
+        requires tested { shape.pow_bits ≤ (C.rules challenger.old).max_bits }
+        requires counted { vec_len self.now.polynomial_evaluations ≡ shape.num_rounds }
+        requires witnessed { vec_len self.now.pow_witnesses ≡ witness_count shape.pow_bits shape.num_rounds }
+        requires empty { challenges.items ≡ [] }
+        requires room { shape.num_rounds ≤ vec_capacity challenges }
+        ensures rules { C.rules challenger.new ≡ C.rules challenger.old }
+        ensures leaves { Leaves EF.number (next_claim (basis_of shape.basis) EF.ops) (C.rules challenger.old) EF.extension shape.pow_bits
+            (C.history challenger.old) (EF.number claimed_sum.old)
+            (rounds_in F.number EF.number self.now) result (C.history challenger.new) (EF.number claimed_sum.new) }
+    {
+        let basis = shape.basis;
+        let mut transcript: VerifierTranscript<'_, C, F, EF> = VerifierTranscript::over(
+            challenger, shape,
+        );
+        'rounds: for i in 0..shape.num_rounds {
+            let (message, witness) = self.round_at(i);
+            match transcript.round(message.c_a, message.c_inf, witness) {
+                Ok(r) => {
+                    *claimed_sum = basis.reduce_claim(message.c_a, message.c_inf, r, *claimed_sum);
+                    challenges.push_reserved(r);
+                }
+                Err(error) => {
+                    transcript.abort();
+                    return Err(error);
+                }
+            }
+        }
+        transcript.finish();
+        Ok(Point::new(challenges))
+    }
+
+    // The values of a round, and its witness if one came.
+    fn round_at(&self, i: usize) -> (RoundMessage<EF>, Option<F>)
+        requires { i < vec_len self.now.polynomial_evaluations }
+        ensures round { slice_get (rounds_in F.number EF.number self.now) i
+            ≡ Some (pair_round (EF.number result.0.c_a) (EF.number result.0.c_inf) (option_map_or F.number result.1 0)) }
+        ensures witness { i < vec_len self.now.pow_witnesses → IsSome result.1 }
+    {
+        (
+            self.polynomial_evaluations[i],
+            witness_at(&self.pow_witnesses, i),
+        )
+    }
+
+    // Whether there are as many rounds as expected, and as many witnesses as the difficulty asks for.
+    fn check_counts(&self, expected_rounds: usize, pow_bits: usize) -> Result<(), SumcheckError>
+        ensures ok { OnOk result ((vec_len self.now.polynomial_evaluations ≡ expected_rounds) × (vec_len self.now.pow_witnesses ≡ witness_count pow_bits expected_rounds)) }
+        ensures err { OnErr result (((result ≡ Err (SumcheckError.RoundCountMismatch expected_rounds (vec_len self.now.polynomial_evaluations)))
+            × (vec_len self.now.polynomial_evaluations ≢ expected_rounds))
+            ⊎ ((result ≡ Err (SumcheckError.PowWitnessCountMismatch (witness_count pow_bits expected_rounds) (vec_len self.now.pow_witnesses)))
+            × (vec_len self.now.polynomial_evaluations ≡ expected_rounds) × (vec_len self.now.pow_witnesses ≢ witness_count pow_bits expected_rounds))) }
+    {
+        let rounds = self.polynomial_evaluations.len();
+        if rounds != expected_rounds {
+            return Err(SumcheckError::RoundCountMismatch {
+                expected: expected_rounds,
+                actual: rounds,
+            });
+        }
+        let expected = if pow_bits == 0 { 0 } else { expected_rounds };
+        let actual = self.pow_witnesses.len();
+        if actual != expected {
+            return Err(SumcheckError::PowWitnessCountMismatch { expected, actual });
+        }
+        Ok(())
+    }
+}
+
+/// Replays the last rounds of a protocol, which may have none, and then may carry no data: for no rounds it answers an empty point, and reads neither the
+/// data nor the challenger. `MissingSumcheckData` comes exactly where there are rounds and no data came, and leaves everything as it was; else it is
+/// [`SumcheckData::verify_rounds`].
+pub fn verify_final_sumcheck_rounds<F: Field, EF: ExtensionField<F>, C: Challenger<F>>(
+    alloc: Global,
+    final_sumcheck: Option<&SumcheckData<F, EF>>,
+    challenger: &mut C,
+    claimed_sum: &mut EF,
+    rounds: usize,
+    pow_bits: usize,
+    basis: Basis,
+) -> Result<Point<EF>, SumcheckError>
+    requires { 0 < rounds → pow_bits ≤ (C.rules challenger.old).max_bits }
+    ensures rules { C.rules challenger.new ≡ C.rules challenger.old }
+    ensures none { rounds ≡ 0 → IfOk result (λ point. point ≡ []) × (C.history challenger.new ≡ C.history challenger.old) × (claimed_sum.new ≡ claimed_sum.old) × IsOk result }
+    ensures missing { result ≡ Err (SumcheckError.MissingSumcheckData rounds) ↔ ((0 < rounds) × IsNone final_sumcheck.entry) }
+    ensures untouched { IsNone final_sumcheck.entry → (C.history challenger.new ≡ C.history challenger.old) × (claimed_sum.new ≡ claimed_sum.old) }
+    ensures replayed { IfSome final_sumcheck.entry (λ data_in. 0 < rounds → IfOk result (λ point. Replays (next_claim (basis_of basis) EF.ops) (C.rules challenger.old) EF.extension pow_bits
+        (C.history challenger.old ++ words (seed_of EF.DEGREE (record { num_rounds = rounds; pow_bits = pow_bits; basis = basis }))) (EF.number claimed_sum.old)
+        (rounds_in F.number EF.number data_in.now) (C.history challenger.new) (map EF.number point) (EF.number claimed_sum.new))) }
+    ensures counted { IfSome final_sumcheck.entry (λ data_in. 0 < rounds → (result ≡ Err (SumcheckError.RoundCountMismatch rounds (vec_len data_in.now.polynomial_evaluations))
+        ↔ (vec_len data_in.now.polynomial_evaluations ≢ rounds))) }
+    ensures witnesses { IfSome final_sumcheck.entry (λ data_in. 0 < rounds
+        → (result ≡ Err (SumcheckError.PowWitnessCountMismatch (witness_count pow_bits rounds) (vec_len data_in.now.pow_witnesses))
+        ↔ ((vec_len data_in.now.polynomial_evaluations ≡ rounds) × (vec_len data_in.now.pow_witnesses ≢ witness_count pow_bits rounds)))) }
+    ensures uncounted { IfSome final_sumcheck.entry (λ data_in. 0 < rounds
+        → ((vec_len data_in.now.polynomial_evaluations ≢ rounds) ⊎ (vec_len data_in.now.pow_witnesses ≢ witness_count pow_bits rounds))
+        → (C.history challenger.new ≡ C.history challenger.old) × (claimed_sum.new ≡ claimed_sum.old)) }
+    ensures invalid { IfSome final_sumcheck.entry (λ data_in. 0 < rounds → (i bits : ℕ) → result ≡ Err (SumcheckError.InvalidPowWitness i bits) → (bits ≡ pow_bits)
+        × IsInvalidAt (next_claim (basis_of basis) EF.ops) (C.rules challenger.old) EF.extension pow_bits
+        (C.history challenger.old ++ words (seed_of EF.DEGREE (record { num_rounds = rounds; pow_bits = pow_bits; basis = basis }))) (EF.number claimed_sum.old)
+        (rounds_in F.number EF.number data_in.now) i (C.history challenger.new) (EF.number claimed_sum.new)) }
+    ensures no_memory { IfSome final_sumcheck.entry (λ data_in. 0 < rounds → result ≡ Err SumcheckError.NoMemory
+        → ((C.history challenger.new ≡ C.history challenger.old) × (claimed_sum.new ≡ claimed_sum.old))
+        ⊎ ReplaysSome (next_claim (basis_of basis) EF.ops) (C.rules challenger.old) EF.extension pow_bits
+        (C.history challenger.old ++ words (seed_of EF.DEGREE (record { num_rounds = rounds; pow_bits = pow_bits; basis = basis }))) (EF.number claimed_sum.old)
+        (rounds_in F.number EF.number data_in.now) (C.history challenger.new) (EF.number claimed_sum.new)) }
+    ensures causes { IfSome final_sumcheck.entry (λ data_in. 0 < rounds
+        → OnErr result ((vec_len data_in.now.polynomial_evaluations ≢ rounds) ⊎ (vec_len data_in.now.pow_witnesses ≢ witness_count pow_bits rounds)
+        ⊎ (result ≡ Err SumcheckError.NoMemory) ⊎ IsInvalid result)) }
+{
+    if rounds == 0 {
+        return Ok(Point::new(Vec::new(alloc)));
+    }
+    match final_sumcheck {
+        None => Err(SumcheckError::MissingSumcheckData {
+            expected_rounds: rounds,
+        }),
+        Some(found) => found.verify_rounds(alloc, challenger, claimed_sum, rounds, pow_bits, basis),
+    }
+}
+
+// The witness of a round, if one came.
+#[tactic(auto, using(crate::proofs::WitnessReads::reads))]
+fn witness_at<F: Field>(witnesses: &[F], i: usize) -> Option<F>
+    ensures number { option_map_or F.number result 0 ≡ slice_index_or (map F.number witnesses.now) i 0 }
+    ensures some { i < length witnesses.now → IsSome result }
+{
+    if i < witnesses.len() {
+        Some(witnesses[i])
+    } else {
+        None
+    }
+}

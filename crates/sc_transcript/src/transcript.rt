@@ -1,0 +1,491 @@
+//! The transcript of a batch of rounds, for the prover and for the verifier.
+//!
+//! A batch begins with a seed, which tells its protocol, its number of rounds, its difficulty and its basis from others. Each round then absorbs the
+//! two values that it sends, at a positive difficulty a witness with its test, and draws a challenge. A batch of no rounds absorbs and draws nothing.
+ghost use Rattle.std.specs.Prelude.{◌≡◌, ◌≢◌, ◌⊎◌, ◌+◌, ◌-◌, ◌*◌, ◌<◌, ◌≤◌, [], ◌∷◌, ◌++◌, Err, None, length, IfOk, OnOk, OnErr, IsOk, IsErrOf, IsSome, true, false};
+ghost use Rattle.std.specs.Option.{option_map_or};
+ghost use Rattle.sc_definitions.specs.Events.{words, IsFirstWitness, NonePasses};
+ghost use Rattle.sc_definitions.specs.Transcript.{sent, ground, before_draw, round_events, challenge};
+ghost use Rattle.sc_definitions.specs.Replays.{round_passes};
+ghost use Rattle.sc_definitions.specs.Seeds.{basis_byte, quadratic_separator, rounds_steps, round_steps};
+ghost use Rattle.sc_table.specs.Strategy.{basis_of};
+ghost use Rattle.sc_transcript.specs.Shapes.{seed_of, events_of, pair_round};
+ghost use Rattle.sc_transcript.specs.Data.{IsSent};
+
+use crate::error::SumcheckError;
+use sc_challenger::{
+    Challenger, DomainSeparator, GrindError, Interaction, InteractionPattern, Kind, Label, Length,
+    Protocol, grind, observe_ext, sample_ext,
+};
+use sc_field::{ExtensionField, Field, NoMemory};
+use sc_table::Basis;
+use std::alloc::Global;
+use std::marker::PhantomData;
+
+// The version of the seed's format.
+const VERSION: u8 = 1;
+
+// How many values a round sends.
+const VALUES_PER_ROUND: usize = 2;
+
+/// The numbers that fix the transcript of a batch of rounds. Both sides take them from their own configuration, never from a proof.
+#[derive(Clone, Copy, Debug, PartialEq, Eq)]
+pub struct SumcheckShape {
+    /// How many variables the batch binds, which is how many rounds it has.
+    pub num_rounds: usize,
+    /// The difficulty of each round's test in bits, or 0 for no test.
+    pub pow_bits: usize,
+    /// What the two values of a round mean.
+    pub basis: Basis,
+}
+
+impl SumcheckShape {
+    /// The shape of these three.
+    pub fn new(num_rounds: usize, pow_bits: usize, basis: Basis) -> Self
+        ensures { result ≡ record { num_rounds = num_rounds; pow_bits = pow_bits; basis = basis } }
+    {
+        SumcheckShape {
+            num_rounds,
+            pow_bits,
+            basis,
+        }
+    }
+
+    /// The steps of the batch, round after round: the two values, at a positive difficulty the witness, and the challenge.
+    #[tactic(auto, using(crate::proofs::StepLaws::steps_more))]
+    pub fn pattern<F: Field, EF: ExtensionField<F>>(
+        &self,
+        alloc: Global,
+    ) -> Result<InteractionPattern, NoMemory>
+        ensures { IfOk result (λ steps. steps ≡ rounds_steps EF.DEGREE 2 self.now.pow_bits self.now.num_rounds) }
+    {
+        let mut steps = Vec::new(alloc);
+        for _round in 0..self.num_rounds {
+            push_round_steps(&mut steps, EF::DEGREE, self.pow_bits)?;
+        }
+        Ok(InteractionPattern::new(steps))
+    }
+
+    /// What tells this batch from others: version 1 of the format, the protocol `p3-sumcheck-quadratic`, the steps, and the basis as a label of one byte,
+    /// 0 for values and 1 for coefficients.
+    pub fn domain_separator<F: Field, EF: ExtensionField<F>>(
+        &self,
+        alloc: Global,
+    ) -> Result<DomainSeparator, NoMemory>
+        ensures { IfOk result (λ s. s ≡ quadratic_separator EF.DEGREE (basis_of self.now.basis) self.now.pow_bits self.now.num_rounds) }
+    {
+        let pattern = self.pattern::<F, EF>(alloc)?;
+        let mut separator = DomainSeparator::new(VERSION, Protocol::Quadratic, pattern);
+        separator.instance(alloc, &[basis_label(self.basis)])?;
+        Ok(separator)
+    }
+
+    /// Observes the seed's words, or nothing for no rounds. A refusal leaves the history as it was.
+    #[tactic(auto, using(crate::proofs::RoundWords::seed_none, crate::proofs::RoundWords::seed_some))]
+    pub fn seed<F: Field, EF: ExtensionField<F>, C: Challenger<F>>(
+        &self,
+        alloc: Global,
+        challenger: &mut C,
+    ) -> Result<(), NoMemory>
+        ensures rules { C.rules challenger.new ≡ C.rules challenger.old }
+        ensures ok { OnOk result (C.history challenger.new ≡ C.history challenger.old ++ words (seed_of EF.DEGREE self.now)) }
+        ensures err { OnErr result (C.history challenger.new ≡ C.history challenger.old) }
+        ensures spare { OnOk result (C.spare challenger.old ≤ C.spare challenger.new + length (seed_of EF.DEGREE self.now)) }
+        ensures spare_err { OnErr result (C.spare challenger.old ≤ C.spare challenger.new) }
+    {
+        if self.num_rounds == 0 {
+            return Ok(());
+        }
+        let separator = self.domain_separator::<F, EF>(alloc)?;
+        separator.seed::<F, C>(alloc, challenger)
+    }
+}
+
+// The byte that a basis has in the seed.
+fn basis_label(basis: Basis) -> u8
+    ensures { result ≡ basis_byte (basis_of basis) }
+{
+    match basis {
+        Basis::Evaluation => 0,
+        Basis::Projective => 1,
+    }
+}
+
+// Appends the steps of one round.
+fn push_round_steps(
+    steps: &mut Vec<Interaction>,
+    degree: usize,
+    pow_bits: usize,
+) -> Result<(), NoMemory>
+    ensures { OnOk result (steps.new.items ≡ steps.old.items ++ round_steps degree 2 pow_bits) }
+{
+    steps.push(Interaction {
+        kind: Kind::Message,
+        parts: degree,
+        length: Length::Fixed(VALUES_PER_ROUND),
+        label: Label::RoundPoly,
+    })?;
+    if pow_bits > 0 {
+        steps.push(Interaction {
+            kind: Kind::Pow,
+            parts: 1,
+            length: Length::Fixed(pow_bits),
+            label: Label::RoundPow,
+        })?;
+    }
+    steps.push(Interaction {
+        kind: Kind::Challenge,
+        parts: degree,
+        length: Length::Scalar,
+        label: Label::RoundChallenge,
+    })?;
+    Ok(())
+}
+
+// How many events a round appends.
+fn events_in_round(degree: usize, pow_bits: usize) -> usize
+    requires { degree ≤ 8 }
+    ensures { result ≡ events_of degree pow_bits }
+{
+    if pow_bits == 0 {
+        3 * degree
+    } else {
+        3 * degree + 2
+    }
+}
+
+// Absorbs the two values of a round. There is room for them.
+fn observe_pair<F: Field, EF: ExtensionField<F>, C: Challenger<F>>(
+    challenger: &mut C,
+    c_a: EF,
+    c_inf: EF,
+)
+    requires { 2 * EF.DEGREE ≤ C.spare challenger.old }
+    ensures rules { C.rules challenger.new ≡ C.rules challenger.old }
+    ensures history { C.history challenger.new ≡ C.history challenger.old ++ sent EF.extension (EF.number c_a ∷ EF.number c_inf ∷ []) }
+    ensures spare { C.spare challenger.old ≤ C.spare challenger.new + 2 * EF.DEGREE }
+{
+    observe_ext::<F, EF, C>(challenger, c_a).unwrap();
+    observe_ext::<F, EF, C>(challenger, c_inf).unwrap();
+}
+
+// At a positive difficulty the first witness that passes, appended with its test; at difficulty 0 no witness. There is room for both events.
+fn append_witness<F: Field, C: Challenger<F>>(
+    challenger: &mut C,
+    pow_bits: usize,
+) -> Result<Option<F>, GrindError>
+    requires at_most { pow_bits ≤ (C.rules challenger.old).max_bits }
+    requires room { 0 < pow_bits → 2 ≤ C.spare challenger.old }
+    ensures rules { C.rules challenger.new ≡ C.rules challenger.old }
+    ensures history { IfOk result (λ w. C.history challenger.new ≡ C.history challenger.old ++ ground pow_bits (option_map_or F.number w 0)) }
+    ensures first { IfOk result (λ w. 0 < pow_bits → IsFirstWitness (C.rules challenger.old) (C.history challenger.old) pow_bits (option_map_or F.number w 0)) }
+    ensures some { IfOk result (λ w. 0 < pow_bits → IsSome w) }
+    ensures none { IfOk result (λ w. pow_bits ≡ 0 → w ≡ None) }
+    ensures positive { OnErr result (0 < pow_bits) }
+    ensures none_passes { OnErr result (NonePasses (C.rules challenger.old) (C.history challenger.old) pow_bits F.ops.size) }
+    ensures err { OnErr result (C.history challenger.new ≡ C.history challenger.old) }
+    ensures spare { OnOk result (C.spare challenger.old + 3 * 1 ≤ C.spare challenger.new + events_of 1 pow_bits) }
+{
+    if pow_bits == 0 {
+        return Ok(None);
+    }
+    let witness = grind::<F, C>(challenger, pow_bits)?;
+    Ok(Some(witness))
+}
+
+// What a witness that came is.
+#[derive(Clone, Copy, Debug, PartialEq, Eq)]
+enum Tested {
+    // It passes, or there is no difficulty.
+    Passes,
+    // The difficulty is positive, and none came.
+    Missing,
+    // It fails.
+    Fails,
+}
+
+// At a positive difficulty tests a witness that came, and appends it with its test. There is room for both events.
+fn test_witness<F: Field, C: Challenger<F>>(
+    challenger: &mut C,
+    pow_bits: usize,
+    witness: Option<F>,
+) -> Tested
+    requires at_most { pow_bits ≤ (C.rules challenger.old).max_bits }
+    requires room { 0 < pow_bits → 2 ≤ C.spare challenger.old }
+    ensures rules { C.rules challenger.new ≡ C.rules challenger.old }
+    ensures missing { result ≡ Tested.Missing → (0 < pow_bits) × (witness ≡ None) × (C.history challenger.new ≡ C.history challenger.old) }
+    ensures passes { result ≡ Tested.Passes → 0 < pow_bits → (C.rules challenger.old).passes (C.history challenger.old) pow_bits (option_map_or F.number witness 0) ≡ true }
+    ensures fails { result ≡ Tested.Fails → (0 < pow_bits) × ((C.rules challenger.old).passes (C.history challenger.old) pow_bits (option_map_or F.number witness 0) ≡ false) }
+    ensures some { (result ≡ Tested.Missing → ⊥) → 0 < pow_bits → IsSome witness }
+    ensures history { (result ≡ Tested.Missing → ⊥) → C.history challenger.new ≡ C.history challenger.old ++ ground pow_bits (option_map_or F.number witness 0) }
+    ensures spare { C.spare challenger.old + 3 * 1 ≤ C.spare challenger.new + events_of 1 pow_bits }
+{
+    if pow_bits == 0 {
+        return Tested::Passes;
+    }
+    let Some(witness) = witness else {
+        return Tested::Missing;
+    };
+    if challenger.check_witness(pow_bits, witness).unwrap() {
+        Tested::Passes
+    } else {
+        Tested::Fails
+    }
+}
+
+/// The prover's side of a batch. It borrows the challenger, and must be spent by [`ProverTranscript::finish`] or [`ProverTranscript::abort`], which hand
+/// the challenger back as it then is.
+pub struct ProverTranscript<'a, C: Challenger<F>, F: Field, EF> {
+    challenger: &'a mut C,
+    shape: SumcheckShape,
+    // how many rounds were played
+    played: usize,
+    of: PhantomData<(F, EF)>,
+    ghost tested: { shape.pow_bits ≤ (C.rules challenger.now).max_bits },
+    ghost counted: { played ≤ shape.num_rounds },
+}
+
+impl<'a, C: Challenger<F>, F: Field, EF: ExtensionField<F>> ProverTranscript<'a, C, F, EF> {
+    /// Begins a batch: the seed's words are observed, or nothing for no rounds. No more of the challenger's room is taken than they need.
+    ///
+    /// The difficulty is at most the challenger's [`Challenger::max_bits`].
+    pub fn new(alloc: Global, challenger: &'a mut C, shape: SumcheckShape) -> Result<Self, NoMemory>
+        requires { shape.pow_bits ≤ (C.rules challenger.old).max_bits }
+        ensures same_reference { IfOk result (λ t. t.challenger.ghost_name ≡ challenger.entry.ghost_name) }
+        ensures rules { IfOk result (λ t. C.rules t.challenger.now ≡ C.rules challenger.old) }
+        ensures history { IfOk result (λ t. C.history t.challenger.now ≡ C.history challenger.old ++ words (seed_of EF.DEGREE shape)) }
+        ensures shape { IfOk result (λ t. t.shape ≡ shape) }
+        ensures played { IfOk result (λ t. t.played ≡ 0) }
+        ensures spare { IfOk result (λ t. C.spare challenger.old ≤ C.spare t.challenger.now + length (seed_of EF.DEGREE shape)) }
+    {
+        shape.seed::<F, EF, C>(alloc, challenger)?;
+        Ok(ProverTranscript::over(challenger, shape))
+    }
+
+    /// A batch over a challenger that has observed the seed already, by [`SumcheckShape::seed`]. It cannot fail: a caller that has to know what a refused
+    /// seed leaves calls the two one after the other.
+    pub fn over(challenger: &'a mut C, shape: SumcheckShape) -> Self
+        requires { shape.pow_bits ≤ (C.rules challenger.old).max_bits }
+        ensures same_reference { result.challenger.ghost_name ≡ challenger.entry.ghost_name }
+        ensures same { result.challenger.now ≡ challenger.old }
+        ensures shape { result.shape ≡ shape }
+        ensures played { result.played ≡ 0 }
+    {
+        ProverTranscript {
+            challenger,
+            shape,
+            played: 0,
+            of: PhantomData,
+        }
+    }
+
+    /// Plays a round: absorbs the two values, at a positive difficulty appends the first witness that passes and its test, and draws the challenge.
+    ///
+    /// `NoWitness` comes exactly where the difficulty is positive and no element of the base field passes; the history then ends with the two values.
+    /// After `NoMemory` the history is as it was. After either the round is still to be played, and the driver is spent by [`ProverTranscript::abort`].
+    pub fn round(&mut self, c_a: EF, c_inf: EF) -> Result<(EF, Option<F>), SumcheckError>
+        requires { self.old.played < self.old.shape.num_rounds }
+        ensures same_reference { self.new.challenger.ghost_name ≡ self.old.challenger.ghost_name }
+        ensures rules { C.rules self.new.challenger.now ≡ C.rules self.old.challenger.now }
+        ensures shape { self.new.shape ≡ self.old.shape }
+        ensures played { OnOk result (self.new.played ≡ self.old.played + 1) }
+        ensures not_played { OnErr result (self.new.played ≡ self.old.played) }
+        ensures sent { IfOk result (λ x. IsSent (C.rules self.old.challenger.now) EF.extension self.old.shape.pow_bits (C.history self.old.challenger.now)
+            (pair_round (EF.number c_a) (EF.number c_inf) (option_map_or F.number x.1 0)) (EF.number x.0) (C.history self.new.challenger.now)) }
+        ensures ground { IfOk result (λ x. 0 < self.old.shape.pow_bits → IsSome x.1) }
+        ensures not_ground { IfOk result (λ x. self.old.shape.pow_bits ≡ 0 → x.1 ≡ None) }
+        ensures causes { OnErr result ((result ≡ Err SumcheckError.NoMemory) ⊎ (result ≡ Err (SumcheckError.NoWitness self.old.played))) }
+        ensures none_passes { result ≡ Err (SumcheckError.NoWitness self.old.played) → (0 < self.old.shape.pow_bits)
+            × NonePasses (C.rules self.old.challenger.now) (C.history self.old.challenger.now ++ sent EF.extension (EF.number c_a ∷ EF.number c_inf ∷ [])) self.old.shape.pow_bits F.ops.size }
+        ensures no_witness { result ≡ Err (SumcheckError.NoWitness self.old.played) → C.history self.new.challenger.now
+            ≡ C.history self.old.challenger.now ++ sent EF.extension (EF.number c_a ∷ EF.number c_inf ∷ []) }
+        ensures no_memory { result ≡ Err SumcheckError.NoMemory → C.history self.new.challenger.now ≡ C.history self.old.challenger.now }
+        ensures has_room { events_of EF.DEGREE self.old.shape.pow_bits ≤ C.spare self.old.challenger.now → result ≢ Err SumcheckError.NoMemory }
+        ensures spare { OnOk result (C.spare self.old.challenger.now ≤ C.spare self.new.challenger.now + events_of EF.DEGREE self.old.shape.pow_bits) }
+    {
+        prove!(self.played < self.shape.num_rounds);
+        let pow_bits = self.shape.pow_bits;
+        self.challenger
+            .reserve(events_in_round(EF::DEGREE, pow_bits))?;
+        observe_pair::<F, EF, C>(self.challenger, c_a, c_inf);
+        let Ok(witness) = append_witness::<F, C>(self.challenger, pow_bits) else {
+            return Err(SumcheckError::NoWitness { round: self.played });
+        };
+        let challenge = sample_ext::<F, EF, C>(self.challenger).unwrap();
+        self.played += 1;
+        Ok((challenge, witness))
+    }
+
+    /// The numbers that the batch was begun with.
+    pub fn shape(&self) -> SumcheckShape
+        ensures { result ≡ self.now.shape }
+    {
+        self.shape
+    }
+
+    /// How many rounds are still to be played.
+    pub fn rounds_left(&self) -> usize
+        ensures { result ≡ self.now.shape.num_rounds - self.now.played }
+    {
+        self.shape.num_rounds - self.played
+    }
+
+    /// Ends a batch of which every round was played. The challenger stays as it is.
+    pub fn finish(self)
+        requires { self.played ≡ self.shape.num_rounds }
+        ensures { self.exit.0.now ≡ self.entry.challenger.now }
+    {
+        let ProverTranscript {
+            challenger: _,
+            shape: _,
+            played: _,
+            of: _,
+        } = self;
+    }
+
+    /// Ends a batch that is broken off. The challenger stays as it is.
+    pub fn abort(self)
+        ensures { self.exit.0.now ≡ self.entry.challenger.now }
+    {
+        let ProverTranscript {
+            challenger: _,
+            shape: _,
+            played: _,
+            of: _,
+        } = self;
+    }
+}
+
+/// The verifier's side of a batch. It borrows the challenger, and must be spent by [`VerifierTranscript::finish`] or [`VerifierTranscript::abort`],
+/// which hand the challenger back as it then is.
+pub struct VerifierTranscript<'a, C: Challenger<F>, F: Field, EF> {
+    challenger: &'a mut C,
+    shape: SumcheckShape,
+    // how many rounds were played
+    played: usize,
+    of: PhantomData<(F, EF)>,
+    ghost tested: { shape.pow_bits ≤ (C.rules challenger.now).max_bits },
+    ghost counted: { played ≤ shape.num_rounds },
+}
+
+impl<'a, C: Challenger<F>, F: Field, EF: ExtensionField<F>> VerifierTranscript<'a, C, F, EF> {
+    /// Begins a batch: the seed's words are observed, or nothing for no rounds. No more of the challenger's room is taken than they need.
+    ///
+    /// The difficulty is at most the challenger's [`Challenger::max_bits`].
+    pub fn new(alloc: Global, challenger: &'a mut C, shape: SumcheckShape) -> Result<Self, NoMemory>
+        requires { shape.pow_bits ≤ (C.rules challenger.old).max_bits }
+        ensures same_reference { IfOk result (λ t. t.challenger.ghost_name ≡ challenger.entry.ghost_name) }
+        ensures rules { IfOk result (λ t. C.rules t.challenger.now ≡ C.rules challenger.old) }
+        ensures history { IfOk result (λ t. C.history t.challenger.now ≡ C.history challenger.old ++ words (seed_of EF.DEGREE shape)) }
+        ensures shape { IfOk result (λ t. t.shape ≡ shape) }
+        ensures played { IfOk result (λ t. t.played ≡ 0) }
+        ensures spare { IfOk result (λ t. C.spare challenger.old ≤ C.spare t.challenger.now + length (seed_of EF.DEGREE shape)) }
+    {
+        shape.seed::<F, EF, C>(alloc, challenger)?;
+        Ok(VerifierTranscript::over(challenger, shape))
+    }
+
+    /// A batch over a challenger that has observed the seed already, by [`SumcheckShape::seed`]. It cannot fail: a caller that has to know what a refused
+    /// seed leaves calls the two one after the other.
+    pub fn over(challenger: &'a mut C, shape: SumcheckShape) -> Self
+        requires { shape.pow_bits ≤ (C.rules challenger.old).max_bits }
+        ensures same_reference { result.challenger.ghost_name ≡ challenger.entry.ghost_name }
+        ensures same { result.challenger.now ≡ challenger.old }
+        ensures shape { result.shape ≡ shape }
+        ensures played { result.played ≡ 0 }
+    {
+        VerifierTranscript {
+            challenger,
+            shape,
+            played: 0,
+            of: PhantomData,
+        }
+    }
+
+    /// Plays a round: absorbs the two values, at a positive difficulty tests the witness, and draws the challenge. At difficulty 0 a witness is ignored.
+    ///
+    /// `MissingPowWitness` comes exactly where the difficulty is positive and no witness came; the history then ends with the two values.
+    /// `InvalidPowWitness` comes exactly where the witness fails; the history then ends with its word and its test. After `NoMemory` the history is as
+    /// it was. After each of them the round is still to be played, and the driver is spent by [`VerifierTranscript::abort`].
+    pub fn round(&mut self, c_a: EF, c_inf: EF, witness: Option<F>) -> Result<EF, SumcheckError>
+        requires { self.old.played < self.old.shape.num_rounds }
+        ensures same_reference { self.new.challenger.ghost_name ≡ self.old.challenger.ghost_name }
+        ensures rules { C.rules self.new.challenger.now ≡ C.rules self.old.challenger.now }
+        ensures shape { self.new.shape ≡ self.old.shape }
+        ensures played { OnOk result (self.new.played ≡ self.old.played + 1) }
+        ensures not_played { OnErr result (self.new.played ≡ self.old.played) }
+        ensures history { OnOk result (C.history self.new.challenger.now ≡ C.history self.old.challenger.now
+            ++ round_events EF.extension self.old.shape.pow_bits (pair_round (EF.number c_a) (EF.number c_inf) (option_map_or F.number witness 0))) }
+        ensures drawn { IfOk result (λ x. EF.number x ≡ challenge (C.rules self.old.challenger.now) EF.extension self.old.shape.pow_bits
+            (C.history self.old.challenger.now) (pair_round (EF.number c_a) (EF.number c_inf) (option_map_or F.number witness 0))) }
+        ensures passes { OnOk result (round_passes (C.rules self.old.challenger.now) EF.extension self.old.shape.pow_bits
+            (C.history self.old.challenger.now) (pair_round (EF.number c_a) (EF.number c_inf) (option_map_or F.number witness 0)) ≡ true) }
+        ensures given { OnOk result (0 < self.old.shape.pow_bits → IsSome witness) }
+        ensures causes { OnErr result ((result ≡ Err SumcheckError.NoMemory) ⊎ (result ≡ Err (SumcheckError.MissingPowWitness self.old.played self.old.shape.pow_bits))
+            ⊎ (result ≡ Err (SumcheckError.InvalidPowWitness self.old.played self.old.shape.pow_bits))) }
+        ensures missing { result ≡ Err (SumcheckError.MissingPowWitness self.old.played self.old.shape.pow_bits) → (0 < self.old.shape.pow_bits) × (witness ≡ None)
+            × (C.history self.new.challenger.now ≡ C.history self.old.challenger.now ++ sent EF.extension (EF.number c_a ∷ EF.number c_inf ∷ [])) }
+        ensures fails { result ≡ Err (SumcheckError.InvalidPowWitness self.old.played self.old.shape.pow_bits) → IsSome witness
+            × (round_passes (C.rules self.old.challenger.now) EF.extension self.old.shape.pow_bits
+            (C.history self.old.challenger.now) (pair_round (EF.number c_a) (EF.number c_inf) (option_map_or F.number witness 0)) ≡ false) }
+        ensures invalid { result ≡ Err (SumcheckError.InvalidPowWitness self.old.played self.old.shape.pow_bits) → C.history self.new.challenger.now
+            ≡ C.history self.old.challenger.now ++ before_draw EF.extension self.old.shape.pow_bits (pair_round (EF.number c_a) (EF.number c_inf) (option_map_or F.number witness 0)) }
+        ensures no_memory { result ≡ Err SumcheckError.NoMemory → C.history self.new.challenger.now ≡ C.history self.old.challenger.now }
+        ensures has_room { events_of EF.DEGREE self.old.shape.pow_bits ≤ C.spare self.old.challenger.now → result ≢ Err SumcheckError.NoMemory }
+        ensures spare { OnOk result (C.spare self.old.challenger.now ≤ C.spare self.new.challenger.now + events_of EF.DEGREE self.old.shape.pow_bits) }
+    {
+        prove!(self.played < self.shape.num_rounds);
+        let round = self.played;
+        let difficulty = self.shape.pow_bits;
+        self.challenger
+            .reserve(events_in_round(EF::DEGREE, difficulty))?;
+        observe_pair::<F, EF, C>(self.challenger, c_a, c_inf);
+        match test_witness::<F, C>(self.challenger, difficulty, witness) {
+            Tested::Passes => {}
+            Tested::Missing => return Err(SumcheckError::MissingPowWitness { round, difficulty }),
+            Tested::Fails => return Err(SumcheckError::InvalidPowWitness { round, difficulty }),
+        }
+        let challenge = sample_ext::<F, EF, C>(self.challenger).unwrap();
+        self.played += 1;
+        Ok(challenge)
+    }
+
+    /// The numbers that the batch was begun with.
+    pub fn shape(&self) -> SumcheckShape
+        ensures { result ≡ self.now.shape }
+    {
+        self.shape
+    }
+
+    /// How many rounds are still to be played.
+    pub fn rounds_left(&self) -> usize
+        ensures { result ≡ self.now.shape.num_rounds - self.now.played }
+    {
+        self.shape.num_rounds - self.played
+    }
+
+    /// Ends a batch of which every round was played. The challenger stays as it is.
+    pub fn finish(self)
+        requires { self.played ≡ self.shape.num_rounds }
+        ensures { self.exit.0.now ≡ self.entry.challenger.now }
+    {
+        let VerifierTranscript {
+            challenger: _,
+            shape: _,
+            played: _,
+            of: _,
+        } = self;
+    }
+
+    /// Ends a batch that is broken off. The challenger stays as it is.
+    pub fn abort(self)
+        ensures { self.exit.0.now ≡ self.entry.challenger.now }
+    {
+        let VerifierTranscript {
+            challenger: _,
+            shape: _,
+            played: _,
+            of: _,
+        } = self;
+    }
+}

@@ -1,0 +1,246 @@
+//! Figures over the integers modulo 65537, worked out apart from the crate: each row's weight straight from its definition, the sum over
+//! all rows of entry times weight, and the sum of weight times the equality weight of a point.
+
+ghost use Rattle.std.specs.Prelude.{◌≡◌, ◌≤◌, length, IfOk};
+ghost use Rattle.sc_definitions.specs.Statements.{arity_of};
+ghost use Rattle.sc_table.specs.Polys.{variables_of};
+
+use sc_field::{F65537, Field, NoMemory};
+use sc_table::{Point, Poly, VariableOrder};
+use sc_weights::{NextConstraint, RowWeights, Selector};
+use std::alloc::Global;
+
+// A table of n variables has the first 2^n of these entries, and the point the first n of these coordinates.
+const ENTRIES: [u64; 8] = [1, 2, 3, 4, 9, 7, 12, 5];
+
+const COORDINATES: [u64; 3] = [3, 4, 5];
+
+// The weights at the rows, the sum of entries times weights, and the value of the weights at the point.
+type Wanted<'a> = (&'a [u64], u64, u64);
+
+// Points, and what their equality weights are.
+const EQUALITY: [(&[u64], Wanted<'static>); 5] = [
+    (&[], (&[1], 1, 1)),
+    (&[5], (&[65533, 5], 6, 23)),
+    (&[0, 1], (&[0, 1, 0, 0], 2, 65529)),
+    (&[2, 3], (&[2, 65534, 65533, 6], 8, 144)),
+    (
+        &[2, 3, 7],
+        (&[65525, 14, 18, 65516, 24, 65509, 65501, 42], 65321, 8496),
+    ),
+];
+
+// Selectors, points, and what their successor weights are where the slot stands first. Of a point of one coordinate every weight goes to the last row.
+const SLOT_FIRST: [(&[u64], &[u64], Wanted<'static>); 8] = [
+    (&[], &[], (&[1], 1, 1)),
+    (&[], &[2, 3], (&[0, 2, 65534, 2], 3, 35)),
+    (&[5], &[7], (&[0, 65533, 0, 5], 12, 92)),
+    (&[2, 3], &[], (&[2, 65534, 65533, 6], 8, 144)),
+    (
+        &[],
+        &[2, 3, 7],
+        (&[0, 65525, 14, 18, 65516, 24, 65509, 6], 65300, 64773),
+    ),
+    (
+        &[5],
+        &[2, 3],
+        (&[0, 65529, 12, 65529, 0, 10, 65522, 10], 65465, 1334),
+    ),
+    (
+        &[2, 3],
+        &[7],
+        (&[0, 2, 0, 65534, 0, 65533, 0, 6], 65531, 720),
+    ),
+    (
+        &[2, 3, 7],
+        &[],
+        (&[65525, 14, 18, 65516, 24, 65509, 65501, 42], 65321, 8496),
+    ),
+];
+
+// The same where it stands last.
+const SLOT_LAST: [(&[u64], &[u64], Wanted<'static>); 8] = [
+    (&[], &[], (&[1], 1, 1)),
+    (&[], &[2, 3], (&[0, 2, 65534, 2], 3, 35)),
+    (&[5], &[7], (&[0, 0, 65533, 5], 8, 96)),
+    (&[2, 3], &[], (&[2, 65534, 65533, 6], 8, 144)),
+    (
+        &[],
+        &[2, 3, 7],
+        (&[0, 65525, 14, 18, 65516, 24, 65509, 6], 65300, 64773),
+    ),
+    (
+        &[5],
+        &[2, 3],
+        (&[0, 0, 65529, 10, 12, 65522, 65529, 10], 65510, 1435),
+    ),
+    (
+        &[2, 3],
+        &[7],
+        (&[0, 0, 0, 0, 2, 65534, 65533, 6], 65516, 759),
+    ),
+    (
+        &[2, 3, 7],
+        &[],
+        (&[65525, 14, 18, 65516, 24, 65509, 65501, 42], 65321, 8496),
+    ),
+];
+
+// Scalars, numbers of variables, and what the powers weigh. The power 0 of zero is one; 65536 is the opposite of one.
+const POWERS: [(u64, usize, Wanted<'static>); 6] = [
+    (0, 0, (&[1], 1, 1)),
+    (0, 2, (&[1, 0, 0, 0], 1, 6)),
+    (7, 1, (&[1, 7], 15, 19)),
+    (2, 2, (&[1, 2, 4, 8], 49, 50)),
+    (65536, 2, (&[1, 65536, 1, 65536], 65535, 65530)),
+    (
+        7,
+        3,
+        (&[1, 7, 49, 343, 2401, 16807, 52112, 37099], 34113, 25774),
+    ),
+];
+
+// Points, and what the products of their coordinates weigh.
+const PRODUCTS: [(&[u64], Wanted<'static>); 5] = [
+    (&[], (&[1], 1, 1)),
+    (&[5], (&[1, 5], 11, 13)),
+    (&[0, 3], (&[1, 3, 0, 0], 7, 65519)),
+    (&[2, 3], (&[1, 3, 2, 6], 37, 36)),
+    (&[2, 3, 7], (&[1, 7, 3, 21, 2, 14, 6, 42], 506, 1116)),
+];
+
+// The element of this number.
+fn of(number: u64) -> F65537 {
+    F65537::element(number % 65537)
+}
+
+// The elements of these numbers.
+fn elements(alloc: Global, numbers: &[u64]) -> Result<Vec<F65537>, NoMemory>
+    ensures { IfOk result (λ v. length v.items ≡ length numbers.now) }
+{
+    let elements = numbers.iter().map(|number| of(*number)).collect(alloc)?;
+    Ok(elements)
+}
+
+// The point of these numbers.
+fn point(alloc: Global, numbers: &[u64]) -> Result<Point<F65537>, NoMemory>
+    ensures { IfOk result (λ p. length p ≡ length numbers.now) }
+{
+    Ok(Point::new(elements(alloc, numbers)?))
+}
+
+// An entry with three times its weight.
+fn added(entry: u64, weight: u64) -> F65537 {
+    of(entry).add(of(3).mul(of(weight)))
+}
+
+// That the rows are the entries with three times the weights.
+fn are_added(rows: &[F65537], weights: &[u64]) -> bool {
+    rows.len() == weights.len()
+        && rows
+            .iter()
+            .zip(ENTRIES.iter().zip(weights))
+            .all(|(row, (entry, weight))| *row == added(*entry, *weight))
+}
+
+// The table of n variables.
+fn table(alloc: Global, n: usize) -> Result<Poly<F65537>, NoMemory>
+    requires { n ≤ 3 }
+    ensures { IfOk result (λ p. variables_of p ≡ n) }
+{
+    Ok(Poly::new(elements(alloc, &ENTRIES[..1 << n])?))
+}
+
+// That weights of n variables are the wanted ones.
+fn agrees<W: RowWeights<F65537>>(
+    alloc: Global,
+    weights: &W,
+    n: usize,
+    wanted: Wanted,
+) -> Result<bool, NoMemory>
+    requires { arity_of n (W.kind weights.now) ≡ n }
+{
+    if n > 3 {
+        return Ok(false);
+    }
+    let (at_rows, sum, there) = wanted;
+    let mut table = table(alloc, n)?;
+    let true_value: F65537 = weights.true_value(&table);
+    weights.add_to(&mut table, of(3));
+    let value = weights.value_at(&point(alloc, &COORDINATES[..n])?);
+    Ok(true_value.index() == sum && value.index() == there && are_added(table.as_slice(), at_rows))
+}
+
+fn equality(alloc: Global, coords: &[u64], wanted: Wanted) -> Result<bool, NoMemory> {
+    agrees(alloc, &point(alloc, coords)?, coords.len(), wanted)
+}
+
+fn successor(
+    alloc: Global,
+    var_order: VariableOrder,
+    selector: &[u64],
+    coords: &[u64],
+    wanted: Wanted,
+) -> Result<bool, NoMemory> {
+    let constraint = NextConstraint {
+        selector: point(alloc, selector)?,
+        point: point(alloc, coords)?,
+        var_order,
+    };
+    let n = selector.len().saturating_add(coords.len());
+    agrees(alloc, &constraint, n, wanted)
+}
+
+fn powers(alloc: Global, var: u64, n: usize, wanted: Wanted) -> Result<bool, NoMemory> {
+    agrees(alloc, &Selector::Scalar(of(var)), n, wanted)
+}
+
+fn products(alloc: Global, coords: &[u64], wanted: Wanted) -> Result<bool, NoMemory> {
+    let z = point(alloc, coords)?;
+    agrees(alloc, &Selector::Direct(&z), coords.len(), wanted)
+}
+
+#[test]
+fn equality_weights(rt: HostRuntime) {
+    for (coords, wanted) in EQUALITY {
+        assert_eq!(rt;
+            equality(rt.alloc(), coords, wanted),
+            Ok(true),
+            "{coords:?}"
+        );
+    }
+}
+
+#[test]
+fn successor_weights_in_a_slot_that_stands_first(rt: HostRuntime) {
+    for (selector, coords, wanted) in SLOT_FIRST {
+        let agrees = successor(rt.alloc(), VariableOrder::Prefix, selector, coords, wanted);
+        assert_eq!(rt; agrees, Ok(true), "{selector:?} {coords:?}");
+    }
+}
+
+#[test]
+fn successor_weights_in_a_slot_that_stands_last(rt: HostRuntime) {
+    for (selector, coords, wanted) in SLOT_LAST {
+        let agrees = successor(rt.alloc(), VariableOrder::Suffix, selector, coords, wanted);
+        assert_eq!(rt; agrees, Ok(true), "{selector:?} {coords:?}");
+    }
+}
+
+#[test]
+fn powers_of_a_scalar(rt: HostRuntime) {
+    for (var, n, wanted) in POWERS {
+        assert_eq!(rt; powers(rt.alloc(), var, n, wanted), Ok(true), "{var} {n}");
+    }
+}
+
+#[test]
+fn products_of_coordinates(rt: HostRuntime) {
+    for (coords, wanted) in PRODUCTS {
+        assert_eq!(rt;
+            products(rt.alloc(), coords, wanted),
+            Ok(true),
+            "{coords:?}"
+        );
+    }
+}

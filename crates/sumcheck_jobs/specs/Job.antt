@@ -1,0 +1,125 @@
+-- The job that a value describes, or why it describes none that is built.
+use Rattle.std.specs.Prelude.{ℕ, ◌<◌, ◌≤◌, List, All, ⊤, codes, bytes_eq, if◌then◌else◌, Option, Some, None, is_some, option_map, option_and_then, Result, Ok, Err}
+use Rattle.serde_json.specs.Data.{Data}
+use Rattle.serde_json.specs.Find.{get, as_null, as_str}
+use Rattle.sc_forms.specs.Forms.{at_most_form, is_object, list_form, literal_form, no_form, pair_form}
+use Rattle.sumcheck_jobs.specs.Members.{needed, unless_misfit}
+use Rattle.sumcheck_jobs.specs.Elements.{with_member, element_form, field_form, order_form, sizes_of}
+use Rattle.sumcheck_jobs.specs.Groups.{groups_form}
+use Rattle.sumcheck_jobs.specs.Statements.{GroupFits}
+use Rattle.sumcheck_jobs.specs.declared.member.Member.TheVariants.{Whole, Field, Challenger as ChallengerMember, Order, Bits, Table, Variables, Groups, Batching, Mode as ModeMember}
+use Rattle.sumcheck_jobs.specs.declared.member.Misfit.{Misfit}
+use Rattle.sumcheck_jobs.specs.declared.member.Misfit.TheVariants.{Bad}
+use Rattle.sumcheck_jobs.specs.declared.job.FieldName.{FieldName}
+use Rattle.sumcheck_jobs.specs.declared.job.Sizes.{Sizes}
+use Rattle.sc_audit.specs.declared.job.Strategy.{Strategy}
+use Rattle.sc_audit.specs.declared.job.Strategy.TheVariants.{Plain, Represented}
+use Rattle.sumcheck_jobs.specs.declared.job.Script.{Script}
+use Rattle.sumcheck_jobs.specs.declared.job.Challenger.{Challenger}
+use Rattle.sumcheck_jobs.specs.declared.job.Challenger.TheVariants.{Scripted, Hash}
+use Rattle.sumcheck_jobs.specs.declared.job.Proof.{Proof}
+use Rattle.sumcheck_jobs.specs.declared.job.Mode.{Mode}
+use Rattle.sumcheck_jobs.specs.declared.job.Mode.TheVariants.{Build, Check}
+use Rattle.sumcheck_jobs.specs.declared.job.Job.{Job}
+
+-- a scripted challenger: its draws, and for each test the witnesses that pass, in the base field
+abbrev pub script_form : Sizes → Data → Option Script
+script_form sizes d =
+    with_member d (codes "draws") (list_form (element_form sizes.base)) (λ draws.
+    with_member d (codes "witnesses") (list_form (list_form (element_form sizes.base))) (λ witnesses.
+    Some (record { draws = draws; witnesses = witnesses })))
+
+-- a challenger: the hash challenger by its name, or a scripted one
+abbrev pub challenger_form : Sizes → Data → Option Challenger
+challenger_form sizes d = if is_some (literal_form (codes "hash") d) then Some Hash else option_map (λ script. Scripted script) (script_form sizes d)
+
+-- a proof: the two values of each round, and the witnesses
+abbrev pub proof_form : Sizes → Data → Option Proof
+proof_form sizes d =
+    with_member d (codes "rounds") (list_form (pair_form (element_form sizes.extension))) (λ rounds.
+    with_member d (codes "witnesses") (list_form (element_form sizes.base)) (λ witnesses.
+    Some (record { rounds = rounds; witnesses = witnesses })))
+
+-- a proof, or none
+abbrev pub check_form : Sizes → Data → Option (Option Proof)
+check_form sizes d = if is_some (as_null d) then Some None else option_map (λ proof. Some proof) (proof_form sizes d)
+
+-- the strategy of this name
+abbrev pub strategy_named : List ℕ → Option Strategy
+strategy_named name = if bytes_eq name (codes "plain") then Some Plain else (if bytes_eq name (codes "represented") then Some Represented else None)
+
+-- how rounds are built
+abbrev pub strategy_form : Data → Option Strategy
+strategy_form d = option_and_then strategy_named (as_str d)
+
+abbrev pub mode_by : Sizes → Option Data → Option Data → Option Mode
+mode_by sizes (Some build) None = option_map (λ strategy. Build strategy) (strategy_form build)
+mode_by sizes None (Some check) = option_map (λ proof. Check proof) (check_form sizes check)
+mode_by sizes None None = None
+mode_by sizes (Some build) (Some check) = None
+
+-- exactly one of a build, which is plain or represented, and a check
+abbrev pub mode_form : Sizes → Data → Option Mode
+mode_form sizes d = mode_by sizes (get (codes "build") d) (get (codes "check") d)
+
+abbrev pub later_build_by : Option Data → Option Data → Option ⊤
+later_build_by (Some build) None = if is_object build then Some tt else None
+later_build_by None check = None
+later_build_by (Some build) (Some check) = None
+
+-- a build by a strategy that is not built yet
+abbrev pub later_build_form : Data → Option ⊤
+later_build_form d = later_build_by (get (codes "build") d) (get (codes "check") d)
+
+-- the members behind the field, in the order in which they are tested
+abbrev pub members_over : FieldName → Sizes → Data → Result Job Misfit
+members_over field sizes d =
+    unless_misfit (needed (challenger_form sizes) no_form ChallengerMember d) (λ challenger.
+    unless_misfit (needed order_form no_form Order d) (λ order.
+    unless_misfit (needed (at_most_form 65535) no_form Bits d) (λ bits.
+    unless_misfit (needed (list_form (element_form sizes.base)) no_form Table d) (λ table.
+    unless_misfit (needed (at_most_form 64) no_form Variables d) (λ variables.
+    unless_misfit (needed (groups_form sizes variables) no_form Groups d) (λ groups.
+    unless_misfit (needed (element_form sizes.extension) no_form Batching d) (λ batching.
+    unless_misfit (needed (mode_form sizes) later_build_form ModeMember d) (λ mode.
+    Ok (record { field = field; challenger = challenger; order = order; bits = bits; table = table; variables = variables; groups = groups; batching = batching; mode = mode })))))))))
+
+-- the members, the field first
+abbrev pub members_of : Data → Result Job Misfit
+members_of d = unless_misfit (needed field_form no_form Field d) (λ field. members_over field (sizes_of field) d)
+
+-- the job that a value describes: one over one of three fields under a scripted or the hash challenger, in either order, at
+-- any difficulty, with statements of every kind; else its first member that is not of its form
+abbrev pub job_of : Data → Result Job Misfit
+job_of d = if is_object d then members_of d else Err (Bad Whole)
+
+-- ---- what the numbers of a job that was read have
+
+-- each number is that of an element of a field of so many
+abbrev pub AreElements : ℕ → List ℕ → Type 0
+AreElements size ns = All (λ n. n < size) ns
+
+pub record ScriptFits (base : ℕ) (s : Script) : Type 0 where
+  pub draws : AreElements base s.draws
+  pub witnesses : All (AreElements base) s.witnesses
+
+abbrev pub ChallengerFits : ℕ → Challenger → Type 0
+ChallengerFits base (Scripted script) = ScriptFits base script
+ChallengerFits base Hash = ⊤
+
+pub record ProofFits (sizes : Sizes) (p : Proof) : Type 0 where
+  pub rounds : All (λ pair. (pair.0 < sizes.extension) × (pair.1 < sizes.extension)) p.rounds
+  pub witnesses : AreElements sizes.base p.witnesses
+
+abbrev pub ModeFits : Sizes → Mode → Type 0
+ModeFits sizes (Build strategy) = ⊤
+ModeFits sizes (Check None) = ⊤
+ModeFits sizes (Check (Some proof)) = ProofFits sizes proof
+
+pub record JobFits (sizes : Sizes) (job : Job) : Type 0 where
+  pub challenger : ChallengerFits sizes.base job.challenger
+  pub table : AreElements sizes.base job.table
+  pub few : job.variables ≤ 64
+  pub groups : All (GroupFits sizes job.variables) job.groups
+  pub batching : job.batching < sizes.extension
+  pub mode : ModeFits sizes job.mode

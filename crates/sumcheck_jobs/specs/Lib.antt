@@ -1,0 +1,5 @@
+pub mod Members
+pub mod Elements
+pub mod Statements
+pub mod Groups
+pub mod Job

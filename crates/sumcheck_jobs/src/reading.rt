@@ -1,0 +1,283 @@
+//! The job that a JSON value describes, or the first member that is not of its built form.
+ghost use Rattle.std.specs.Prelude.{◌≡◌, ◌<◌, Option, Some, None, Ok, Err, IfOk};
+ghost use Rattle.serde_json.specs.View.{view};
+ghost use Rattle.sumcheck_jobs.specs.Elements.{field_form, order_form, sizes_of};
+ghost use Rattle.sumcheck_jobs.specs.Job.{JobFits, ProofFits, ModeFits, ScriptFits, ChallengerFits, challenger_form, check_form, job_of, later_build_form, members_over, mode_form, proof_form, script_form, strategy_form};
+
+use crate::groups::GroupsForm;
+use crate::job::{Challenger, FieldName, Job, Mode, Proof, Script, Sizes};
+use crate::member::{Member, Misfit, Unread, need};
+use sc_audit::Strategy;
+use sc_forms::{AtMost, Below, Form, ListOf, Misread, NoForm, PairOf, is_object, member};
+use sc_table::VariableOrder;
+use serde_json::Value;
+use std::alloc::Global;
+
+// The greatest number of a point's coordinates.
+const MOST_VARIABLES: u64 = 64;
+
+// The greatest difficulty that a job can name.
+const MOST_BITS: u64 = 65535;
+
+// A field by its name.
+#[derive(Clone, Copy)]
+struct FieldForm;
+
+impl Form for FieldForm {
+    type Out = FieldName;
+
+    ghost reads = { λ _. field_form };
+
+    fn read(&self, _alloc: Global, value: &Value) -> Result<FieldName, Misread> {
+        match value.as_str() {
+            Some(name) if name == "65537" => Ok(FieldName::F65537),
+            Some(name) if name == "257x2" => Ok(FieldName::F257x2),
+            Some(name) if name == "16" => Ok(FieldName::F16),
+            _ => Err(Misread::NotOfForm),
+        }
+    }
+}
+
+#[derive(Clone, Copy)]
+struct ScriptForm {
+    sizes: Sizes,
+}
+
+impl Form for ScriptForm {
+    type Out = Script;
+
+    ghost reads = { λ form. script_form form.sizes };
+
+    ghost fits = { λ form script. ScriptFits form.sizes.base script };
+
+    fn read(&self, alloc: Global, value: &Value) -> Result<Script, Misread> {
+        let list = ListOf {
+            item: Below {
+                bound: self.sizes.base,
+            },
+        };
+        let draws = member(alloc, &list, value, "draws")?;
+        let witnesses = member(alloc, &ListOf { item: list }, value, "witnesses")?;
+        Ok(Script { draws, witnesses })
+    }
+}
+
+// The hash challenger by its name, or a scripted one.
+#[derive(Clone, Copy)]
+struct ChallengerForm {
+    sizes: Sizes,
+}
+
+impl Form for ChallengerForm {
+    type Out = Challenger;
+
+    ghost reads = { λ form. challenger_form form.sizes };
+
+    ghost fits = { λ form challenger. ChallengerFits form.sizes.base challenger };
+
+    fn read(&self, alloc: Global, value: &Value) -> Result<Challenger, Misread> {
+        match value.as_str() {
+            Some(name) if name == "hash" => Ok(Challenger::Hash),
+            _ => {
+                let script = ScriptForm { sizes: self.sizes }.read(alloc, value)?;
+                Ok(Challenger::Scripted(script))
+            }
+        }
+    }
+}
+
+/// Which variable a round binds, or on which side a selector stands, by its name.
+#[derive(Clone, Copy)]
+pub(crate) struct OrderForm;
+
+impl Form for OrderForm {
+    type Out = VariableOrder;
+
+    ghost reads = { λ _. order_form };
+
+    fn read(&self, _alloc: Global, value: &Value) -> Result<VariableOrder, Misread> {
+        match value.as_str() {
+            Some(name) if name == "prefix" => Ok(VariableOrder::Prefix),
+            Some(name) if name == "suffix" => Ok(VariableOrder::Suffix),
+            _ => Err(Misread::NotOfForm),
+        }
+    }
+}
+
+#[derive(Clone, Copy)]
+struct ProofForm {
+    sizes: Sizes,
+}
+
+impl Form for ProofForm {
+    type Out = Proof;
+
+    ghost reads = { λ form. proof_form form.sizes };
+
+    ghost fits = { λ form proof. ProofFits form.sizes proof };
+
+    fn read(&self, alloc: Global, value: &Value) -> Result<Proof, Misread> {
+        let value_sent = Below {
+            bound: self.sizes.extension,
+        };
+        let witness = Below {
+            bound: self.sizes.base,
+        };
+        let pairs = ListOf {
+            item: PairOf { item: value_sent },
+        };
+        let rounds = member(alloc, &pairs, value, "rounds")?;
+        let witnesses = member(alloc, &ListOf { item: witness }, value, "witnesses")?;
+        Ok(Proof { rounds, witnesses })
+    }
+}
+
+// No proof, or one.
+#[derive(Clone, Copy)]
+struct CheckForm {
+    sizes: Sizes,
+}
+
+impl Form for CheckForm {
+    ghost use Rattle.sumcheck_jobs.specs.declared.job.Mode.TheVariants.{Check};
+
+    type Out = Option<Proof>;
+
+    ghost reads = { λ form. check_form form.sizes };
+
+    ghost fits = { λ form proof. ModeFits form.sizes (Check proof) };
+
+    fn read(&self, alloc: Global, value: &Value) -> Result<Option<Proof>, Misread> {
+        if value.is_null() {
+            return Ok(None);
+        }
+        let proof = ProofForm { sizes: self.sizes }.read(alloc, value)?;
+        Ok(Some(proof))
+    }
+}
+
+// How rounds are built, by the strategy's name.
+#[derive(Clone, Copy)]
+struct StrategyForm;
+
+impl Form for StrategyForm {
+    type Out = Strategy;
+
+    ghost reads = { λ _. strategy_form };
+
+    fn read(&self, _alloc: Global, value: &Value) -> Result<Strategy, Misread> {
+        match value.as_str() {
+            Some(name) if name == "plain" => Ok(Strategy::Plain),
+            Some(name) if name == "represented" => Ok(Strategy::Represented),
+            _ => Err(Misread::NotOfForm),
+        }
+    }
+}
+
+#[derive(Clone, Copy)]
+struct ModeForm {
+    sizes: Sizes,
+}
+
+impl Form for ModeForm {
+    type Out = Mode;
+
+    ghost reads = { λ form. mode_form form.sizes };
+
+    ghost fits = { λ form mode. ModeFits form.sizes mode };
+
+    fn read(&self, alloc: Global, value: &Value) -> Result<Mode, Misread> {
+        match (value.get("build"), value.get("check")) {
+            (Some(build), None) => {
+                let strategy = StrategyForm.read(alloc, build)?;
+                Ok(Mode::Build(strategy))
+            }
+            (None, Some(check)) => {
+                let proof = CheckForm { sizes: self.sizes }.read(alloc, check)?;
+                Ok(Mode::Check(proof))
+            }
+            _ => Err(Misread::NotOfForm),
+        }
+    }
+}
+
+// A build by a strategy that is not built yet, which is an object.
+#[derive(Clone, Copy)]
+struct LaterBuildForm;
+
+impl Form for LaterBuildForm {
+    type Out = ();
+
+    ghost reads = { λ _. later_build_form };
+
+    fn read(&self, _alloc: Global, value: &Value) -> Result<(), Misread> {
+        match (value.get("build"), value.get("check")) {
+            (Some(build), None) if is_object(build) => Ok(()),
+            _ => Err(Misread::NotOfForm),
+        }
+    }
+}
+
+/// The job that a value describes, or its first member that is not of its built form.
+pub fn read_job(alloc: Global, value: &Value) -> Result<Job, Unread>
+    ensures job { IfOk result (λ job. job_of (view value.now) ≡ Ok job) }
+    ensures misfit { (fault : Misfit) → result ≡ Err (Unread.Misfit fault)
+        → job_of (view value.now) ≡ Err fault }
+    ensures fits { IfOk result (λ job. JobFits (sizes_of job.field) job) }
+{
+    if !is_object(value) {
+        return Err(Unread::Misfit(Misfit::Bad(Member::Whole)));
+    }
+    let field = need(alloc, &FieldForm, &NoForm, value, Member::Field)?;
+    read_members(alloc, value, field, field.sizes())
+}
+
+// The members behind the field, which has these sizes.
+fn read_members(alloc: Global, value: &Value, field: FieldName, sizes: Sizes) -> Result<Job, Unread>
+    ensures job { IfOk result (λ job. members_over field sizes (view value.now) ≡ Ok job) }
+    ensures misfit { (fault : Misfit) → result ≡ Err (Unread.Misfit fault)
+        → members_over field sizes (view value.now) ≡ Err fault }
+    ensures field { IfOk result (λ job. job.field ≡ field) }
+    ensures fits { IfOk result (λ job. JobFits sizes job) }
+{
+    let challenger = ChallengerForm { sizes };
+    let challenger = need(alloc, &challenger, &NoForm, value, Member::Challenger)?;
+    let order = need(alloc, &OrderForm, &NoForm, value, Member::Order)?;
+    let most = AtMost { most: MOST_BITS };
+    let bits = need(alloc, &most, &NoForm, value, Member::Bits)?;
+    let entries = ListOf {
+        item: Below { bound: sizes.base },
+    };
+    let table = need(alloc, &entries, &NoForm, value, Member::Table)?;
+    let most = AtMost {
+        most: MOST_VARIABLES,
+    };
+    let variables = need(alloc, &most, &NoForm, value, Member::Variables)?;
+    let groups = GroupsForm {
+        sizes,
+        variables: variables as usize,
+    };
+    let groups = need(alloc, &groups, &NoForm, value, Member::Groups)?;
+    let challenge = Below {
+        bound: sizes.extension,
+    };
+    let batching = need(alloc, &challenge, &NoForm, value, Member::Batching)?;
+    let mode = need(
+        alloc,
+        &ModeForm { sizes },
+        &LaterBuildForm,
+        value,
+        Member::Mode,
+    )?;
+    Ok(Job {
+        field,
+        challenger,
+        order,
+        bits,
+        table,
+        variables,
+        groups,
+        batching,
+        mode,
+    })
+}
