@@ -40,13 +40,13 @@ pub enum AuditError {
         actual: usize,
     },
     /// This is the first round of the proof whose witness fails its test.
-    #[error("the witness of round {round} fails the test of {difficulty} bits")]
+    #[error("the witness of round {round} does not pass at {difficulty} bits")]
     InvalidPowWitness {
         round: usize,
         difficulty: usize,
     },
     /// The rounds are to be built, and no element of the base field passes the test of this round.
-    #[error("no witness passes the test of round {round}")]
+    #[error("no witness passes in round {round}")]
     NoWitness {
         round: usize,
     },

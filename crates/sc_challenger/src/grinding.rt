@@ -11,7 +11,7 @@ use thiserror::Error;
 #[derive(Clone, Copy, Debug, PartialEq, Eq, Error)]
 pub enum GrindError {
     /// No element of the field passes.
-    #[error("no element of the field passes the test")]
+    #[error("no element of the field passes")]
     NoWitness,
     /// A call wanted more memory than there was.
     #[error("out of memory")]

@@ -554,7 +554,7 @@ fn a_refusal_names_what_was_expected(rt: HostRuntime) {
                 round: 7,
                 difficulty: 9,
             },
-            "the witness of sumcheck round 7 fails the test of 9 bits",
+            "the witness of sumcheck round 7 does not pass at 9 bits",
         ),
     ] {
         let text = error.to_string(rt.alloc()).expect(&rt, "an answer");

@@ -17,7 +17,7 @@ pub enum SumcheckError {
         expected_rounds: usize,
     },
     /// The witness of a round fails its test.
-    #[error("the witness of sumcheck round {round} fails the test of {difficulty} bits")]
+    #[error("the witness of sumcheck round {round} does not pass at {difficulty} bits")]
     InvalidPowWitness {
         round: usize,
         difficulty: usize,
@@ -62,7 +62,7 @@ pub enum SumcheckError {
         actual_next: usize,
     },
     /// No element of the base field passes the test of a round.
-    #[error("no witness passes the test of sumcheck round {round}")]
+    #[error("no witness passes in sumcheck round {round}")]
     NoWitness {
         round: usize,
     },
