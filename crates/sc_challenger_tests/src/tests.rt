@@ -16,7 +16,7 @@ use std::alloc::Global;
 
 // The bytes of the seed of one round without grinding, over a field as its own extension, in the basis of values: each
 // digit is a word.
-const ONE_ROUND: [&str; 11] = [
+static ONE_ROUND: [&str; 11] = [
     // version 1, and the protocol's name
     "01",
     "000000000000001570332d73756d636865636b2d717561647261746963",
@@ -36,7 +36,7 @@ const ONE_ROUND: [&str; 11] = [
 ];
 
 // The bytes of a seed without a step, whose label is the byte 171.
-const NO_STEPS: [&str; 5] = [
+static NO_STEPS: [&str; 5] = [
     "01",
     "000000000000001a70332d73756d636865636b2d67656e657269632d646567726565",
     "0000000000000000",

@@ -293,7 +293,7 @@ const EMPTY: Replay = Replay {
     last: &[],
 };
 
-const REPLAYS: [Replay; 8] = [
+static REPLAYS: [Replay; 8] = [
     TESTED,
     Replay {
         name: "no witnesses",
@@ -385,7 +385,7 @@ pub(crate) fn answers(
 
 #[test]
 fn a_replay_ends_where_it_is_refused(rt: HostRuntime) {
-    for replay in REPLAYS {
+    for replay in &REPLAYS {
         let name = replay.name;
         let mut challenger = scripted(rt.alloc(), &[3, 4], &[&[5], &[7]]).expect(&rt, "an answer");
         let data = data_of(rt.alloc(), replay.rounds, replay.witnesses).expect(&rt, "an answer");
@@ -448,7 +448,7 @@ struct Play {
     after_two: Standing,
 }
 
-const PLAYS: [Play; 2] = [
+static PLAYS: [Play; 2] = [
     Play {
         order: VariableOrder::Prefix,
         sent: &TWO,
@@ -511,7 +511,7 @@ fn pair_of(
 
 #[test]
 fn a_pair_is_bound_at_the_challenges(rt: HostRuntime) {
-    for play in PLAYS {
+    for play in &PLAYS {
         let mut challenger = scripted(rt.alloc(), &[3, 4], &[]).expect(&rt, "an answer");
         let mut pair = pair_of(rt.alloc(), play.order).expect(&rt, "an answer");
         let mut data = SumcheckData::new(rt.alloc());

@@ -303,7 +303,7 @@ fn successor_weights_are(alloc: Global, coords: &[u64], weights: &[u64]) -> Resu
 
 // The figures from here on were worked out apart from the crate: the equality weights of all rows straight from their definition, each
 // moved to the row after it, and the last one left where it is; sums over all rows of them; and each power times its equality weight.
-const SUCCESSOR_WEIGHTS: [(&[u64], &[u64]); 6] = [
+static SUCCESSOR_WEIGHTS: [(&[u64], &[u64]); 6] = [
     (&[], &[1]),
     (&[5], &[0, 1]),
     (&[2, 3], &[0, 2, 65534, 2]),
@@ -312,7 +312,7 @@ const SUCCESSOR_WEIGHTS: [(&[u64], &[u64]); 6] = [
     (&[1, 0, 1], &[0, 0, 0, 0, 0, 0, 1, 0]),
 ];
 
-const SUCCESSOR_SUMS: [(&[u64], &[u64], [u64; 3]); 7] = [
+static SUCCESSOR_SUMS: [(&[u64], &[u64], [u64; 3]); 7] = [
     (&[], &[], [1, 0, 1]),
     (&[2], &[3], [65533, 65534, 6]),
     (&[2, 3], &[0, 0], [6, 0, 0]),
@@ -323,7 +323,7 @@ const SUCCESSOR_SUMS: [(&[u64], &[u64], [u64; 3]); 7] = [
 ];
 
 // The power 0 of zero is one, so its table has one in row 0 alone.
-const POWERS: [(u64, &[u64], u64); 7] = [
+static POWERS: [(u64, &[u64], u64); 7] = [
     (3, &[], 1),
     (0, &[], 1),
     (0, &[3, 4], 6),
@@ -335,7 +335,7 @@ const POWERS: [(u64, &[u64], u64); 7] = [
 
 #[test]
 fn successor_weights_of_a_point(rt: HostRuntime) {
-    for (coords, weights) in SUCCESSOR_WEIGHTS {
+    for (coords, weights) in &SUCCESSOR_WEIGHTS {
         assert_eq!(rt;
             successor_weights_are(rt.alloc(), coords, weights),
             Ok(true),
@@ -361,9 +361,9 @@ fn successor_sums_are(
 
 #[test]
 fn successor_sums_of_two_points(rt: HostRuntime) {
-    for (z, x, sums) in SUCCESSOR_SUMS {
+    for (z, x, sums) in &SUCCESSOR_SUMS {
         assert_eq!(rt;
-            successor_sums_are(rt.alloc(), z, x, sums),
+            successor_sums_are(rt.alloc(), z, x, *sums),
             Ok(true),
             "{z:?} {x:?}"
         );
@@ -378,7 +378,7 @@ fn powers_at(alloc: Global, var: u64, x: &[u64]) -> Result<u64, NoMemory> {
 
 #[test]
 fn powers_at_a_point(rt: HostRuntime) {
-    for (var, x, value) in POWERS {
-        assert_eq!(rt; powers_at(rt.alloc(), var, x), Ok(value), "{var} {x:?}");
+    for (var, x, value) in &POWERS {
+        assert_eq!(rt; powers_at(rt.alloc(), *var, x), Ok(*value), "{var} {x:?}");
     }
 }

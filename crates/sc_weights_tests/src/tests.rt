@@ -9,6 +9,7 @@ use sc_field::{F65537, Field, NoMemory};
 use sc_table::{Point, Poly, VariableOrder};
 use sc_weights::{NextConstraint, RowWeights, Selector};
 use std::alloc::Global;
+use std::process::Abort;
 
 // A table of n variables has the first 2^n of these entries, and the point the first n of these coordinates.
 const ENTRIES: [u64; 8] = [1, 2, 3, 4, 9, 7, 12, 5];
@@ -19,7 +20,7 @@ const COORDINATES: [u64; 3] = [3, 4, 5];
 type Wanted<'a> = (&'a [u64], u64, u64);
 
 // Points, and what their equality weights are.
-const EQUALITY: [(&[u64], Wanted<'static>); 5] = [
+static EQUALITY: [(&[u64], Wanted<'static>); 5] = [
     (&[], (&[1], 1, 1)),
     (&[5], (&[65533, 5], 6, 23)),
     (&[0, 1], (&[0, 1, 0, 0], 2, 65529)),
@@ -31,7 +32,7 @@ const EQUALITY: [(&[u64], Wanted<'static>); 5] = [
 ];
 
 // Selectors, points, and what their successor weights are where the slot stands first. Of a point of one coordinate every weight goes to the last row.
-const SLOT_FIRST: [(&[u64], &[u64], Wanted<'static>); 8] = [
+static SLOT_FIRST: [(&[u64], &[u64], Wanted<'static>); 8] = [
     (&[], &[], (&[1], 1, 1)),
     (&[], &[2, 3], (&[0, 2, 65534, 2], 3, 35)),
     (&[5], &[7], (&[0, 65533, 0, 5], 12, 92)),
@@ -59,7 +60,7 @@ const SLOT_FIRST: [(&[u64], &[u64], Wanted<'static>); 8] = [
 ];
 
 // The same where it stands last.
-const SLOT_LAST: [(&[u64], &[u64], Wanted<'static>); 8] = [
+static SLOT_LAST: [(&[u64], &[u64], Wanted<'static>); 8] = [
     (&[], &[], (&[1], 1, 1)),
     (&[], &[2, 3], (&[0, 2, 65534, 2], 3, 35)),
     (&[5], &[7], (&[0, 0, 65533, 5], 8, 96)),
@@ -87,7 +88,7 @@ const SLOT_LAST: [(&[u64], &[u64], Wanted<'static>); 8] = [
 ];
 
 // Scalars, numbers of variables, and what the powers weigh. The power 0 of zero is one; 65536 is the opposite of one.
-const POWERS: [(u64, usize, Wanted<'static>); 6] = [
+static POWERS: [(u64, usize, Wanted<'static>); 6] = [
     (0, 0, (&[1], 1, 1)),
     (0, 2, (&[1, 0, 0, 0], 1, 6)),
     (7, 1, (&[1, 7], 15, 19)),
@@ -101,7 +102,7 @@ const POWERS: [(u64, usize, Wanted<'static>); 6] = [
 ];
 
 // Points, and what the products of their coordinates weigh.
-const PRODUCTS: [(&[u64], Wanted<'static>); 5] = [
+static PRODUCTS: [(&[u64], Wanted<'static>); 5] = [
     (&[], (&[1], 1, 1)),
     (&[5], (&[1, 5], 11, 13)),
     (&[0, 3], (&[1, 3, 0, 0], 7, 65519)),
@@ -202,43 +203,54 @@ fn products(alloc: Global, coords: &[u64], wanted: Wanted) -> Result<bool, NoMem
 
 #[test]
 fn equality_weights(rt: HostRuntime) {
-    for (coords, wanted) in EQUALITY {
+    for (coords, wanted) in &EQUALITY {
         assert_eq!(rt;
-            equality(rt.alloc(), coords, wanted),
+            equality(rt.alloc(), coords, *wanted),
             Ok(true),
             "{coords:?}"
         );
     }
 }
 
-#[test]
-fn successor_weights_in_a_slot_that_stands_first(rt: HostRuntime) {
-    for (selector, coords, wanted) in SLOT_FIRST {
-        let agrees = successor(rt.alloc(), VariableOrder::Prefix, selector, coords, wanted);
+// That the successor weights of each row are the wanted ones.
+fn assert_successors<A: Abort>(
+    rt: &A,
+    alloc: Global,
+    var_order: VariableOrder,
+    rows: &[(&[u64], &[u64], Wanted)],
+) {
+    for (selector, coords, wanted) in rows {
+        let agrees = successor(alloc, var_order, selector, coords, *wanted);
         assert_eq!(rt; agrees, Ok(true), "{selector:?} {coords:?}");
     }
+}
+
+#[test]
+fn successor_weights_in_a_slot_that_stands_first(rt: HostRuntime) {
+    assert_successors(&rt, rt.alloc(), VariableOrder::Prefix, &SLOT_FIRST);
 }
 
 #[test]
 fn successor_weights_in_a_slot_that_stands_last(rt: HostRuntime) {
-    for (selector, coords, wanted) in SLOT_LAST {
-        let agrees = successor(rt.alloc(), VariableOrder::Suffix, selector, coords, wanted);
-        assert_eq!(rt; agrees, Ok(true), "{selector:?} {coords:?}");
-    }
+    assert_successors(&rt, rt.alloc(), VariableOrder::Suffix, &SLOT_LAST);
 }
 
 #[test]
 fn powers_of_a_scalar(rt: HostRuntime) {
-    for (var, n, wanted) in POWERS {
-        assert_eq!(rt; powers(rt.alloc(), var, n, wanted), Ok(true), "{var} {n}");
+    for (var, n, wanted) in &POWERS {
+        assert_eq!(rt;
+            powers(rt.alloc(), *var, *n, *wanted),
+            Ok(true),
+            "{var} {n}"
+        );
     }
 }
 
 #[test]
 fn products_of_coordinates(rt: HostRuntime) {
-    for (coords, wanted) in PRODUCTS {
+    for (coords, wanted) in &PRODUCTS {
         assert_eq!(rt;
-            products(rt.alloc(), coords, wanted),
+            products(rt.alloc(), coords, *wanted),
             Ok(true),
             "{coords:?}"
         );

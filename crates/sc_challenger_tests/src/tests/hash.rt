@@ -17,14 +17,14 @@ enum Step {
 }
 
 // SHA-256 of the empty text.
-const EMPTY: [u8; 32] = [
+static EMPTY: [u8; 32] = [
     0xe3, 0xb0, 0xc4, 0x42, 0x98, 0xfc, 0x1c, 0x14, 0x9a, 0xfb, 0xf4, 0xc8, 0x99, 0x6f, 0xb9, 0x24,
     0x27, 0xae, 0x41, 0xe4, 0x64, 0x9b, 0x93, 0x4c, 0xa4, 0x95, 0x99, 0x1b, 0x78, 0x52, 0xb8, 0x55,
 ];
 
 // Plays over the integers modulo 65537, each from the empty history on. The state behind the word of a witness that fails
 // begins with one zero bit fewer than the test has.
-const DRAWS_AND_WORDS: [Step; 13] = [
+static DRAWS_AND_WORDS: [Step; 13] = [
     Step::Draw(25515),
     Step::Draw(56235),
     Step::Observe(2),
@@ -40,7 +40,7 @@ const DRAWS_AND_WORDS: [Step; 13] = [
     Step::Draw(21487),
 ];
 
-const TESTS_OF_EIGHT_BITS: [Step; 6] = [
+static TESTS_OF_EIGHT_BITS: [Step; 6] = [
     Step::Observe(0),
     Step::Draw(33690),
     Step::Test(8, 910, true),
@@ -49,7 +49,7 @@ const TESTS_OF_EIGHT_BITS: [Step; 6] = [
     Step::Draw(50111),
 ];
 
-const TESTS_OF_SIXTEEN_BITS: [Step; 5] = [
+static TESTS_OF_SIXTEEN_BITS: [Step; 5] = [
     Step::Observe(7),
     Step::Observe(2),
     Step::Test(16, 7664, true),

@@ -4,7 +4,7 @@ use super::figures::{Figures, assert_figures};
 use sc_field::{F257, F65537};
 
 // 2 * 32769 is 65538, and 3 * 21846 is 65538 too.
-const MODULO_65537: Figures = Figures {
+static MODULO_65537: Figures = Figures {
     constants: (65537, 0, 1, 2),
     results: &[
         (Sum(40000, 30000), 4463),
@@ -39,7 +39,7 @@ const MODULO_65537: Figures = Figures {
     equal: &[(0, 1, false), (65536, 65536, true)],
 };
 
-const MODULO_257: Figures = Figures {
+static MODULO_257: Figures = Figures {
     constants: (257, 0, 1, 2),
     results: &[
         (Sum(200, 100), 43),

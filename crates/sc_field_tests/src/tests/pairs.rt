@@ -7,7 +7,7 @@ use sc_field::{Algebra, ExtensionField, F257, F257x2, Field};
 // u u is 3, (2 + u) (2 - u) is 1, and (10 + 20 u) (30 + 40 u) is 2700 + 1000 u: 130 + 229 u. So 2 + u
 // and 2 - u are inverse to each other, and u/3 inverts u. The power 257 turns the sign of u, and the
 // power 66048 of all but zero is one.
-const PAIRS: Figures = Figures {
+static PAIRS: Figures = Figures {
     constants: (66049, 0, 1, 2),
     results: &[
         (Sum(257, 257), 514),
@@ -57,11 +57,11 @@ const PAIRS: Figures = Figures {
 };
 
 // Elements by their parts, and their numbers.
-const PARTS: [(u64, u64, u64); 2] = [(3, 5, 1288), (256, 256, 66048)];
+static PARTS: [(u64, u64, u64); 2] = [(3, 5, 1288), (256, 256, 66048)];
 
 // An element by its number, a part of another, and the numbers of the element with it as first and as
 // second part.
-const REPLACED: [(u64, u64, u64, u64); 2] = [
+static REPLACED: [(u64, u64, u64, u64); 2] = [
     (1288, 9, 9 + 257 * 5, 3 + 257 * 9),
     (1288, 256, 1541, 3 + 257 * 256),
 ];
@@ -91,18 +91,18 @@ fn has_its_figures(rt: HostRuntime) {
 #[test]
 fn numbers_its_parts(rt: HostRuntime) {
     assert_eq!(rt; <F257x2 as ExtensionField<F257>>::DEGREE, 2);
-    for (a, b, number) in PARTS {
-        assert_eq!(rt; of(a, b).index(), number);
-        assert_eq!(rt; parts(at(number)), (a, b));
+    for (a, b, number) in &PARTS {
+        assert_eq!(rt; of(*a, *b).index(), *number);
+        assert_eq!(rt; parts(at(*number)), (*a, *b));
     }
 }
 
 #[test]
 fn replaces_one_part(rt: HostRuntime) {
-    for (number, put, first, second) in REPLACED {
-        let part = F257::element(put % 257);
-        assert_eq!(rt; at(number).with_part(0, part).index(), first);
-        assert_eq!(rt; at(number).with_part(1, part).index(), second);
+    for (number, put, first, second) in &REPLACED {
+        let part = F257::element(*put % 257);
+        assert_eq!(rt; at(*number).with_part(0, part).index(), *first);
+        assert_eq!(rt; at(*number).with_part(1, part).index(), *second);
     }
     let (degree, first, put) = super::first_part_put(at(1288), F257::element(256));
     assert_eq!(rt; (degree, first.index(), put.index()), (2, 3, 1541));

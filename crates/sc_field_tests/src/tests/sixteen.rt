@@ -9,7 +9,7 @@ use std::process::Abort;
 
 // The products by hand from w^2 = w + 1 and y^2 = y + w, where 2 is w and 4 is y: digit number b of
 // row number a, from the left, is the product of the elements a and b.
-const TOWER_PRODUCTS: [u64; 16] = [
+static TOWER_PRODUCTS: [u64; 16] = [
     0x0000_0000_0000_0000,
     0x0123_4567_89ab_cdef,
     0x0231_8ab9_cefd_4675,
@@ -29,7 +29,7 @@ const TOWER_PRODUCTS: [u64; 16] = [
 ];
 
 // The products by hand from x^4 = x + 1, where 2 is x.
-const POLYNOMIAL_PRODUCTS: [u64; 16] = [
+static POLYNOMIAL_PRODUCTS: [u64; 16] = [
     0x0000_0000_0000_0000,
     0x0123_4567_89ab_cdef,
     0x0246_8ace_3175_b9fd,
@@ -50,21 +50,21 @@ const POLYNOMIAL_PRODUCTS: [u64; 16] = [
 
 // The sums of 6, the differences of 13, and the inverses: the exclusive or of 6, and of 13, with 0 to
 // 15, and where the digit 1 stands in each row of the table of products.
-const TOWER_DIGITS: (u64, u64, u64) = (
+static TOWER_DIGITS: (u64, u64, u64) = (
     0x6745_2301_efcd_ab89,
     0xdcfe_98ba_5476_1032,
     0x0132_fc9b_a687_5ed4,
 );
 
 // The sums of 13, the differences of 6, and the inverses.
-const POLYNOMIAL_DIGITS: (u64, u64, u64) = (
+static POLYNOMIAL_DIGITS: (u64, u64, u64) = (
     0xdcfe_98ba_5476_1032,
     0x6745_2301_efcd_ab89,
     0x019e_db76_f2c5_a438,
 );
 
 // The powers by multiplying so many times over by the table of products.
-const TOWER: Figures = Figures {
+static TOWER: Figures = Figures {
     constants: (16, 0, 1, 0),
     results: &[
         (Opposite(11), 11),
@@ -78,7 +78,7 @@ const TOWER: Figures = Figures {
     equal: &[(1, 0, false), (15, 15, true)],
 };
 
-const POLYNOMIALS: Figures = Figures {
+static POLYNOMIALS: Figures = Figures {
     constants: (16, 0, 1, 0),
     results: &[
         (Opposite(9), 9),

@@ -17,7 +17,7 @@ struct Between {
     left: u64,
 }
 
-const BETWEEN: [Between; 2] = [
+static BETWEEN: [Between; 2] = [
     Between {
         order: VariableOrder::Prefix,
         value: 9,

@@ -2,7 +2,7 @@
 use super::audit;
 
 // A job, its status and its text.
-const FIELDS: [(&str, u8, &str); 16] = [
+static FIELDS: [(&str, u8, &str); 16] = [
     // 16 elements
     (
         r#"{"field":"16","challenger":{"draws":[2,4],"witnesses":[]},"order":"prefix","bits":0,"table":[1,2,3,4],"variables":2,"groups":[{"kind":"eq","claims":[{"point":[0,1],"value":2}]}],"batching":1,"mode":{"build":"plain"}}"#,
@@ -106,7 +106,7 @@ const EXTENSION: &str =
     r#"{"field":"257x2","challenger":{"draws":[2,1],"witnesses":[]},"order":"prefix","bits":0,"table":[1,2],"variables":1,"groups":[{"kind":"eq","claims":[{"point":[257],"value":258}]}],"batching":1,"mode":{"build":"plain"}}"#;
 
 // A part of that job, what stands in its place, and what is refused: numbers that are no elements of their field.
-const TOO_LARGE: [(&str, &str, &str); 10] = [
+static TOO_LARGE: [(&str, &str, &str); 10] = [
     // a base number
     ("[1,2]", "[1,257]", "bad-job table"),
     // draws are base numbers

@@ -45,7 +45,7 @@ pub(super) const LUCKY_BATCH: &str =
     r#"{"field":"65537","challenger":{"draws":[5],"witnesses":[]},"order":"prefix","bits":0,"table":[1,2],"variables":1,"groups":[{"kind":"eq","claims":[{"point":[0],"value":4},{"point":[1],"value":1}]}],"batching":3,"mode":{"check":{"rounds":[[1,2]],"witnesses":[]}}}"#;
 
 // Each word, input, status and text.
-pub(super) const ROWS: [(&str, &str, u8, &str); 16] = [
+pub(super) static ROWS: [(&str, &str, u8, &str); 16] = [
     ("audit", FIRST, 0, FIRST_TEXT),
     (
         "audit",
@@ -90,7 +90,7 @@ pub(super) const ROWS: [(&str, &str, u8, &str); 16] = [
 ];
 
 // What stands in the first job, what in its place is refused, and by what text.
-pub(super) const CHANGES: [(&str, &str, &str); 82] = [
+pub(super) static CHANGES: [(&str, &str, &str); 82] = [
     // a member that is missing
     (r#""field":"65537","#, "", "bad-job field"),
     (
@@ -254,7 +254,7 @@ pub(super) const CHANGES: [(&str, &str, &str); 82] = [
 ];
 
 // What stands for the build in the first job, with the status and the text.
-pub(super) const CHECKS: [(&str, u8, &str); 8] = [
+pub(super) static CHECKS: [(&str, u8, &str); 8] = [
     (
         r#"{"check":{"rounds":[[2,65535],[0,65535]],"witnesses":[]}}"#,
         0,
@@ -295,7 +295,7 @@ pub(super) const CHECKS: [(&str, u8, &str); 8] = [
 ];
 
 // The same in suffix order.
-pub(super) const SUFFIX_MODES: [(&str, u8, &str); 9] = [
+pub(super) static SUFFIX_MODES: [(&str, u8, &str); 9] = [
     (r#"{"build":"plain"}"#, 0, SUFFIX_TEXT),
     (
         r#"{"check":{"rounds":[[0,1],[12,65531]],"witnesses":[]}}"#,
@@ -338,7 +338,7 @@ pub(super) const SUFFIX_MODES: [(&str, u8, &str); 9] = [
 ];
 
 // What stands in the first job, and in its place what is read as the same job.
-pub(super) const SAME: [(&str, &str); 10] = [
+pub(super) static SAME: [(&str, &str); 10] = [
     // the last of two members counts
     (
         r#""order":"prefix""#,
@@ -359,7 +359,7 @@ pub(super) const SAME: [(&str, &str); 10] = [
 ];
 
 // The first job at a difficulty: the difficulty, the witnesses that pass each test, the mode, the status and the text.
-pub(super) const DIFFICULTIES: [(&str, &str, &str, u8, &str); 15] = [
+pub(super) static DIFFICULTIES: [(&str, &str, &str, u8, &str); 15] = [
     ("1", "[]", r#"{"build":"plain"}"#, 5, "no witness round 0\n"),
     (
         "1",
@@ -466,7 +466,7 @@ pub(super) const DIFFICULTIES: [(&str, &str, &str, u8, &str); 15] = [
 ];
 
 // The first job under the hash challenger: the order, the difficulty, the text, and a proof of the rounds that are printed.
-pub(super) const HASHES: [(&str, &str, &str, &str); 4] = [
+pub(super) static HASHES: [(&str, &str, &str, &str); 4] = [
     (
         r#""prefix""#,
         "0",

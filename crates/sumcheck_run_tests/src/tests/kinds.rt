@@ -18,7 +18,7 @@ const THREE_VARIABLES: &str =
     r#""challenger":{"draws":[10,20,65536],"witnesses":[]},"table":[3,1,4,1,5,9,2,6],"variables":3"#;
 
 // A job's table, its order, its groups, their batching element, and the text.
-const KINDS: [(&str, &str, &str, &str, &str); 16] = [
+static KINDS: [(&str, &str, &str, &str, &str); 16] = [
     // a successor and a scalar behind it
     (
         TWO_VARIABLES,
@@ -150,7 +150,7 @@ const KINDS: [(&str, &str, &str, &str, &str); 16] = [
 ];
 
 // What stands for the groups of the first job and is refused for them.
-const REFUSED: [&str; 34] = [
+static REFUSED: [&str; 34] = [
     // no kind, or another
     r#"[{"claims":[{"point":[0,1],"value":2}]}]"#,
     r#"[{"kind":1,"claims":[{"point":[0,1],"value":2}]}]"#,
@@ -193,7 +193,7 @@ const REFUSED: [&str; 34] = [
 ];
 
 // What stands for the groups of the first job, and how its first false claim is told.
-const FALSE_CLAIMS: [(&str, &str); 5] = [
+static FALSE_CLAIMS: [(&str, &str); 5] = [
     (
         r#"[{"kind":"next","claims":[{"selector":[],"point":[2,3],"order":"prefix","value":4}]}]"#,
         "0 claimed 4 true 3",
