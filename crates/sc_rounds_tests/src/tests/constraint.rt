@@ -1,11 +1,11 @@
-//! Constraints between batches, claims added by the caller, and the last rounds of a protocol, by figures by hand.
+//! Constraints between batches, and claims added by the caller, by figures by hand.
 ghost use Rattle.std.specs.Prelude.{◌≡◌, ◌^◌, length};
 ghost use Rattle.sc_rounds.specs.Products.{variables_in};
 
 use super::step::{one_claim, prover_of, scripted};
-use super::{answers, data_of, elements, have_numbers, of};
+use super::{data_of, elements, have_numbers, of};
 use sc_field::{F65537, Field};
-use sc_rounds::{SumcheckData, SumcheckError, SumcheckProver, verify_final_sumcheck_rounds};
+use sc_rounds::{SumcheckData, SumcheckProver};
 use sc_table::{Basis, VariableOrder};
 
 // A constraint on what the first of two rounds leaves: the value claimed at 2, what the second round then sends, and the claims before and after it.
@@ -135,58 +135,4 @@ fn a_claim_is_added_row_by_row(rt: HostRuntime) {
             &[5, 1, 0, 0]
         )
     );
-}
-
-#[test]
-fn no_last_rounds_want_no_data(rt: HostRuntime) {
-    let data = data_of(rt.alloc(), &[(2, 65535), (0, 65535)], &[]).expect(&rt, "an answer");
-    let mut challenger = scripted(rt.alloc()).expect(&rt, "an answer");
-    let mut claim = of(2);
-    for found in [None, Some(&data)] {
-        let none = verify_final_sumcheck_rounds(
-            rt.alloc(),
-            found,
-            &mut challenger,
-            &mut claim,
-            0,
-            99,
-            Basis::Evaluation,
-        )
-        .expect(&rt, "an answer");
-        assert_eq!(rt; none.num_variables(), 0);
-        assert_eq!(rt; claim.index(), 2);
-        assert_eq!(rt; challenger.events().len(), 0);
-    }
-}
-
-#[test]
-fn last_rounds_want_their_data(rt: HostRuntime) {
-    let data = data_of(rt.alloc(), &[(2, 65535), (0, 65535)], &[]).expect(&rt, "an answer");
-    let mut challenger = scripted(rt.alloc()).expect(&rt, "an answer");
-    let mut claim = of(2);
-    let missing = verify_final_sumcheck_rounds::<F65537, F65537, _>(
-        rt.alloc(),
-        None,
-        &mut challenger,
-        &mut claim,
-        2,
-        0,
-        Basis::Evaluation,
-    );
-    let wanted = SumcheckError::MissingSumcheckData { expected_rounds: 2 };
-    assert!(rt; answers(&missing, Err(wanted)));
-    assert_eq!(rt; claim.index(), 2);
-    assert_eq!(rt; challenger.events().len(), 0);
-    let point = verify_final_sumcheck_rounds(
-        rt.alloc(),
-        Some(&data),
-        &mut challenger,
-        &mut claim,
-        2,
-        0,
-        Basis::Evaluation,
-    )
-    .expect(&rt, "an answer");
-    assert!(rt; have_numbers(point.as_slice(), &[3, 4]));
-    assert_eq!(rt; claim.index(), 65449);
 }
