@@ -1,7 +1,7 @@
 //! The integers modulo 65537 and modulo 257, against remainders by hand.
 use super::figures::Operation::{Difference, Double, Node, Opposite, Power, Product, Square, Sum};
 use super::figures::{Figures, assert_figures};
-use sc_field::{F257, F65537};
+use sc_field::{F257, F65537, Field};
 
 // 2 * 32769 is 65538, and 3 * 21846 is 65538 too.
 static MODULO_65537: Figures = Figures {
@@ -85,6 +85,7 @@ static MODULO_257: Figures = Figures {
 #[test]
 fn integers_modulo_65537(rt: HostRuntime) {
     assert_figures::<F65537, HostRuntime>(&rt, &MODULO_65537);
+    assert_eq!(rt; super::fifteenth::<F65537>().index(), 15);
 }
 
 #[test]
