@@ -24,7 +24,7 @@ use Rattle.sc_transcript.specs.declared.error.SumcheckError.TheVariants.{RoundCo
 use Rattle.sc_transcript.specs.Invalid.{FindsNone as IsUnfound}
 use Rattle.sc_definitions.proofs.BuiltLaws.{length-messages}
 use Rattle.sc_rounds.proofs.InStep.{given_played, count_witnesses, none_failing}
-use Rattle.sc_audit.specs.declared.job.Strategy.{Strategy}
+use Rattle.sc_table.specs.declared.strategy.Strategy.{Strategy}
 use Rattle.sc_audit.specs.Cases.{Case, Task, build}
 use Rattle.sc_audit.specs.Figures.{holds, finding_by, false_claim_of, is_matched}
 use Rattle.sc_audit.specs.Audits.{begun, IsAudited, IsBrokenOff, FindsNone}

@@ -7,7 +7,7 @@ use Rattle.sc_table.specs.Strategy.{order_of}
 use Rattle.sc_statements.specs.Constraints.{constraint_arity, constraint_challenge, constraint_power, constraint_statements}
 use Rattle.sc_transcript.specs.declared.data.SumcheckData.{SumcheckData}
 use Rattle.sc_transcript.specs.Data.{messages_in, witnesses_in}
-use Rattle.sc_audit.specs.declared.job.Strategy.{Strategy}
+use Rattle.sc_table.specs.declared.strategy.Strategy.{Strategy}
 use Rattle.sc_audit.specs.declared.job.Mode.{Mode}
 use Rattle.sc_audit.specs.declared.job.Mode.TheVariants.{Build, Check}
 use Rattle.sc_audit.specs.declared.job.Job.{Job}

@@ -4,7 +4,7 @@ use Rattle.sc_definitions.specs.declared.events.Event.{Event}
 use Rattle.sc_definitions.specs.Ring.{Ops}
 use Rattle.sc_definitions.specs.Events.{Rules, Extension}
 use Rattle.sc_definitions.specs.Problem.{Problem}
-use Rattle.sc_audit.specs.declared.job.Strategy.{Strategy}
+use Rattle.sc_table.specs.declared.strategy.Strategy.{Strategy}
 use Rattle.sc_audit.specs.Cases.{Case, build}
 use Rattle.sc_audit.specs.Figures.{Figures}
 use Rattle.sc_audit.specs.Audits.{IsAudited}

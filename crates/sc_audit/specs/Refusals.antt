@@ -6,7 +6,7 @@ use Rattle.sc_definitions.specs.Statements.{first_false_claim}
 use Rattle.sc_definitions.specs.Problem.{Problem}
 use Rattle.sc_statements.specs.FalseClaims.{told}
 use Rattle.sc_transcript.specs.Data.{witness_count}
-use Rattle.sc_audit.specs.declared.job.Strategy.TheVariants.{Plain, Represented, SmallValue}
+use Rattle.sc_table.specs.declared.strategy.Strategy.TheVariants.{Plain, Represented, SmallValue}
 use Rattle.sc_audit.specs.declared.error.AuditError.{AuditError}
 use Rattle.sc_audit.specs.declared.error.AuditError.TheVariants.{Unbuilt, JobShape, FalseClaim, MissingSumcheckData, RoundCountMismatch, PowWitnessCountMismatch}
 use Rattle.sc_audit.specs.declared.error.Form.TheVariants.{Mode}

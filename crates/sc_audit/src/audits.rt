@@ -8,11 +8,12 @@ ghost use Rattle.sc_audit.specs.Audits.{IsAudited, IsCaused, IsValid, MayMeet};
 use crate::building::build;
 use crate::checking::check;
 use crate::error::{AuditError, Form};
-use crate::job::{Job, Mode, Strategy};
+use crate::job::{Job, Mode};
 use crate::report::{Report, Verdict};
 use crate::shape::check_shape;
 use sc_challenger::Challenger;
 use sc_field::{ExtensionField, Field, IntoTranscriptField};
+use sc_table::Strategy;
 use std::alloc::Global;
 
 /// Builds the rounds of a job, or checks those of its proof, and reports on them. There is no condition on the job: what does not fit is refused, in

@@ -9,13 +9,13 @@ ghost use Rattle.sc_audit.specs.Built.{IsBuiltJob};
 
 use crate::common::{refusal, table_of_job};
 use crate::error::AuditError;
-use crate::job::{Job, Strategy};
+use crate::job::Job;
 use crate::report::{Report, Verdict};
 use crate::strategies::{Built, plain, represented};
 use sc_challenger::Challenger;
 use sc_field::{ExtensionField, Field, IntoTranscriptField};
 use sc_svo::Grids;
-use sc_table::Basis;
+use sc_table::{Basis, Strategy};
 use std::alloc::Global;
 
 // Builds the rounds of a job of the right shape, unless a statement is false.

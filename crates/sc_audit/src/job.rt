@@ -1,18 +1,7 @@
 //! What is asked.
 use sc_rounds::SumcheckData;
 use sc_statements::Constraint;
-use sc_table::VariableOrder;
-
-/// How rounds are built.
-#[derive(Clone, Copy, Debug, PartialEq, Eq)]
-pub enum Strategy {
-    /// On the table of the extension's elements.
-    Plain,
-    /// On the table of their images in a representation.
-    Represented,
-    /// The first rounds on the table of base elements, for so many variables.
-    SmallValue { variables: usize },
-}
+use sc_table::{Strategy, VariableOrder};
 
 /// What is done with a table and its statements.
 #[derive(Drop)]

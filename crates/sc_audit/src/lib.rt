@@ -16,7 +16,8 @@ mod strategies;
 
 pub use audits::audit;
 pub use error::{AuditError, FitFault, Form, ShapeFault};
-pub use job::{Job, Mode, Strategy};
+pub use job::{Job, Mode};
 pub use laws::build_laws;
 pub use report::{Report, Verdict};
 pub use sc_svo::{Grid, Grids};
+pub use sc_table::Strategy;

@@ -3,8 +3,8 @@ use crate::{
     Failed, MemSink, MemSource, PlainSource, ReadFault, Sink, Source, StdSink, StdSource, read_all,
     write_all,
 };
+use std::alloc::{AllocError, Global};
 use std::io::{self, Error, ErrorKind, Read, Write};
-use std::test::Fail;
 
 // A reader and a writer that is interrupted so many times, and then moves one byte at a call.
 #[derive(Drop)]
@@ -71,62 +71,70 @@ fn an_interrupted_call_is_tried_again_1024_times(rt: HostRuntime) {
         (1025, Err(Failed), 1),
     ] {
         let mut source = StdSource::new(Interrupted { times });
-        let mut piece = [0; 4];
-        assert_eq!(rt; source.read(&mut piece), want, "a read after {times}");
-        assert_eq!(rt; source.faults, faults, "a read after {times}");
+        let read = source.read(&mut [0; 4]);
+        assert_eq!(rt;
+            (read, source.faults),
+            (want, faults),
+            "a read after {times}"
+        );
         let mut sink = StdSink::new(Interrupted { times });
-        assert_eq!(rt; sink.write(b"ab"), want, "a write after {times}");
-        assert_eq!(rt; sink.faults, faults, "a write after {times}");
+        let written = sink.write(b"ab");
+        assert_eq!(rt;
+            (written, sink.faults),
+            (want, faults),
+            "a write after {times}"
+        );
     }
 }
 
 #[test]
 fn each_failed_call_counts_once(rt: HostRuntime) {
     let mut source = StdSource::new(Interrupted { times: 2050 });
-    let mut piece = [0; 4];
-    assert_eq!(rt; source.read(&mut piece), Err(Failed));
-    assert_eq!(rt; source.read(&mut piece), Err(Failed));
-    assert_eq!(rt; source.read(&mut piece), Ok(1));
+    for want in [Err(Failed), Err(Failed), Ok(1)] {
+        assert_eq!(rt; source.read(&mut [0; 4]), want);
+    }
     assert_eq!(rt; source.faults, 2);
 }
 
 #[test]
 fn a_writer_that_takes_nothing_fails(rt: HostRuntime) {
     let mut sink = StdSink::new(Stuck);
-    assert_eq!(rt; sink.write(b""), Ok(0));
-    assert_eq!(rt; sink.faults, 0);
-    assert_eq!(rt; sink.write(b"a"), Err(Failed));
-    assert_eq!(rt; sink.faults, 1);
+    for (text, want, faults) in [(b"".as_slice(), Ok(0), 0), (b"a", Err(Failed), 1)] {
+        let written = sink.write(text);
+        assert_eq!(rt; (written, sink.faults), (want, faults), "{text:?}");
+    }
 }
 
 #[test]
 fn a_sink_of_ten_bytes_takes_ten_and_then_fails(rt: HostRuntime) {
-    let mut sink = MemSink::new(rt.alloc(), 10, Vec::new(rt.alloc())).expect(&rt, "an answer");
-    assert_eq!(rt; sink.write(b"abcdef"), Ok(6));
-    assert_eq!(rt; sink.write(b"ghijkl"), Ok(4));
-    assert_eq!(rt; sink.write(b"m"), Err(Failed));
-    assert_eq!(rt; sink.write(b""), Ok(0));
-    assert_eq!(rt; sink.bytes(), b"abcdefghij".as_slice());
-    assert_eq!(rt; sink.calls(), 4);
-    assert_eq!(rt; sink.faults, 1);
+    let mut sink = MemSink::new(rt.alloc(), 10, Vec::new(rt.alloc())).expect(&rt, "a sink");
+    for (text, want) in [
+        (b"abcdef".as_slice(), Ok(6)),
+        (b"ghijkl", Ok(4)),
+        (b"m", Err(Failed)),
+        (b"", Ok(0)),
+    ] {
+        assert_eq!(rt; sink.write(text), want, "{text:?}");
+    }
+    assert_eq!(rt;
+        (sink.bytes(), sink.calls(), sink.faults),
+        (b"abcdefghij".as_slice(), 4, 1)
+    );
 }
 
 #[test]
 fn a_source_fails_at_the_listed_call_alone(rt: HostRuntime) {
-    let bytes = b"abcdef".to_vec(rt.alloc()).expect(&rt, "an answer");
-    let mut source = MemSource::new(bytes, [1].to_vec(rt.alloc()).expect(&rt, "an answer"));
+    let bytes = b"abcdef".to_vec(rt.alloc()).expect(&rt, "bytes");
+    let mut source = MemSource::new(bytes, [1].to_vec(rt.alloc()).expect(&rt, "a call"));
     let mut piece = [0; 2];
-    assert_eq!(rt; source.read(&mut piece), Ok(2));
-    assert_eq!(rt; source.read(&mut piece), Err(Failed));
-    assert_eq!(rt; source.read(&mut piece), Ok(2));
-    assert_eq!(rt; piece, *b"cd");
-    assert_eq!(rt; source.faults, 1);
+    for want in [Ok(2), Err(Failed), Ok(2)] {
+        assert_eq!(rt; source.read(&mut piece), want);
+    }
+    assert_eq!(rt; (piece, source.faults), (*b"cd", 1));
 }
 
 #[test]
-fn read_all_reads_one_byte_past_the_limit_and_stops_at_the_end(
-    rt: HostRuntime,
-) -> Result<(), Fail> {
+fn read_all_reads_one_byte_past_the_limit_and_stops_at_the_end(rt: HostRuntime) {
     // The bytes that there are, the limit, how many bytes and how many calls are wanted.
     for (count, limit, want, calls) in [
         (0, 0, 0, 1),
@@ -137,46 +145,57 @@ fn read_all_reads_one_byte_past_the_limit_and_stops_at_the_end(
         (70_000, 100_000, 70_000, 3),
         (70_000, 65_536, 65_537, 2),
     ] {
-        let bytes = vec![in rt.alloc(); 7; count]?;
+        let bytes = vec![in rt.alloc(); 7; count].expect(&rt, "bytes");
         let mut source = MemSource::new(bytes, Vec::new(rt.alloc()));
-        let read = read_all(rt.alloc(), &mut source, limit)?;
-        assert_eq!(rt; read.len(), want, "{count} bytes, limit {limit}");
-        assert_eq!(rt; source.calls(), calls, "{count} bytes, limit {limit}");
+        let read = read_all(rt.alloc(), &mut source, limit).expect(&rt, "an input");
+        let told = (read.len(), source.calls());
+        assert_eq!(rt; told, (want, calls), "{count} bytes, limit {limit}");
     }
-    Ok(())
 }
 
 #[test]
-fn a_fault_in_mid_stream_is_told(rt: HostRuntime) {
-    let bytes = vec![in rt.alloc(); 7; 70_000].expect(&rt, "an answer");
-    let mut source = MemSource::new(bytes, [1].to_vec(rt.alloc()).expect(&rt, "an answer"));
+fn a_read_fault_in_mid_stream_is_told(rt: HostRuntime) {
+    let bytes = vec![in rt.alloc(); 7; 70_000].expect(&rt, "bytes");
+    let mut source = MemSource::new(bytes, [1].to_vec(rt.alloc()).expect(&rt, "a call"));
     let read = read_all(rt.alloc(), &mut source, 100_000);
     assert_eq!(rt; read.err(), Some(ReadFault::Failed));
-    let mut sink = MemSink::new(rt.alloc(), 4, Vec::new(rt.alloc())).expect(&rt, "an answer");
-    assert_eq!(rt; write_all(&mut sink, b"abcdef"), Err(Failed));
-    assert_eq!(rt; sink.bytes(), b"abcd".as_slice());
 }
 
 #[test]
-fn bytes_come_through_unchanged(rt: HostRuntime) {
-    let mut bytes = Vec::new(rt.alloc());
+fn a_write_fault_in_mid_stream_is_told(rt: HostRuntime) {
+    let mut sink = MemSink::new(rt.alloc(), 4, Vec::new(rt.alloc())).expect(&rt, "a sink");
+    let written = write_all(&mut sink, b"abcdef");
+    assert_eq!(rt; (written, sink.bytes()), (Err(Failed), b"abcd".as_slice()));
+}
+
+// 70,000 bytes, not all alike.
+fn many(alloc: Global) -> Result<Vec<u8>, AllocError> {
+    let mut bytes = Vec::new(alloc);
     for i in 0..70_000u32 {
-        bytes.push((i % 251) as u8).expect(&rt, "an answer");
+        bytes.push((i % 251) as u8)?;
     }
-    let mut plain = PlainSource::new(bytes.clone().expect(&rt, "an answer"));
-    assert_eq!(rt;
-        read_all(rt.alloc(), &mut plain, 100_000).expect(&rt, "an answer"),
-        bytes
-    );
+    Ok(bytes)
+}
+
+#[test]
+fn bytes_come_from_a_source_unchanged(rt: HostRuntime) {
+    let bytes = many(rt.alloc()).expect(&rt, "bytes");
     let mut standard = StdSource::new(bytes.as_slice());
-    assert_eq!(rt;
-        read_all(rt.alloc(), &mut standard, 100_000).expect(&rt, "an answer"),
-        bytes
-    );
-    let mut sink = MemSink::new(rt.alloc(), 70_000, Vec::new(rt.alloc())).expect(&rt, "an answer");
-    assert_eq!(rt; write_all(&mut sink, &bytes), Ok(()));
-    assert_eq!(rt; sink.bytes(), bytes.as_slice());
+    let read = read_all(rt.alloc(), &mut standard, 100_000).expect(&rt, "an input");
+    let mut plain = PlainSource::new(many(rt.alloc()).expect(&rt, "bytes"));
+    let again = read_all(rt.alloc(), &mut plain, 100_000).expect(&rt, "an input");
+    assert!(rt; read == bytes && again == bytes);
+}
+
+#[test]
+fn bytes_come_to_a_sink_unchanged(rt: HostRuntime) {
+    let bytes = many(rt.alloc()).expect(&rt, "bytes");
+    let mut sink = MemSink::new(rt.alloc(), 70_000, Vec::new(rt.alloc())).expect(&rt, "a sink");
     let mut written = StdSink::new(Vec::new(rt.alloc()));
-    assert_eq!(rt; write_all(&mut written, &bytes), Ok(()));
-    assert_eq!(rt; written.writer, bytes);
+    let told = [
+        write_all(&mut sink, &bytes),
+        write_all(&mut written, &bytes),
+    ];
+    assert_eq!(rt; told, [Ok(()), Ok(())]);
+    assert!(rt; sink.bytes() == bytes.as_slice() && written.writer == bytes);
 }

@@ -18,6 +18,6 @@ pub use point::Point;
 pub use poly::{Poly, eval_slice};
 pub use row::Row;
 pub use strategy::{
-    Basis, RoundMessage, VariableOrder, sumcheck_coefficients_prefix,
+    Basis, RoundMessage, Strategy, VariableOrder, sumcheck_coefficients_prefix,
     sumcheck_coefficients_prefix_projective, sumcheck_coefficients_suffix,
 };

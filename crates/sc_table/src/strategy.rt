@@ -226,6 +226,17 @@ impl Basis {
     }
 }
 
+/// How rounds are built.
+#[derive(Clone, Copy, Debug, PartialEq, Eq)]
+pub enum Strategy {
+    /// On the table of the extension's elements.
+    Plain,
+    /// On the table of their images in a representation.
+    Represented,
+    /// The first rounds on the table of base elements, for so many variables.
+    SmallValue { variables: usize },
+}
+
 /// Which variable a round binds.
 #[derive(Debug, Clone, Copy, PartialEq, Eq)]
 pub enum VariableOrder {

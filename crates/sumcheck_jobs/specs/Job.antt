@@ -12,8 +12,8 @@ use Rattle.sumcheck_jobs.specs.declared.member.Misfit.{Misfit}
 use Rattle.sumcheck_jobs.specs.declared.member.Misfit.TheVariants.{Bad}
 use Rattle.sumcheck_jobs.specs.declared.job.FieldName.{FieldName}
 use Rattle.sumcheck_jobs.specs.declared.job.Sizes.{Sizes}
-use Rattle.sc_audit.specs.declared.job.Strategy.{Strategy}
-use Rattle.sc_audit.specs.declared.job.Strategy.TheVariants.{Plain, Represented}
+use Rattle.sc_table.specs.declared.strategy.Strategy.{Strategy}
+use Rattle.sc_table.specs.declared.strategy.Strategy.TheVariants.{Plain, Represented}
 use Rattle.sumcheck_jobs.specs.declared.job.Script.{Script}
 use Rattle.sumcheck_jobs.specs.declared.job.Challenger.{Challenger}
 use Rattle.sumcheck_jobs.specs.declared.job.Challenger.TheVariants.{Scripted, Hash}

@@ -3,8 +3,7 @@ ghost use Rattle.std.specs.Prelude.{◌≡◌, length};
 ghost use Rattle.sumcheck_jobs.specs.Elements.{sizes_of};
 ghost use Rattle.sumcheck_jobs.specs.Statements.{group_claims};
 
-use sc_audit::Strategy;
-use sc_table::{Row, VariableOrder};
+use sc_table::{Row, Strategy, VariableOrder};
 
 /// The field of a table's entries, with the extension that points, values and challenges are in.
 #[derive(Clone, Copy, Debug, PartialEq, Eq)]

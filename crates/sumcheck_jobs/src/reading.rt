@@ -7,9 +7,8 @@ ghost use Rattle.sumcheck_jobs.specs.Job.{JobFits, ProofFits, ModeFits, ScriptFi
 use crate::groups::GroupsForm;
 use crate::job::{Challenger, FieldName, Job, Mode, Proof, Script, Sizes};
 use crate::member::{Member, Misfit, Unread, need};
-use sc_audit::Strategy;
 use sc_forms::{AtMost, Below, Form, ListOf, Misread, NoForm, PairOf, is_object, member};
-use sc_table::VariableOrder;
+use sc_table::{Strategy, VariableOrder};
 use serde_json::Value;
 use std::alloc::Global;
 

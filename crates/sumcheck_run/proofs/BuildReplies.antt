@@ -11,7 +11,7 @@ use Rattle.sc_definitions.specs.Transcript.{Round, messages_of, challenges, IsBu
 use Rattle.sc_definitions.specs.Problem.{honest_of}
 use Rattle.sc_definitions.proofs.BuildLaws.{built-residual, first_false_claim-all}
 use Rattle.sc_statements.specs.FalseClaims.{told}
-use Rattle.sc_audit.specs.declared.job.Strategy.{Strategy}
+use Rattle.sc_table.specs.declared.strategy.Strategy.{Strategy}
 use Rattle.sc_audit.specs.declared.error.AuditError.{AuditError}
 use Rattle.sc_audit.specs.Cases.{Case, build}
 use Rattle.sc_audit.specs.Refusals.{or_later, mode_refusal, shape_refusal, task_refusal, false_refusal, refusal_of}

@@ -4,3 +4,4 @@ pub mod WitnessLaws
 pub mod BuildReplies
 pub mod ReportLaws
 pub mod Outcomes
+pub mod RunLaws

@@ -1,6 +1,7 @@
 -- How a run ends.
 use Rattle.std.specs.Prelude.{◌≡◌, ◌⊎◌, ℕ, ◌<◌, ◌≤◌, ◌+◌, List, [], length, take, Bool, true, false, Option}
 use Rattle.std.specs.Io.KnownBytes.{Consumes, Appends, IsAtEnd}
+use Rattle.sc_streams.specs.Faults.{HasRisen}
 use Rattle.sumcheck_run.specs.Reply.{Reply, code_of}
 use Rattle.sumcheck_run.specs.Program.{max_input}
 
@@ -29,3 +30,10 @@ pub record IsCutShort (reads : Bool) (reply : List ℕ → Reply) (left left' wr
 -- This reply's status and whole text, or want of memory.
 abbrev pub WritesReply : Reply → Option (List ℕ) → Option (List ℕ) → ℕ → Type 0
 WritesReply reply written written' code = (code ≡ 8) ⊎ ((code ≡ code_of reply.outcome) × Appends written written' reply.text)
+
+-- The reply's status and whole text, without a fault; or status 7, a proper prefix and a fault; or status 8, and the sink as it was.
+abbrev pub Responds : {K : Type 0} → (K → Option (List ℕ)) → (K → ℕ) → Reply → K → K → ℕ → Type 0
+Responds taken faults reply sink sink' code =
+    ((code ≡ code_of reply.outcome) × Appends (taken sink) (taken sink') reply.text × (faults sink' ≡ faults sink))
+    ⊎ ((code ≡ 7) × ((count : ℕ) × (count < length reply.text) × Appends (taken sink) (taken sink') (take count reply.text)) × HasRisen (faults sink) (faults sink'))
+    ⊎ ((code ≡ 8) × (sink' ≡ sink))

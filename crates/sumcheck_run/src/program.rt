@@ -4,7 +4,7 @@ ghost use Rattle.sc_streams.specs.Faults.{HasRisen};
 ghost use Rattle.sumcheck_run.specs.Program.{audit_reply, bad_json, command_of, json_reply, max_input, reads_input, reply_of, too_long};
 ghost use Rattle.sumcheck_run.specs.Reply.{refused};
 ghost use Rattle.sumcheck_jobs.specs.Members.{misfit_text};
-ghost use Rattle.sumcheck_run.specs.Run.{IsAnswered, IsCutShort, IsRead, WritesReply};
+ghost use Rattle.sumcheck_run.specs.Run.{IsAnswered, IsCutShort, IsRead, Responds, WritesReply};
 
 use crate::command::{Command, needs_input, read_command};
 use crate::lines;
@@ -84,6 +84,21 @@ fn read_input<S: Source>(alloc: Global, reads: bool, source: &mut S) -> Result<V
     read_all(alloc, source, MAX_INPUT)
 }
 
+// Makes the reply to an input that was read, and writes it. Nothing is written before the reply is whole.
+fn respond<K: Sink>(alloc: Global, command: Option<Command>, input: Vec<u8>, sink: &mut K) -> Status
+    ensures { Responds K.taken K.faults (reply_of command input.items) sink.old sink.new result.code }
+{
+    let Ok(answer) = answer(alloc, command, input) else {
+        return Status { code: 8 };
+    };
+    match write_all(sink, answer.text()) {
+        Ok(()) => Status {
+            code: answer.outcome().code(),
+        },
+        Err(_) => Status { code: 7 },
+    }
+}
+
 /// Answers a command line: reads the input, and writes the reply to it and nothing else.
 ///
 /// `words` are the arguments after the program's name.
@@ -140,13 +155,5 @@ pub fn run<S: Source, K: Sink>(
         Err(ReadFault::Failed) => return Status { code: 6 },
         Err(ReadFault::NoMemory) => return Status { code: 8 },
     };
-    let Ok(answer) = answer(alloc, command, input) else {
-        return Status { code: 8 };
-    };
-    match write_all(sink, answer.text()) {
-        Ok(()) => Status {
-            code: answer.outcome().code(),
-        },
-        Err(_) => Status { code: 7 },
-    }
+    respond(alloc, command, input, sink)
 }

@@ -1,0 +1,201 @@
+-- How a run ends, by what was read and what was replied to it.
+use Rattle.std.proofs.Common.{◌≡◌, ◌⊎◌, ◌<◌, ◌≤◌, ◌++◌, ℕ, List, [], Bool, true, false, leb, ltb, eqb, Option, Some, None, Result, Err, length, take, refl, sym, ap, ◌∙◌, inl, inr, arith, length-append}
+use Rattle.std.proofs.lemmas.Bool.{cases_Bool, cond-true, lt-ltb, ltb-true, ltb-false, leb-false, eqb-false, false≢true}
+use Rattle.std.proofs.lemmas.List.{append-nil}
+use Rattle.std.specs.Io.KnownBytes.{Appends}
+use Rattle.sc_streams.specs.Faults.{HasRisen}
+use Rattle.sumcheck_run.specs.declared.command.Command.{Command}
+use Rattle.sumcheck_run.specs.declared.command.Command.TheVariants.{Audit}
+use Rattle.sumcheck_run.specs.declared.reply.Outcome.{Outcome}
+use Rattle.sumcheck_run.specs.declared.reply.Outcome.TheVariants.{Holds, Refuted, Usage, JobRefused, ProofRefused, NoWitness}
+use Rattle.sumcheck_run.specs.Reply.{Reply, code_of}
+use Rattle.sumcheck_run.specs.Program.{max_input, too_long, audit_reply, json_reply, reads_input, reply_of}
+use Rattle.sumcheck_run.specs.Run.{IsRead, IsAnswered, IsCutShort, WritesReply, Responds}
+use Rattle.sumcheck_run.proofs.Outcomes.{usage-only, usage-code}
+
+-- ---- what is replied to what was read
+
+-- an input past the limit has one reply
+too_long-reply : (xs : List ℕ) → max_input < length xs → json_reply audit_reply xs ≡ too_long
+too_long-reply xs over = cond-true _ _ _ (lt-ltb _ _ over)
+
+past : (xs ys input : List ℕ) → input ≡ xs ++ ys → max_input < length xs → json_reply audit_reply xs ≡ json_reply audit_reply input
+past xs ys input is over =
+    let longer : max_input < length input = rw is (omega (arith, length-append xs ys)) in too_long-reply xs over ∙ sym (too_long-reply input longer)
+
+whole : (xs ys input : List ℕ) → input ≡ xs ++ ys → ys ≡ [] → xs ≡ input
+whole xs ys input is end = rw (is, end, append-nil) refl
+
+by_size : (a b : ℕ) → (a < b) ⊎ (b ≤ a)
+by_size a b = elim (cases_Bool (ltb a b)) [
+  | inl e ↦ inl (ltb-true a b e)
+  | inr e ↦ inr (ltb-false a b e)
+]
+
+-- The reply to what was read is the reply to all that the source had.
+same_reply : (command : Option Command) (left' : Option (List ℕ)) (xs input : List ℕ) → IsRead (reads_input command) (Some input) left' xs → reply_of command xs ≡ reply_of command input
+same_reply None left' xs input read = refl
+same_reply (Some Audit) None xs input read = absurd read.taken
+same_reply (Some Audit) (Some ys) xs input read = elim (by_size max_input (length xs)) [
+  | inl over ↦ past xs ys input read.taken over
+  | inr fits ↦ ap (json_reply audit_reply) (whole xs ys input read.taken (read.whole refl fits))
+]
+
+-- ---- a reply that is written
+
+pub responds_whole : {K : Type 0} (taken : K → Option (List ℕ)) (faults : K → ℕ) (reply answer : Reply) (sink sink' : K) (outcome : Outcome) (text : List ℕ) (code : ℕ) →
+    answer ≡ reply → outcome ≡ answer.outcome → text ≡ answer.text → code ≡ code_of outcome → Appends (taken sink) (taken sink') text → faults sink' ≡ faults sink →
+    Responds taken faults reply sink sink' code
+responds_whole taken faults reply answer sink sink' outcome text code is ends says status appends quiet =
+    inl (status ∙ ap code_of (ends ∙ ap (λ (a : Reply). a.outcome) is), rw (says ∙ ap (λ (a : Reply). a.text) is) at appends, quiet)
+
+pub responds_part : {K : Type 0} (taken : K → Option (List ℕ)) (faults : K → ℕ) (reply answer : Reply) (sink sink' : K) (text : List ℕ) →
+    answer ≡ reply → text ≡ answer.text → (count : ℕ) × (count < length text) × Appends (taken sink) (taken sink') (take count text) → HasRisen (faults sink) (faults sink') →
+    Responds taken faults reply sink sink' 7
+responds_part taken faults reply answer sink sink' text is says part risen =
+    inr (inl (refl, rw (says ∙ ap (λ (a : Reply). a.text) is) at part, risen))
+
+pub responds_nothing : {K : Type 0} (taken : K → Option (List ℕ)) (faults : K → ℕ) (reply : Reply) (sink : K) → Responds taken faults reply sink sink 8
+responds_nothing taken faults reply sink = inr (inr (refl, refl))
+
+-- ---- a run that has read
+
+-- Some input was read, and this is how it was replied to.
+pub record Ran {K : Type 0} (taken : K → Option (List ℕ)) (faults : K → ℕ) (command : Option Command) (left left' : Option (List ℕ)) (sink sink' : K) (code : ℕ) : Type 0 where
+  pub input : List ℕ
+  pub read : IsRead (reads_input command) left left' input
+  pub reply : Responds taken faults (reply_of command input) sink sink' code
+
+pub ran : {K : Type 0} (taken : K → Option (List ℕ)) (faults : K → ℕ) (command command' : Option Command) (reads : Bool) (left left' : Option (List ℕ)) (sink sink' : K) (code : ℕ) (input : List ℕ) →
+    command ≡ command' → reads ≡ reads_input command → IsRead reads left left' input → Responds taken faults (reply_of command input) sink sink' code →
+    Ran taken faults command' left left' sink sink' code
+ran taken faults command command' reads left left' sink sink' code input is needs read reply = record {
+  input = input;
+  read = rw (needs ∙ ap reads_input is) at read;
+  reply = rw is at reply;
+}
+
+-- an outcome's status is at most 5
+low : (o : Outcome) → code_of o ≤ 5
+low Holds = omega arith
+low Refuted = omega arith
+low Usage = omega arith
+low JobRefused = omega arith
+low ProofRefused = omega arith
+low NoWitness = omega arith
+
+-- ---- two numbers that a test tells apart
+
+pub differ : {Z : Type 0} (a b : ℕ) → eqb a b ≡ false → a ≡ b → Z
+differ a b differs is = absurd (eqb-false a b differs is)
+
+pub too_high : {Z : Type 0} (a b : ℕ) → leb a b ≡ false → a ≤ b → Z
+too_high a b over small = let above : b < a = leb-false a b over in absurd (omega arith)
+
+pub never_rises : {Z : Type 0} (a b : ℕ) → b ≡ a → a < b → Z
+never_rises a b is risen = absurd (omega arith)
+
+-- ---- the clauses of a run that has read
+
+module _ {K : Type 0} {taken : K → Option (List ℕ)} {faults : K → ℕ} {command : Option Command} {left left' : Option (List ℕ)} {sink sink' : K} {code : ℕ} (r : Ran taken faults command left left' sink sink' code) where
+  pub ran_answered : code ≤ 5 → IsAnswered (reads_input command) (reply_of command) left left' (taken sink) (taken sink') code
+  ran_answered small = elim r.reply [
+    | inl whole ↦ record { input = r.input; read = r.read; status = whole.0; text = whole.1 }
+    | inr rest ↦ elim rest [
+      | inl part ↦ (let is : code ≡ 7 = part.0 in absurd (omega arith))
+      | inr none ↦ (let is : code ≡ 8 = none.0 in absurd (omega arith))
+    ]
+  ]
+
+  pub ran_cut_short : code ≡ 7 → IsCutShort (reads_input command) (reply_of command) left left' (taken sink) (taken sink')
+  ran_cut_short seven = elim r.reply [
+    | inl whole ↦ absurd (omega (arith, whole.0, low (reply_of command r.input).outcome))
+    | inr rest ↦ elim rest [
+      | inl part ↦ record { input = r.input; read = r.read; count = part.1.0; proper = part.1.1; text = part.1.2 }
+      | inr none ↦ (let is : code ≡ 8 = none.0 in absurd (omega arith))
+    ]
+  ]
+
+  pub ran_silent : (code ≡ 6) ⊎ (code ≡ 8) → sink' ≡ sink
+  ran_silent which = elim r.reply [
+    | inl whole ↦ absurd (omega (arith, which, whole.0, low (reply_of command r.input).outcome))
+    | inr rest ↦ elim rest [
+      | inl part ↦ (let is : code ≡ 7 = part.0 in absurd (omega (arith, which)))
+      | inr none ↦ none.1
+    ]
+  ]
+
+  pub ran_code : (code ≤ 5) ⊎ ((code ≡ 7) ⊎ (code ≡ 8))
+  ran_code = elim r.reply [
+    | inl whole ↦ inl (rw whole.0 (low (reply_of command r.input).outcome))
+    | inr rest ↦ elim rest [
+      | inl part ↦ inr (inl part.0)
+      | inr none ↦ inr (inr none.0)
+    ]
+  ]
+
+  pub ran_usage : code ≡ 2 → command ≡ None
+  ran_usage two = elim r.reply [
+    | inl whole ↦ usage-only command r.input (sym whole.0 ∙ two)
+    | inr rest ↦ elim rest [
+      | inl part ↦ differ 2 7 refl (sym two ∙ part.0)
+      | inr none ↦ differ 2 8 refl (sym two ∙ none.0)
+    ]
+  ]
+
+  pub ran_no_command : command ≡ None → (code ≡ 2) ⊎ ((code ≡ 7) ⊎ (code ≡ 8))
+  ran_no_command is = elim r.reply [
+    | inl whole ↦ inl (whole.0 ∙ ap (λ k. code_of (reply_of k r.input).outcome) is ∙ usage-code r.input)
+    | inr rest ↦ elim rest [
+      | inl part ↦ inr (inl part.0)
+      | inr none ↦ inr (inr none.0)
+    ]
+  ]
+
+  pub ran_headline : (input : List ℕ) → left ≡ Some input → (HasRisen (faults sink) (faults sink') → ⊥) →
+      WritesReply (reply_of command input) (taken sink) (taken sink') code
+  ran_headline input is calm = elim r.reply [
+    | inl whole ↦
+        let read : IsRead (reads_input command) (Some input) left' r.input = rw is at r.read in
+        let same : reply_of command r.input ≡ reply_of command input = same_reply command left' r.input input read in
+        inr (whole.0 ∙ ap (λ (a : Reply). code_of a.outcome) same, rw (ap (λ (a : Reply). a.text) same) at whole.1)
+    | inr rest ↦ elim rest [
+      | inl part ↦ absurd (calm part.2)
+      | inr none ↦ inl none.0
+    ]
+  ]
+
+  pub ran_write_fault : code ≡ 7 → HasRisen (faults sink) (faults sink')
+  ran_write_fault seven = elim r.reply [
+    | inl whole ↦ absurd (omega (arith, whole.0, low (reply_of command r.input).outcome))
+    | inr rest ↦ elim rest [
+      | inl part ↦ part.2
+      | inr none ↦ (let is : code ≡ 8 = none.0 in absurd (omega arith))
+    ]
+  ]
+
+  pub ran_write_told : faults sink < faults sink' → code ≡ 7
+  ran_write_told risen = elim r.reply [
+    | inl whole ↦ (let is : faults sink' ≡ faults sink = whole.2 in absurd (omega arith))
+    | inr rest ↦ elim rest [
+      | inl part ↦ part.0
+      | inr none ↦ (let is : faults sink' ≡ faults sink = ap faults none.1 in absurd (omega arith))
+    ]
+  ]
+
+-- the status of such a run, from all that it can be
+pub not_six : {Z : Type 0} (code : ℕ) → (code ≤ 5) ⊎ ((code ≡ 7) ⊎ (code ≡ 8)) → code ≡ 6 → Z
+not_six code which six = absurd (omega (arith, which))
+
+pub at_most_eight : (code : ℕ) → (code ≤ 5) ⊎ ((code ≡ 7) ⊎ (code ≡ 8)) → code ≤ 8
+at_most_eight code which = omega (arith, which)
+
+-- ---- a run that has not
+
+-- An error tells a fault.
+pub told : {T E P : Type 0} (e e' : E) → e ≡ e' → (◌≡◌ {A = Result T E} (Err e) (Err e') → P) → P
+told e e' is says = says (ap Err is)
+
+-- Nothing was read, so the command reads.
+pub must_read : {Z : Type 0} (command command' : Option Command) (reads : Bool) → command ≡ command' → reads ≡ reads_input command → (reads ≡ false → false ≡ true) → command' ≡ None → Z
+must_read command command' reads is needs reading none = absurd (false≢true (reading (needs ∙ ap reads_input (is ∙ none))))
