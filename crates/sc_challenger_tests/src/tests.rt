@@ -5,14 +5,18 @@ ghost use Rattle.sc_definitions.specs.Tables.{evaluation};
 ghost use Rattle.sc_definitions.specs.Seeds.{quadratic_separator};
 
 mod hash;
+mod plays;
 
+use plays::Step::{self, Draw, Grind, Look, Observe, Test};
+use plays::play;
 use sc_challenger::{
-    Challenger, DomainSeparator, GrindError, InteractionPattern, ScriptedChallenger, grind,
-    observe_ext, sample_ext,
+    Challenger, DomainSeparator, GrindError, InteractionPattern, ScriptedChallenger, observe_ext,
+    sample_ext,
 };
 use sc_definitions::{Event, Interaction, Kind, Label, Length, Protocol};
 use sc_field::{ExtensionField, F65537, Field, NoMemory};
 use std::alloc::Global;
+use std::process::Abort;
 
 // The bytes of the seed of one round without grinding, over a field as its own extension, in the basis of values: each
 // digit is a word.
@@ -44,22 +48,29 @@ static NO_STEPS: [&str; 5] = [
     "ab",
 ];
 
-// The element of this number.
-fn of(number: u64) -> F65537
-    requires { number < 65537 }
-{
-    F65537::element(number)
+// The elements of these numbers.
+fn elements(alloc: Global, numbers: &[u64]) -> Result<Vec<F65537>, NoMemory> {
+    let elements = numbers
+        .iter()
+        .map(|number| F65537::element(*number % 65537))
+        .collect(alloc)?;
+    Ok(elements)
 }
 
-// Observes two words and draws, with any challenger.
-fn two_words_and_draw<F: Field, C: Challenger<F>>(
-    challenger: &mut C,
-    first: F,
-    second: F,
-) -> Result<F, NoMemory> {
-    challenger.observe(first)?;
-    challenger.observe(second)?;
-    challenger.sample()
+// A challenger of these draws, and of these witnesses for its tests.
+fn scripted<A: Abort>(
+    rt: &A,
+    alloc: Global,
+    draws: &[u64],
+    good: &[&[u64]],
+) -> ScriptedChallenger<F65537> {
+    let mut lists = Vec::new(alloc);
+    for list in good {
+        let list = elements(alloc, *list).expect(rt, "room for a list");
+        lists.push(list).expect(rt, "room for a list");
+    }
+    let draws = elements(alloc, draws).expect(rt, "room for draws");
+    ScriptedChallenger::new(alloc, draws, lists)
 }
 
 // Makes room first, and then needs no memory.
@@ -74,108 +85,119 @@ fn two_words_in_room<F: Field, C: Challenger<F>>(
     Ok(challenger.sample().unwrap())
 }
 
+// A script, what is played by it, and the history that is left.
+struct Play {
+    draws: &'static [u64],
+    good: &'static [&'static [u64]],
+    steps: &'static [Step],
+    events: &'static [Event],
+}
+
+static PLAYS: [Play; 3] = [
+    // draws past the end of the script
+    Play {
+        draws: &[3, 4],
+        good: &[],
+        steps: &[
+            Observe(2),
+            Observe(65535),
+            Draw(3),
+            Observe(0),
+            Observe(65535),
+            Draw(4),
+            Draw(0),
+        ],
+        events: &[
+            Event::Word(2),
+            Event::Word(65535),
+            Event::Draw,
+            Event::Word(0),
+            Event::Word(65535),
+            Event::Draw,
+            Event::Draw,
+        ],
+    },
+    // the list of each test, and none behind the last
+    Play {
+        draws: &[],
+        good: &[&[5, 9], &[6]],
+        steps: &[
+            Look(1, 5, true),
+            Look(16, 9, true),
+            Look(16, 6, false),
+            Test(16, 9, true),
+            Draw(0),
+            Look(1, 5, false),
+            Look(1, 6, true),
+            Test(1, 5, false),
+            Look(3, 6, false),
+            Look(3, 5, false),
+            Test(3, 6, false),
+        ],
+        events: &[
+            Event::Word(9),
+            Event::Test(16),
+            Event::Draw,
+            Event::Word(5),
+            Event::Test(1),
+            Event::Word(6),
+            Event::Test(3),
+        ],
+    },
+    // the first witness of each list, until none passes
+    Play {
+        draws: &[],
+        good: &[&[9, 5], &[6]],
+        steps: &[
+            Grind(1, Ok(5)),
+            Grind(1, Ok(6)),
+            Grind(1, Err(GrindError::NoWitness)),
+        ],
+        events: &[
+            Event::Word(5),
+            Event::Test(1),
+            Event::Word(6),
+            Event::Test(1),
+        ],
+    },
+];
+
 #[test]
 fn plays_as_scripted(rt: HostRuntime) {
-    let draws = vec![in rt.alloc(); of(3), of(4)].expect(&rt, "an answer");
-    let mut challenger = ScriptedChallenger::new(rt.alloc(), draws, Vec::new(rt.alloc()));
-    assert_eq!(rt; challenger.events().len(), 0);
-    let first = two_words_in_room(&mut challenger, of(2), of(65535)).expect(&rt, "an answer");
-    assert_eq!(rt; first.index(), 3);
-    let second = two_words_and_draw(&mut challenger, of(0), of(65535)).expect(&rt, "an answer");
-    assert_eq!(rt; second.index(), 4);
-    let past_the_end: F65537 = challenger.sample().expect(&rt, "an answer");
-    assert_eq!(rt; past_the_end.index(), 0);
-    let wanted = [
-        Event::Word(2),
-        Event::Word(65535),
-        Event::Draw,
-        Event::Word(0),
-        Event::Word(65535),
-        Event::Draw,
-        Event::Draw,
-    ];
+    for Play {
+        draws,
+        good,
+        steps,
+        events,
+    } in PLAYS.iter() {
+        let mut challenger = scripted(&rt, rt.alloc(), *draws, *good);
+        let begins = (challenger.events().len(), challenger.max_bits());
+        assert_eq!(rt; begins, (0, 16));
+        play(&rt, &mut challenger, *steps);
+        assert_eq!(rt; challenger.events() == *events, true);
+    }
+}
+
+#[test]
+fn needs_no_memory_in_room(rt: HostRuntime) {
+    let mut challenger = scripted(&rt, rt.alloc(), &[3, 4], &[]);
+    let first = two_words_in_room(&mut challenger, F65537::element(2), F65537::element(65535));
+    assert_eq!(rt; first, Ok(F65537::element(3)));
+    let wanted = [Event::Word(2), Event::Word(65535), Event::Draw];
     assert_eq!(rt; challenger.events() == wanted.as_slice(), true);
 }
 
-// Plays on a copy, and then on the challenger itself.
-fn twice<F: Field, C: Challenger<F>>(
-    alloc: Global,
-    challenger: &mut C,
-    word: F,
-) -> Result<(F, F), NoMemory> {
-    let mut copied = challenger.copy(alloc)?;
-    let on_copy = two_words_and_draw(&mut copied, word, word)?;
-    let on_itself = two_words_and_draw(challenger, word, word)?;
-    Ok((on_copy, on_itself))
-}
+// What is played on a copy, and then on the challenger itself.
+static ON_EITHER: [Step; 3] = [Observe(9), Observe(9), Draw(4)];
 
 #[test]
 fn copies_play_apart(rt: HostRuntime) {
-    let draws = vec![in rt.alloc(); of(3), of(4), of(5)].expect(&rt, "an answer");
-    let good = vec![in rt.alloc(); vec![in rt.alloc(); of(7)].expect(&rt, "an answer")].expect(
-        &rt,
-        "an answer",
-    );
-    let mut challenger = ScriptedChallenger::new(rt.alloc(), draws, good);
-    let first: F65537 = challenger.sample().expect(&rt, "an answer");
-    assert_eq!(rt; first.index(), 3);
-    let (on_copy, on_itself) = twice(rt.alloc(), &mut challenger, of(9)).expect(&rt, "an answer");
-    assert_eq!(rt; on_copy.index(), 4);
-    assert_eq!(rt; on_itself.index(), 4);
+    let mut challenger = scripted(&rt, rt.alloc(), &[3, 4, 5], &[&[7]]);
+    play(&rt, &mut challenger, &[Draw(3)]);
+    let mut copied = challenger.copy(rt.alloc()).expect(&rt, "room for a copy");
+    play(&rt, &mut copied, &ON_EITHER);
+    play(&rt, &mut challenger, &ON_EITHER);
     let wanted = [Event::Draw, Event::Word(9), Event::Word(9), Event::Draw];
-    assert_eq!(rt; challenger.events() == wanted.as_slice(), true);
-}
-
-// Which of two witnesses would pass, and whether the first one does, with any challenger.
-fn tried<F: Field, C: Challenger<F>>(
-    challenger: &mut C,
-    bits: usize,
-    first: F,
-    second: F,
-) -> Result<(bool, bool, bool), NoMemory>
-    requires positive { 1 ≤ bits }
-    requires at_most { bits ≤ (C.rules challenger.old).max_bits }
-{
-    let first_would = challenger.would_pass(bits, first);
-    let second_would = challenger.would_pass(bits, second);
-    Ok((
-        first_would,
-        second_would,
-        challenger.check_witness(bits, first)?,
-    ))
-}
-
-#[test]
-fn passes_what_the_list_of_the_test_has(rt: HostRuntime) {
-    let first = vec![in rt.alloc(); of(5), of(9)].expect(&rt, "an answer");
-    let second = vec![in rt.alloc(); of(6)].expect(&rt, "an answer");
-    let good = vec![in rt.alloc(); first, second].expect(&rt, "an answer");
-    let mut challenger = ScriptedChallenger::new(rt.alloc(), Vec::new(rt.alloc()), good);
-    assert_eq!(rt; challenger.max_bits(), 16);
-    assert_eq!(rt; challenger.would_pass(1, of(5)), true);
-    assert_eq!(rt;
-        tried(&mut challenger, 16, of(9), of(6)).expect(&rt, "an answer"),
-        (true, false, true)
-    );
-    let drawn: F65537 = challenger.sample().expect(&rt, "an answer");
-    assert_eq!(rt; drawn.index(), 0);
-    assert_eq!(rt;
-        tried(&mut challenger, 1, of(5), of(6)).expect(&rt, "an answer"),
-        (false, true, false)
-    );
-    assert_eq!(rt;
-        tried(&mut challenger, 3, of(6), of(5)).expect(&rt, "an answer"),
-        (false, false, false)
-    );
-    let wanted = [
-        Event::Word(9),
-        Event::Test(16),
-        Event::Draw,
-        Event::Word(5),
-        Event::Test(1),
-        Event::Word(6),
-        Event::Test(3),
-    ];
     assert_eq!(rt; challenger.events() == wanted.as_slice(), true);
 }
 
@@ -197,12 +219,11 @@ fn drawn_of_itself<F: Field, C: Challenger<F>>(challenger: &mut C) -> Result<F, 
 
 #[test]
 fn plays_elements_part_by_part(rt: HostRuntime) {
-    let draws = vec![in rt.alloc(); of(3), of(4)].expect(&rt, "an answer");
-    let mut challenger = ScriptedChallenger::new(rt.alloc(), draws, Vec::new(rt.alloc()));
-    let first: F65537 = observed_and_drawn(&mut challenger, of(65535)).expect(&rt, "an answer");
-    assert_eq!(rt; first.index(), 3);
-    let second: F65537 = drawn_of_itself(&mut challenger).expect(&rt, "an answer");
-    assert_eq!(rt; second.index(), 4);
+    let mut challenger = scripted(&rt, rt.alloc(), &[3, 4], &[]);
+    let first = observed_and_drawn(&mut challenger, F65537::element(65535));
+    let second = drawn_of_itself(&mut challenger);
+    let drawn = (first, second);
+    assert_eq!(rt; drawn, (Ok(F65537::element(3)), Ok(F65537::element(4))));
     let wanted = [Event::Word(65535), Event::Draw, Event::Draw];
     assert_eq!(rt; challenger.events() == wanted.as_slice(), true);
 }
@@ -238,28 +259,38 @@ fn digits(alloc: Global, words: &[u8]) -> Result<String, NoMemory> {
     Ok(text)
 }
 
+// The words of a seed as hexadecimal digits.
+fn seed<A: Abort>(rt: &A, alloc: Global, separator: &DomainSeparator) -> String {
+    let words = separator.seed_words(alloc).expect(rt, "room for a seed");
+    digits(alloc, &words).expect(rt, "room for digits")
+}
+
+// The words that were observed as hexadecimal digits; anything else is a dash.
+fn observed(alloc: Global, events: &[Event]) -> Result<String, NoMemory> {
+    let mut text = String::new(alloc);
+    for event in events {
+        let digit = match event {
+            Event::Word(word) if *word < 16 => char::from_digit(*word as u32, 16),
+            _ => None,
+        };
+        text.push(digit.unwrap_or('-'))?;
+    }
+    Ok(text)
+}
+
 #[test]
 fn seeds_one_round(rt: HostRuntime) {
-    let separator = one_round(rt.alloc()).expect(&rt, "an answer");
-    let words = separator.seed_words(rt.alloc()).expect(&rt, "an answer");
-    assert_eq!(rt; words.len(), 248);
-    let wanted = ONE_ROUND.concat(rt.alloc()).expect(&rt, "an answer");
-    assert_eq!(rt;
-        digits(rt.alloc(), &words).expect(&rt, "an answer") == wanted,
-        true
-    );
-    let mut challenger = ScriptedChallenger::<F65537>::new(
-        rt.alloc(),
-        Vec::new(rt.alloc()),
-        Vec::new(rt.alloc()),
-    );
+    let separator = one_round(rt.alloc()).expect(&rt, "room for a separator");
+    let wanted = ONE_ROUND.concat(rt.alloc()).expect(&rt, "room for a text");
+    assert_eq!(rt; wanted.len(), 248);
+    let words = seed(&rt, rt.alloc(), &separator);
+    assert!(rt; words == wanted);
+    let mut challenger = scripted(&rt, rt.alloc(), &[], &[]);
     separator
         .seed(rt.alloc(), &mut challenger)
-        .expect(&rt, "an answer");
-    assert_eq!(rt; challenger.events().len(), 248);
-    for (event, word) in challenger.events().iter().zip(&words) {
-        assert_eq!(rt; *event, Event::Word(*word as u64));
-    }
+        .expect(&rt, "room for a seed");
+    let words = observed(rt.alloc(), challenger.events()).expect(&rt, "room for a text");
+    assert!(rt; words == wanted);
 }
 
 #[test]
@@ -267,70 +298,14 @@ fn sets_labels(rt: HostRuntime) {
     let pattern = InteractionPattern::new(Vec::new(rt.alloc()));
     assert_eq!(rt; pattern.steps().len(), 0);
     let mut separator = DomainSeparator::new(1, Protocol::GenericDegree, pattern);
-    assert_eq!(rt;
-        separator
-            .seed_words(rt.alloc())
-            .expect(&rt, "an answer")
-            .len(),
-        102
-    );
+    assert_eq!(rt; seed(&rt, rt.alloc(), &separator).len(), 102);
     separator
         .instance(rt.alloc(), &[0, 16])
-        .expect(&rt, "an answer");
-    assert_eq!(rt;
-        separator
-            .seed_words(rt.alloc())
-            .expect(&rt, "an answer")
-            .len(),
-        106
-    );
+        .expect(&rt, "room for a label");
+    assert_eq!(rt; seed(&rt, rt.alloc(), &separator).len(), 106);
     separator
         .instance(rt.alloc(), &[171])
-        .expect(&rt, "an answer");
-    let words = separator.seed_words(rt.alloc()).expect(&rt, "an answer");
-    assert_eq!(rt;
-        digits(rt.alloc(), &words).expect(&rt, "an answer")
-            == NO_STEPS.concat(rt.alloc()).expect(&rt, "an answer"),
-        true
-    );
-}
-
-// Searches for a witness, with any challenger.
-fn found_by<F: Field, C: Challenger<F>>(challenger: &mut C) -> Result<F, GrindError>
-    requires { 1 ≤ (C.rules challenger.old).max_bits }
-{
-    grind(challenger, 1)
-}
-
-#[test]
-fn the_first_witness_is_found_until_none_passes(rt: HostRuntime) {
-    let lists = vec![in rt.alloc();
-        vec![in rt.alloc(); of(9), of(5)].expect(&rt, "an answer"),
-        vec![in rt.alloc(); of(6)].expect(&rt, "an answer"),
-    ]
-    .expect(&rt, "an answer");
-    let mut challenger: ScriptedChallenger<F65537> = ScriptedChallenger::new(
-        rt.alloc(),
-        Vec::new(rt.alloc()),
-        lists,
-    );
-    assert_eq!(rt;
-        found_by(&mut challenger).expect(&rt, "an answer").index(),
-        5
-    );
-    assert_eq!(rt;
-        found_by(&mut challenger).expect(&rt, "an answer").index(),
-        6
-    );
-    assert_eq!(rt;
-        found_by(&mut challenger) == Err(GrindError::NoWitness),
-        true
-    );
-    let wanted = [
-        Event::Word(5),
-        Event::Test(1),
-        Event::Word(6),
-        Event::Test(1),
-    ];
-    assert_eq!(rt; challenger.events() == wanted.as_slice(), true);
+        .expect(&rt, "room for a label");
+    let wanted = NO_STEPS.concat(rt.alloc()).expect(&rt, "room for a text");
+    assert!(rt; seed(&rt, rt.alloc(), &separator) == wanted);
 }
