@@ -36,4 +36,9 @@ list_any-read eq number items equality vs i j v w low is same =
     ∙ sym (ap (list_any (λ n. eqb n (number w))) (get_or-map (λ u. map number (items u)) vs i v [] low))
     ∙ ap (λ k. list_any (λ n. eqb n (number w)) (get_or (map (λ u. map number (items u)) vs) k [])) same
 
+-- the number of entry i
+pub get_or-read : {X : Type 0} (number : X → ℕ) (xs : List X) (i j : ℕ) (x : X) (d : ℕ) → i < length xs → x ≡ get_or xs i x → i ≡ j → number x ≡ get_or (map number xs) j d
+get_or-read number xs i j x d low is same =
+    ap number is ∙ sym (get_or-map number xs i x d low) ∙ ap (λ k. get_or (map number xs) k d) same
+
 pub ruleset reads = (get_or-map-read, get_or-map-past)

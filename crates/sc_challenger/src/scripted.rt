@@ -1,5 +1,5 @@
 //! A challenger whose answers are handed in.
-ghost use Rattle.std.specs.Prelude.{◌≡◌, ◌-◌, [], map, vec_len, vec_capacity};
+ghost use Rattle.std.specs.Prelude.{◌≡◌, ◌-◌, [], map, IfOk, vec_len, vec_capacity};
 ghost use Rattle.sc_definitions.specs.Scripted.{scripted_rules, draws_in, tests_in};
 
 use crate::challenger::Challenger;
@@ -50,6 +50,17 @@ impl<F: Field> ScriptedChallenger<F> {
     {
         self.events.as_slice()
     }
+
+    // The draw that comes next.
+    #[tactic(auto, using(crate::proofs::ListReads::reads))]
+    fn next_draw(&self) -> F
+        ensures { F.number result ≡ (⟦<ScriptedChallenger<F> as Challenger<F>>⟧.rules self.now).draw self.now.events.items }
+    {
+        match self.draws.get(self.drawn) {
+            Some(draw) => *draw,
+            None => F::ZERO,
+        }
+    }
 }
 
 impl<F: Field> Challenger<F> for ScriptedChallenger<F> {
@@ -64,9 +75,8 @@ impl<F: Field> Challenger<F> for ScriptedChallenger<F> {
         Ok(())
     }
 
-    #[tactic(auto, using(crate::proofs::ListReads::reads))]
     fn sample(&mut self) -> Result<F, NoMemory> {
-        let x = self.draws.get(self.drawn).copied().unwrap_or(F::ZERO);
+        let x = self.next_draw();
         self.events.push(Event::Draw)?;
         self.drawn += 1;
         Ok(x)
@@ -101,10 +111,7 @@ impl<F: Field> Challenger<F> for ScriptedChallenger<F> {
     fn copy(&self, alloc: Global) -> Result<Self, NoMemory> {
         let events = Vec::from_slice(alloc, &self.events)?;
         let draws = Vec::from_slice(alloc, &self.draws)?;
-        let mut good = Vec::with_capacity(alloc, self.good.len())?;
-        for list in &self.good {
-            good.push(Vec::from_slice(alloc, list)?)?;
-        }
+        let good = copied(alloc, &self.good)?;
         Ok(ScriptedChallenger {
             events,
             drawn: self.drawn,
@@ -113,4 +120,15 @@ impl<F: Field> Challenger<F> for ScriptedChallenger<F> {
             good,
         })
     }
+}
+
+// Copies of these lists.
+fn copied<F: Field>(alloc: Global, lists: &[Vec<F>]) -> Result<Vec<Vec<F>>, NoMemory>
+    ensures { IfOk result (λ copies. map (λ list. map F.number list.items) copies.items ≡ map (λ list. map F.number list.items) lists.now) }
+{
+    let mut copies = Vec::with_capacity(alloc, lists.len())?;
+    for list in lists {
+        copies.push(Vec::from_slice(alloc, list)?)?;
+    }
+    Ok(copies)
 }

@@ -217,15 +217,24 @@ fn drawn_of_itself<F: Field, C: Challenger<F>>(challenger: &mut C) -> Result<F, 
     sample_ext(challenger)
 }
 
+// The numbers of what is drawn behind an element, and of what is drawn next.
+fn drawn_behind<F: Field, C: Challenger<F>>(
+    challenger: &mut C,
+    x: F,
+) -> Result<(u64, u64), NoMemory> {
+    let first: F = observed_and_drawn(challenger, x)?;
+    let second = drawn_of_itself(challenger)?;
+    Ok((first.index(), second.index()))
+}
+
+static PART_BY_PART: [Event; 3] = [Event::Word(65535), Event::Draw, Event::Draw];
+
 #[test]
 fn plays_elements_part_by_part(rt: HostRuntime) {
     let mut challenger = scripted(&rt, rt.alloc(), &[3, 4], &[]);
-    let first = observed_and_drawn(&mut challenger, F65537::element(65535));
-    let second = drawn_of_itself(&mut challenger);
-    let drawn = (first, second);
-    assert_eq!(rt; drawn, (Ok(F65537::element(3)), Ok(F65537::element(4))));
-    let wanted = [Event::Word(65535), Event::Draw, Event::Draw];
-    assert_eq!(rt; challenger.events() == wanted.as_slice(), true);
+    let drawn = drawn_behind(&mut challenger, F65537::element(65535));
+    assert_eq!(rt; drawn, Ok((3, 4)));
+    assert_eq!(rt; challenger.events() == PART_BY_PART.as_slice(), true);
 }
 
 // The separator of one round without grinding, over a field as its own extension, in the basis of values.
@@ -259,6 +268,11 @@ fn digits(alloc: Global, words: &[u8]) -> Result<String, NoMemory> {
     Ok(text)
 }
 
+// These texts as one.
+fn text<A: Abort>(rt: &A, alloc: Global, parts: &[&str]) -> String {
+    parts.concat(alloc).expect(rt, "room for a text")
+}
+
 // The words of a seed as hexadecimal digits.
 fn seed<A: Abort>(rt: &A, alloc: Global, separator: &DomainSeparator) -> String {
     let words = separator.seed_words(alloc).expect(rt, "room for a seed");
@@ -281,10 +295,9 @@ fn observed(alloc: Global, events: &[Event]) -> Result<String, NoMemory> {
 #[test]
 fn seeds_one_round(rt: HostRuntime) {
     let separator = one_round(rt.alloc()).expect(&rt, "room for a separator");
-    let wanted = ONE_ROUND.concat(rt.alloc()).expect(&rt, "room for a text");
-    assert_eq!(rt; wanted.len(), 248);
+    let wanted = text(&rt, rt.alloc(), &ONE_ROUND);
     let words = seed(&rt, rt.alloc(), &separator);
-    assert!(rt; words == wanted);
+    assert!(rt; words == wanted && words.len() == 248);
     let mut challenger = scripted(&rt, rt.alloc(), &[], &[]);
     separator
         .seed(rt.alloc(), &mut challenger)
@@ -306,6 +319,6 @@ fn sets_labels(rt: HostRuntime) {
     separator
         .instance(rt.alloc(), &[171])
         .expect(&rt, "room for a label");
-    let wanted = NO_STEPS.concat(rt.alloc()).expect(&rt, "room for a text");
+    let wanted = text(&rt, rt.alloc(), &NO_STEPS);
     assert!(rt; seed(&rt, rt.alloc(), &separator) == wanted);
 }

@@ -1,4 +1,4 @@
-use Rattle.std.proofs.Common.{◌≡◌, ℕ, ◌++◌, ap}
+use Rattle.std.proofs.Common.{◌≡◌, ℕ, ◌++◌, ap, inr, refl}
 use Rattle.std.specs.Option.{option_map_or}
 use Rattle.sc_definitions.specs.Transcript.{before_draw}
 use Rattle.sc_transcript.specs.Shapes.{pair_round}
@@ -27,3 +27,7 @@ returns-clause-sent g c =
       history = round_grown E _ _ _ w _ h (H c.append_witness.new.challenger) (H c.sample_ext.new.challenger) before
           g.met.EF.ExtensionField.degree_is (rw c.unwrap-challenge.ensures at c.sample_ext.ensures.ok);
     }
+
+-- the round that has no witness is the one that was to be played
+pub returns-in_default-clause-causes : goal.returns-in_default-clause-causes
+returns-in_default-clause-causes g c = inr refl
