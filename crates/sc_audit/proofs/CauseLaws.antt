@@ -19,6 +19,25 @@ pub on_err : {T E : Type 0} {P : Type 0} (r : Result T E) (e : E) → r ≡ Err 
 on_err (Ok x) e is p = cc
 on_err (Err x) e is p = p
 
+-- an answer is no refusal
+pub not_both : {T E : Type 0} (r : Result T E) (x : T) (e : E) → r ≡ Ok x → r ≡ Err e → ⊥
+not_both r x e ok err = cc
+
+-- and it is refused by one error
+pub same_error : {T E : Type 0} (r : Result T E) (a b : E) → r ≡ Err a → r ≡ Err b → a ≡ b
+same_error r a b one other = cc
+
+-- nothing is no error
+pub no_error : (e : AuditError) → ◌≡◌ {A = Option AuditError} None (Some e) → ⊥
+no_error e is = cc
+
+-- want of memory is no want of a witness, which is told of one round
+pub unlike : (i : ℕ) → NoMemory ≡ NoWitness i → ⊥
+unlike i e = cc
+
+pub same_round : (i j : ℕ) → NoWitness i ≡ NoWitness j → i ≡ j
+same_round i j e = cc
+
 -- no witness was found in a round that has a number
 pub unground_is : {T : Type 0} (r : Result T AuditError) → IsUngroundResult r → (i : ℕ) × (r ≡ Err (NoWitness i))
 unground_is (Ok x) p = absurd p

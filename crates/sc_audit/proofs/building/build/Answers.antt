@@ -7,7 +7,7 @@ use Rattle.sc_audit.specs.declared.error.AuditError.TheVariants.{NoWitness, NoMe
 use Rattle.sc_audit.specs.Cases.{build, case_in, problem_in}
 use Rattle.sc_audit.specs.Refusals.{false_refusal}
 use Rattle.sc_audit.specs.Figures.{false_claim_of}
-use Rattle.sc_audit.proofs.CauseLaws.{on_err, unground_is, caused-memory, caused-unground}
+use Rattle.sc_audit.proofs.CauseLaws.{no_error, same_error, on_err, unground_is, caused-memory, caused-unground}
 use Rattle.sc_audit.proofs.building.build.Goals as goal
 
 pub returns-in-Some-clause-refused : goal.returns-in-Some-clause-refused
@@ -26,17 +26,17 @@ returns-clause-refused g c = λ strategy e is.
     let found : told (false_claim_of g.EF.Field.ops (problem_in g.F.Field.number N g.EF.Algebra.embedding job)) ≡ None =
     ap (λ t. told (first_false_claim g.EF.Field.ops (constraint_arity job.constraint) (λ b. g.EF.Algebra.embedding (t b)) 0 (constraint_statements (λ x. g.EF.Algebra.embedding (g.F.Field.number x)) N job.constraint))) (sym c.in_ok-table.ensures.table)
     ∙ sym c.first_false.ensures.found ∙ c.in_default.is in
-    let clash = sym (ap false_refusal found) ∙ is in cc
+    absurd (no_error e (sym (ap false_refusal found) ∙ is))
 
 -- what the play refuses
 pub returns-clause-caused : goal.returns-clause-caused
 returns-clause-caused g c = λ strategy e is.
     let k = case_in g.F.Field.number g.EF.Field.number g.EF.Algebra.embedding c.args.job.now in
     elim (on_err c.play.result e is c.play.ensures.causes) [
-      | inl memory ↦ (let none : e ≡ NoMemory = cc in caused-memory _ _ _ _ g.F.Field.ops.size _ k _ e (build strategy) none (c.play.ensures.no_memory strategy memory))
+      | inl memory ↦ caused-memory _ _ _ _ g.F.Field.ops.size _ k _ e (build strategy) (same_error _ _ _ is memory) (c.play.ensures.no_memory strategy memory)
       | inr unground ↦
           let named = unground_is _ unground in
           let found = c.play.ensures.no_witness named.0 named.1 in
-          let same : e ≡ NoWitness named.0 = cc in
+          let same : e ≡ NoWitness named.0 = same_error _ _ _ is named.1 in
           caused-unground _ _ _ _ g.F.Field.ops.size _ k _ e (build strategy) named.0 same found.0 found.1
     ]

@@ -1,4 +1,4 @@
-use Rattle.std.proofs.Common.{◌≡◌, Err, sym, ◌∙◌, ap, inl, inr}
+use Rattle.std.proofs.Common.{◌≡◌, Err, refl, sym, ◌∙◌, ap, inl, inr}
 use Rattle.std.proofs.lemmas.List.{length-map}
 use Rattle.sc_definitions.specs.Tables.{evaluation}
 use Rattle.sc_definitions.specs.Events.{words}
@@ -10,6 +10,7 @@ use Rattle.sc_transcript.specs.declared.error.SumcheckError.TheVariants.{NoMemor
 use Rattle.sc_transcript.specs.Data.{witness_count}
 use Rattle.sc_rounds.proofs.InStep.{invalid_is}
 use Rattle.sc_audit.specs.Audits.{refusal_by}
+use Rattle.sc_audit.proofs.CauseLaws.{same_error}
 use Rattle.sc_audit.proofs.BuiltReports.{report-built, broken-built, rounds-built, witnesses-built, none_invalid-built}
 use Rattle.sc_audit.proofs.building.replay.Goals as goal
 
@@ -41,7 +42,7 @@ returns-in-Err-clause-causes g c =
       | inr more ↦ elim more [
         | inl other ↦ absurd (other (b.rounds.pow_witnesses.ok.0 ∙ sym (length-map _ _) ∙ found ∙ ap (witness_count bits) (sym c.num_variables.ensures)))
         | inr last ↦ elim last [
-          | inl memory ↦ (let none : c.in-Err.error ≡ NoMemory = cc in ap Err (c.refusal.ensures ∙ ap refusal_by none))
+          | inl memory ↦ ap Err (c.refusal.ensures ∙ ap refusal_by (same_error _ _ _ refl memory))
           | inr invalid ↦
               let named = invalid_is _ invalid in
               absurd (none_invalid-built (order_of job.order) g.EF.Field.ops g.met.EF.Field.is_field.ring _ E bits _ _ _ _ _ (g.C.Challenger.history c.args.challenger.now) _ _ _ _ _ _ _ _ c.requires.built

@@ -20,7 +20,7 @@ use Rattle.sc_audit.specs.declared.error.Form.TheVariants.{Verdict}
 use Rattle.sc_audit.specs.Cases.{case_in, check, given_in}
 use Rattle.sc_audit.specs.Figures.{figures_of}
 use Rattle.sc_audit.specs.Audits.{refusal_by}
-use Rattle.sc_audit.proofs.CauseLaws.{on_err, caused-memory, caused-lucky, caused-rounds, caused-witnesses, caused-invalid}
+use Rattle.sc_audit.proofs.CauseLaws.{on_err, not_both, same_error, caused-memory, caused-lucky, caused-rounds, caused-witnesses, caused-invalid}
 use Rattle.sc_audit.proofs.FigureLaws.{stated, claim-batched}
 use Rattle.sc_audit.proofs.CountLaws.{count-rounds, count-witnesses}
 use Rattle.sc_audit.proofs.CheckedReports.{not_other, all-some, broken-checked, residual-checked, report-checked}
@@ -36,7 +36,7 @@ report_on-requires-clause-count g c =
     sym (length-map c.in-Ok.challenges g.EF.Field.number)
     ∙ ap length c.in-Ok.ensures.ok.drawn ∙ length-challenges _ _ _ _ _ ∙ length-given_rounds _ _ ∙ length-map _ _
     ∙ sym c.args.proof.now.polynomial_evaluations.ok.0
-    ∙ not_other _ _ (λ differ. let clash = c.in-Ok.ensures.rounds.1 differ in cc) ∙ c.num_variables.ensures
+    ∙ not_other _ _ (λ differ. not_both _ _ _ refl (c.in-Ok.ensures.rounds.1 differ)) ∙ c.num_variables.ensures
 
 pub report_on-requires-clause-residual : goal.report_on-requires-clause-residual
 report_on-requires-clause-residual g c =
@@ -51,7 +51,7 @@ report_on-requires-clause-residual g c =
     ∙ ap (λ k. words (quadratic_seed E.degree evaluation job.pow_bits k)) c.num_variables.ensures in
     let claim : N c.combine_evals.new.eval ≡ claim_of o p =
     claim-batched o p _ (claim-alone o g.met.EF.Field.is_field.ring _ _ _ _ _ (ap N c.ZERO-claim.ensures ∙ g.met.EF.Field.zero_is) c.combine_evals.ensures) in
-    residual-checked (order_of job.order) o _ E job.pow_bits n f _ _ _ _ (length job.table.items) (check None) _ _ _ _ _ (rw (seed, claim) at c.in-Ok.ensures.ok) (length-map _ _ ∙ sym c.args.proof.now.polynomial_evaluations.ok.0 ∙ not_other _ _ (λ differ. let clash = c.in-Ok.ensures.rounds.1 differ in cc) ∙ c.num_variables.ensures)
+    residual-checked (order_of job.order) o _ E job.pow_bits n f _ _ _ _ (length job.table.items) (check None) _ _ _ _ _ (rw (seed, claim) at c.in-Ok.ensures.ok) (length-map _ _ ∙ sym c.args.proof.now.polynomial_evaluations.ok.0 ∙ not_other _ _ (λ differ. not_both _ _ _ refl (c.in-Ok.ensures.rounds.1 differ)) ∙ c.num_variables.ensures)
 
 pub returns-clause-report : goal.returns-clause-report
 returns-clause-report g c =
@@ -67,8 +67,8 @@ returns-clause-report g c =
     let claim : N c.combine_evals.new.eval ≡ claim_of o p =
     claim-batched o p _ (claim-alone o g.met.EF.Field.is_field.ring _ _ _ _ _ (ap N c.ZERO-claim.ensures ∙ g.met.EF.Field.zero_is) c.combine_evals.ensures) in
     let proof = c.args.proof.now in
-    let rounds = not_other _ _ (λ differ. let clash = c.in-Ok.ensures.rounds.1 differ in cc) in
-    let found = not_other _ _ (λ differ. let clash = c.in-Ok.ensures.witnesses.1 (rounds, differ) in cc) in
+    let rounds = not_other _ _ (λ differ. not_both _ _ _ refl (c.in-Ok.ensures.rounds.1 differ)) in
+    let found = not_other _ _ (λ differ. not_both _ _ _ refl (c.in-Ok.ensures.witnesses.1 (rounds, differ))) in
     IfOk-weaker c.report_on.result _ _
     (λ r is. report-checked (order_of job.order) o _ E job.pow_bits n f _ _ _ _ (length job.table.items) _ _ _ _ _ _ (rw (seed, claim) at c.in-Ok.ensures.ok)
     (length-map _ _ ∙ sym proof.polynomial_evaluations.ok.0 ∙ rounds ∙ c.num_variables.ensures) _
@@ -89,14 +89,14 @@ returns-clause-caused g c = λ e is.
     let claim : N c.combine_evals.new.eval ≡ claim_of o p =
     claim-batched o p _ (claim-alone o g.met.EF.Field.is_field.ring _ _ _ _ _ (ap N c.ZERO-claim.ensures ∙ g.met.EF.Field.zero_is) c.combine_evals.ensures) in
     let proof = c.args.proof.now in
-    let rounds = not_other _ _ (λ differ. let clash = c.in-Ok.ensures.rounds.1 differ in cc) in
-    let found = not_other _ _ (λ differ. let clash = c.in-Ok.ensures.witnesses.1 (rounds, differ) in cc) in
+    let rounds = not_other _ _ (λ differ. not_both _ _ _ refl (c.in-Ok.ensures.rounds.1 differ)) in
+    let found = not_other _ _ (λ differ. not_both _ _ _ refl (c.in-Ok.ensures.witnesses.1 (rounds, differ))) in
     elim (on_err c.report_on.result e is c.report_on.ensures.causes) [
       | inl memory ↦
-          let none : e ≡ NoMemory = cc in
+          let none : e ≡ NoMemory = same_error _ _ _ is memory in
           caused-memory _ _ _ _ g.F.Field.ops.size _ (case_in g.F.Field.number N g.EF.Algebra.embedding job) _ e _ none (inr (broken-checked (order_of job.order) o _ E job.pow_bits n f _ _ _ _ (length job.table.items) _ _ _ _ _ (all-some _ _ E job.pow_bits _ _ _ _ _ _ (rw (seed, claim) at c.in-Ok.ensures.ok))
           (length-map _ _ ∙ sym proof.polynomial_evaluations.ok.0 ∙ rounds ∙ c.num_variables.ensures)))
-      | inr later ↦ let verdict : e ≡ Unbuilt Verdict = cc in caused-lucky _ _ _ _ g.F.Field.ops.size _ (case_in g.F.Field.number N g.EF.Algebra.embedding job) _ e _ verdict (record {
+      | inr later ↦ let verdict : e ≡ Unbuilt Verdict = same_error _ _ _ is later in caused-lucky _ _ _ _ g.F.Field.ops.size _ (case_in g.F.Field.number N g.EF.Algebra.embedding job) _ e _ verdict (record {
         report = figures_of o p (messages_in N proof) (witnesses_in g.F.Field.number proof) (map N c.in-Ok.challenges);
         audited = report-checked (order_of job.order) o _ E job.pow_bits n f _ _ _ _ (length job.table.items) _ _ _ _ _ _ (rw (seed, claim) at c.in-Ok.ensures.ok)
             (length-map _ _ ∙ sym proof.polynomial_evaluations.ok.0 ∙ rounds ∙ c.num_variables.ensures) _
@@ -123,20 +123,20 @@ returns-in-Err-clause-caused g c = λ e is.
     claim-batched o p _ (claim-alone o g.met.EF.Field.is_field.ring _ _ _ _ _ (ap N c.ZERO-claim.ensures ∙ g.met.EF.Field.zero_is) c.combine_evals.ensures) in
     let ms : length given.messages ≡ vec_len proof.polynomial_evaluations = length-map _ _ ∙ sym proof.polynomial_evaluations.ok.0 in
     let ws : length given.witnesses ≡ vec_len proof.pow_witnesses = length-map _ _ ∙ sym proof.pow_witnesses.ok.0 in
-    let same : c.refusal.result ≡ e = cc in
+    let same : c.refusal.result ≡ e = same_error _ _ _ refl is in
     let told = c.refusal.ensures in
     let vars = c.num_variables.ensures in
     elim (eqb_tells (vec_len proof.polynomial_evaluations) c.num_variables.result) [
       | inr apart ↦
           let refused = c.in-Err.ensures.rounds.1 apart.1 in
-          let error_is : c.in-Err.error ≡ replay.RoundCountMismatch c.num_variables.result (vec_len proof.polynomial_evaluations) = cc in
+          let error_is : c.in-Err.error ≡ replay.RoundCountMismatch c.num_variables.result (vec_len proof.polynomial_evaluations) = same_error _ _ _ refl refused in
           let e_is : e ≡ RoundCountMismatch n (length given.messages) = sym same ∙ told ∙ ap refusal_by error_is ∙ ap (λ k. RoundCountMismatch k (vec_len proof.polynomial_evaluations)) vars ∙ ap (RoundCountMismatch n) (sym ms) in
           caused-rounds _ _ _ _ g.F.Field.ops.size _ (case_in g.F.Field.number N g.EF.Algebra.embedding job) _ e _ n (length given.messages) e_is (count-rounds n bits given (λ equal. apart.1 (sym ms ∙ equal ∙ sym vars)))
           (c.in-Err.ensures.counted (inl apart.1)).0
       | inl rounds ↦ elim (eqb_tells (vec_len proof.pow_witnesses) (witness_count bits c.num_variables.result)) [
         | inr apart ↦
             let refused = c.in-Err.ensures.witnesses.1 (rounds.1, apart.1) in
-            let error_is : c.in-Err.error ≡ replay.PowWitnessCountMismatch (witness_count bits c.num_variables.result) (vec_len proof.pow_witnesses) = cc in
+            let error_is : c.in-Err.error ≡ replay.PowWitnessCountMismatch (witness_count bits c.num_variables.result) (vec_len proof.pow_witnesses) = same_error _ _ _ refl refused in
             let e_is : e ≡ PowWitnessCountMismatch (witness_count bits n) (length given.witnesses) =
             sym same ∙ told ∙ ap refusal_by error_is ∙ ap (λ k. PowWitnessCountMismatch (witness_count bits k) (vec_len proof.pow_witnesses)) vars ∙ ap (PowWitnessCountMismatch (witness_count bits n)) (sym ws) in
             caused-witnesses _ _ _ _ g.F.Field.ops.size _ (case_in g.F.Field.number N g.EF.Algebra.embedding job) _ e _ (witness_count bits n) (length given.witnesses) e_is
@@ -148,7 +148,7 @@ returns-in-Err-clause-caused g c = λ e is.
             | inl differs ↦ absurd (differs found.1)
             | inr last ↦ elim last [
               | inl memory ↦
-                  let error_is : c.in-Err.error ≡ replay.NoMemory = cc in
+                  let error_is : c.in-Err.error ≡ replay.NoMemory = same_error _ _ _ refl memory in
                   let none = sym same ∙ told ∙ ap refusal_by error_is in
                   elim (c.in-Err.ensures.no_memory memory) [
                     | inl untouched ↦ caused-memory _ _ _ _ g.F.Field.ops.size _ (case_in g.F.Field.number N g.EF.Algebra.embedding job) _ e _ none (inl untouched.0)
@@ -156,7 +156,7 @@ returns-in-Err-clause-caused g c = λ e is.
                   ]
               | inr invalid ↦
                   let named = invalid_is _ invalid in
-                  let error_is : c.in-Err.error ≡ replay.InvalidPowWitness named.0 named.1 = cc in
+                  let error_is : c.in-Err.error ≡ replay.InvalidPowWitness named.0 named.1 = same_error _ _ _ refl named.2 in
                   let at = c.in-Err.ensures.invalid named.0 named.1 named.2 in
                   caused-invalid _ _ _ _ g.F.Field.ops.size _ (case_in g.F.Field.number N g.EF.Algebra.embedding job) _ e given named.0 named.1 (sym same ∙ told ∙ ap refusal_by error_is) at.0 (record { claim = N c.verify_rounds.new.claimed_sum; at = rw (seed, claim) at at.1 })
             ]

@@ -1,4 +1,4 @@
-use Rattle.std.proofs.Common.{◌≡◌, ℕ, ◌<◌, ◌^◌, suc, ◌-◌, ◌++◌, sym, ◌∙◌, ap, arith, inl, inr, length}
+use Rattle.std.proofs.Common.{◌≡◌, ℕ, ◌<◌, ◌^◌, suc, ◌-◌, ◌++◌, refl, sym, ◌∙◌, ap, arith, inl, inr, length}
 use Rattle.std.proofs.lemmas.List.Elements.{All-map}
 use Rattle.sc_definitions.specs.Tables.{evaluation}
 use Rattle.sc_definitions.specs.Events.{words}
@@ -10,6 +10,7 @@ use Rattle.sc_rounds.specs.Products.{variables_in, order_in, evals_in, weights_i
 use Rattle.sc_transcript.specs.declared.error.SumcheckError.TheVariants.{NoMemory, NoWitness}
 use Rattle.sc_rounds.proofs.MappedRounds.{same_images}
 use Rattle.sc_audit.specs.Audits.{refusal_by}
+use Rattle.sc_audit.proofs.CauseLaws.{same_error, same_round, unlike}
 use Rattle.sc_audit.proofs.BuiltReports.{played-case, built-case, unground-built, finds_none_is}
 use Rattle.sc_audit.proofs.strategies.represented.Goals as goal
 
@@ -71,12 +72,12 @@ returns-in-Err-clause-no_witness g c = λ i e.
     let seed : words (quadratic_seed g.EF.ExtensionField.DEGREE evaluation bits c.num_variables.result) ≡ words (quadratic_seed E.degree evaluation bits n) =
     ap (λ d. words (quadratic_seed d evaluation bits c.num_variables.result)) (sym g.met.EF.ExtensionField.degree_is) ∙ ap (λ k. words (quadratic_seed E.degree evaluation bits k)) count in
     elim c.in-Err.ensures.causes [
-      | inl memory ↦ (let none : c.in-Err.error ≡ NoMemory = cc in let told = c.refusal.ensures ∙ ap refusal_by none in cc)
+      | inl memory ↦ absurd (unlike i (sym (c.refusal.ensures ∙ ap refusal_by (same_error _ _ _ refl memory)) ∙ same_error _ _ _ refl e))
       | inr unfound ↦
           let named = finds_none_is _ unfound in
-          let error_is : c.in-Err.error ≡ NoWitness named.0 = cc in
+          let error_is : c.in-Err.error ≡ NoWitness named.0 = same_error _ _ _ refl named.1 in
           let told = c.refusal.ensures ∙ ap refusal_by error_is in
-          let same : named.0 ≡ i = cc in
+          let same : named.0 ≡ i = same_round _ _ (sym told ∙ same_error _ _ _ refl e) in
           let stopped = c.in-Err.ensures.stopped named.0 named.1 in
           let end = c.compute_sumcheck_polynomials.new.self.poly in
           let some : variables_in end ≡ suc (variables_in end - 1) = omega (arith, stopped.0, stopped.1, count, size) in
