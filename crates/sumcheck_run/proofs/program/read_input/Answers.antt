@@ -1,0 +1,9 @@
+use Rattle.std.proofs.Common.{rules}
+use Rattle.sumcheck_run.proofs.program.read_input.Goals as goal
+
+-- at most one byte past the limit is read
+pub returns-clause-read : goal.returns-clause-read
+returns-clause-read g c = search rules
+
+pub returns-clause-given : goal.returns-clause-given
+returns-clause-given g c = c.read_all.ensures.given
