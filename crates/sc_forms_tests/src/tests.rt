@@ -11,6 +11,8 @@ use serde_json::Value;
 use std::alloc::Global;
 use std::process::Abort;
 
+const REFUSED: Result<u64, Misread> = Err(Misread::NotOfForm);
+
 // What the text is read as in the form. A text that is no JSON is an error of its own.
 fn read_text<F: Form>(
     alloc: Global,
@@ -19,6 +21,51 @@ fn read_text<F: Form>(
 ) -> Result<Result<F::Out, Misread>, NoValue> {
     let value = read_value(alloc, text.as_bytes())?;
     Ok(form.read(alloc, &value))
+}
+
+// That each text is read as this number in the form, or refused.
+fn assert_numbers<F: Form<Out = u64>, A: Abort>(
+    rt: &A,
+    alloc: Global,
+    form: &F,
+    rows: &[(&str, Result<u64, Misread>)],
+) {
+    for (text, want) in rows {
+        let read = read_text(alloc, form, *text).expect(rt, "JSON");
+        assert_eq!(rt; read, *want, "{text}");
+    }
+}
+
+// That each text is read as this list in the form.
+fn assert_lists<F: Form<Out = Row<u64>>, A: Abort>(
+    rt: &A,
+    alloc: Global,
+    form: &F,
+    rows: &[(&str, &[u64])],
+) {
+    for (text, want) in rows {
+        let read = read_text(alloc, form, *text).expect(rt, "JSON");
+        assert_eq!(rt; read.ok().expect(rt, "a list").as_slice(), *want, "{text}");
+    }
+}
+
+// That each text is read in the form, or that each is refused for this.
+fn assert_faults<F: Form, A: Abort>(
+    rt: &A,
+    alloc: Global,
+    form: &F,
+    texts: &[&str],
+    fault: Option<Misread>,
+) {
+    for text in texts {
+        let read = read_text(alloc, form, *text).expect(rt, "JSON");
+        assert_eq!(rt; read.err(), fault, "{text}");
+    }
+}
+
+// That none of these texts is of the form.
+fn assert_refused<F: Form, A: Abort>(rt: &A, alloc: Global, form: &F, texts: &[&str]) {
+    assert_faults(rt, alloc, form, texts, Some(Misread::NotOfForm));
 }
 
 // A form for an object: a point and a value, of numbers below a bound.
@@ -43,90 +90,80 @@ impl Form for Opening {
     }
 }
 
+static UNSIGNED: [(&str, Result<u64, Misread>); 11] = [
+    ("0", Ok(0)),
+    ("18446744073709551615", Ok(18446744073709551615)),
+    ("18446744073709551616", REFUSED),
+    ("1.0", REFUSED),
+    ("1e2", REFUSED),
+    ("-0", REFUSED),
+    ("-1", REFUSED),
+    ("true", REFUSED),
+    ("\"7\"", REFUSED),
+    ("[7]", REFUSED),
+    ("null", REFUSED),
+];
+
 #[test]
 fn an_unsigned_number_is_digits_alone(rt: HostRuntime) {
-    for (text, want) in [
-        ("0", Ok(0)),
-        ("18446744073709551615", Ok(18446744073709551615)),
-        ("18446744073709551616", Err(Misread::NotOfForm)),
-        ("1.0", Err(Misread::NotOfForm)),
-        ("1e2", Err(Misread::NotOfForm)),
-        ("-0", Err(Misread::NotOfForm)),
-        ("-1", Err(Misread::NotOfForm)),
-        ("true", Err(Misread::NotOfForm)),
-        ("\"7\"", Err(Misread::NotOfForm)),
-        ("[7]", Err(Misread::NotOfForm)),
-        ("null", Err(Misread::NotOfForm)),
-    ] {
-        assert_eq!(rt;
-            read_text(rt.alloc(), &Unsigned, text).expect(&rt, "an answer"),
-            want,
-            "{text}"
-        );
-    }
+    assert_numbers(&rt, rt.alloc(), &Unsigned, &UNSIGNED);
 }
+
+static BELOW: [(&str, Result<u64, Misread>); 4] = [
+    ("0", Ok(0)),
+    ("65535", Ok(65_535)),
+    ("65536", Ok(65_536)),
+    ("65537", REFUSED),
+];
+
+static AT_MOST: [(&str, Result<u64, Misread>); 4] = [
+    ("0", Ok(0)),
+    ("65535", Ok(65_535)),
+    ("65536", REFUSED),
+    ("65537", REFUSED),
+];
 
 #[test]
 fn a_bound_is_no_number_below_it(rt: HostRuntime) {
-    let (below, at_most) = (Below { bound: 65_537 }, AtMost { most: 65_535 });
-    let refused = Err(Misread::NotOfForm);
-    for (text, of_below, of_at_most) in [
-        ("0", Ok(0), Ok(0)),
-        ("65535", Ok(65_535), Ok(65_535)),
-        ("65536", Ok(65_536), refused),
-        ("65537", refused, refused),
-    ] {
-        let read = (
-            read_text(rt.alloc(), &below, text).expect(&rt, "JSON"),
-            read_text(rt.alloc(), &at_most, text).expect(&rt, "JSON"),
-        );
-        assert_eq!(rt; read, (of_below, of_at_most), "{text}");
-    }
+    assert_numbers(&rt, rt.alloc(), &Below { bound: 65_537 }, &BELOW);
+    assert_numbers(&rt, rt.alloc(), &AtMost { most: 65_535 }, &AT_MOST);
 }
+
+static WORDS: [&str; 2] = ["\"plain\"", "\"pl\\u0061in\""];
+
+static OTHER_WORDS: [&str; 4] = ["\"Plain\"", "\"plain \"", "\"\"", "[\"plain\"]"];
 
 #[test]
 fn a_word_is_its_text_alone(rt: HostRuntime) {
     let form = Literal { text: "plain" };
-    for (text, want) in [
-        ("\"plain\"", Ok(())),
-        ("\"pl\\u0061in\"", Ok(())),
-        ("\"Plain\"", Err(Misread::NotOfForm)),
-        ("\"plain \"", Err(Misread::NotOfForm)),
-        ("\"\"", Err(Misread::NotOfForm)),
-        ("[\"plain\"]", Err(Misread::NotOfForm)),
-    ] {
-        assert_eq!(rt;
-            read_text(rt.alloc(), &form, text).expect(&rt, "an answer"),
-            want,
-            "{text}"
-        );
-    }
+    assert_faults(&rt, rt.alloc(), &form, &WORDS, None);
+    assert_refused(&rt, rt.alloc(), &form, &OTHER_WORDS);
 }
 
-// That none of these texts is of the form.
-fn assert_refused<F: Form, A: Abort>(rt: &A, alloc: Global, form: &F, texts: &[&str]) {
-    for text in texts {
-        let read = read_text(alloc, form, text).expect(rt, "JSON");
-        assert_eq!(rt; read.err(), Some(Misread::NotOfForm), "{text}");
-    }
-}
+static LISTS: [(&str, &[u64]); 3] = [("[]", &[]), ("[7]", &[7]), ("[3,1,2,1]", &[3, 1, 2, 1])];
+
+static NO_LISTS: [&str; 5] = ["[1,10]", "[1,true]", "[[1]]", "1", "{}"];
 
 #[test]
 fn lists_are_read_in_order(rt: HostRuntime) {
     let form = ListOf {
         item: Below { bound: 10 },
     };
-    for (text, want) in [
-        ("[]", [].as_slice()),
-        ("[7]", [7].as_slice()),
-        ("[3,1,2,1]", [3, 1, 2, 1].as_slice()),
-    ] {
-        let read = read_text(rt.alloc(), &form, text).expect(&rt, "JSON");
-        assert_eq!(rt; read.ok().expect(&rt, "a list").as_slice(), want);
-    }
-    let refused = ["[1,10]", "[1,true]", "[[1]]", "1", "{}"];
-    assert_refused(&rt, rt.alloc(), &form, &refused);
+    assert_lists(&rt, rt.alloc(), &form, &LISTS);
+    assert_refused(&rt, rt.alloc(), &form, &NO_LISTS);
 }
+
+// Whether these are the rows.
+fn are_rows(rows: &[Row<u64>], all: &[&[u64]]) -> bool {
+    for (row, wanted) in rows.iter().zip(all) {
+        if row.as_slice() != *wanted {
+            return false;
+        }
+    }
+    rows.len() == all.len()
+}
+
+static ROWS: [&[u64]; 3] = [&[1], &[], &[2, 3]];
 
 #[test]
 fn a_list_of_lists(rt: HostRuntime) {
@@ -135,11 +172,12 @@ fn a_list_of_lists(rt: HostRuntime) {
     };
     let read = read_text(rt.alloc(), &form, "[[1],[],[2,3]]").expect(&rt, "JSON");
     let rows = read.ok().expect(&rt, "lists");
-    assert_eq!(rt; rows.len(), 3);
-    for (row, want) in rows.as_slice().iter().zip([[1].as_slice(), &[], &[2, 3]]) {
-        assert_eq!(rt; row.as_slice(), want);
-    }
+    assert!(rt; are_rows(rows.as_slice(), &ROWS));
 }
+
+static PAIRS: [(u64, u64); 2] = [(1, 2), (3, 4)];
+
+static NO_PAIRS: [&str; 4] = ["[[1,2],[3]]", "[[1,2,3]]", "[1,2]", "[[1,true]]"];
 
 #[test]
 fn a_list_of_pairs(rt: HostRuntime) {
@@ -147,13 +185,13 @@ fn a_list_of_pairs(rt: HostRuntime) {
         item: PairOf { item: Unsigned },
     };
     let read = read_text(rt.alloc(), &form, "[[1,2],[3,4]]").expect(&rt, "JSON");
-    assert_eq!(rt;
-        read.ok().expect(&rt, "pairs").as_slice(),
-        [(1, 2), (3, 4)].as_slice()
-    );
-    let refused = ["[[1,2],[3]]", "[[1,2,3]]", "[1,2]", "[[1,true]]"];
-    assert_refused(&rt, rt.alloc(), &form, &refused);
+    assert_eq!(rt; read.ok().expect(&rt, "pairs").as_slice(), PAIRS.as_slice());
+    assert_refused(&rt, rt.alloc(), &form, &NO_PAIRS);
 }
+
+static TWO: [(&str, &[u64]); 1] = [("[5,6]", &[5, 6])];
+
+static NOT_TWO: [&str; 5] = ["[]", "[5]", "[5,6,7]", "[5,-6]", "5"];
 
 #[test]
 fn a_list_of_two_has_no_third_item(rt: HostRuntime) {
@@ -161,33 +199,46 @@ fn a_list_of_two_has_no_third_item(rt: HostRuntime) {
         item: Unsigned,
         length: 2,
     };
-    let read = read_text(rt.alloc(), &form, "[5,6]").expect(&rt, "JSON");
-    assert_eq!(rt;
-        read.ok().expect(&rt, "a list").as_slice(),
-        [5, 6].as_slice()
-    );
-    let refused = ["[]", "[5]", "[5,6,7]", "[5,-6]", "5"];
-    assert_refused(&rt, rt.alloc(), &form, &refused);
+    assert_lists(&rt, rt.alloc(), &form, &TWO);
+    assert_refused(&rt, rt.alloc(), &form, &NOT_TWO);
 }
+
+// Whether a text is read as an object, and the number that is its member of a name.
+fn number_in(
+    alloc: Global,
+    text: &str,
+    name: &str,
+) -> Result<(bool, Result<u64, Misread>), NoValue> {
+    let value = read_value(alloc, text.as_bytes())?;
+    Ok((is_object(&value), member(alloc, &Unsigned, &value, name)))
+}
+
+static MEMBERS: [(&str, &str, (bool, Result<u64, Misread>)); 4] = [
+    ("{\"a\":1,\"b\":[],\"a\":2}", "a", (true, Ok(2))),
+    ("{\"a\":1,\"b\":[],\"a\":2}", "b", (true, REFUSED)),
+    ("{\"a\":1,\"b\":[],\"a\":2}", "c", (true, REFUSED)),
+    ("[1]", "0", (false, REFUSED)),
+];
 
 #[test]
 fn of_a_member_that_stands_twice_the_last_counts(rt: HostRuntime) {
-    let value = read_value(rt.alloc(), b"{\"a\":1,\"b\":[],\"a\":2}").expect(&rt, "an answer");
-    assert!(rt; is_object(&value));
-    for (name, want) in [
-        ("a", Ok(2)),
-        ("b", Err(Misread::NotOfForm)),
-        ("c", Err(Misread::NotOfForm)),
-    ] {
-        assert_eq!(rt; member(rt.alloc(), &Unsigned, &value, name), want, "{name}");
+    for (text, name, want) in MEMBERS.iter() {
+        let found = number_in(rt.alloc(), *text, *name).expect(&rt, "JSON");
+        assert_eq!(rt; found, *want, "{name} of {text}");
     }
-    let list = read_value(rt.alloc(), b"[1]").expect(&rt, "an answer");
-    assert!(rt; !is_object(&list));
-    assert_eq!(rt;
-        member(rt.alloc(), &Unsigned, &list, "0"),
-        Err(Misread::NotOfForm)
-    );
 }
+
+// Whether these are the openings.
+fn are_openings(openings: &[(Row<u64>, u64)], all: &[(&[u64], u64)]) -> bool {
+    for (opening, wanted) in openings.iter().zip(all) {
+        if opening.0.as_slice() != wanted.0 || opening.1 != wanted.1 {
+            return false;
+        }
+    }
+    openings.len() == all.len()
+}
+
+static OPENINGS: [(&[u64], u64); 2] = [(&[1, 2], 3), (&[], 4)];
 
 #[test]
 fn an_object_is_read_member_by_member(rt: HostRuntime) {
@@ -197,96 +248,88 @@ fn an_object_is_read_member_by_member(rt: HostRuntime) {
     let text = "[{\"point\":[1,2],\"value\":3},{\"value\":4,\"other\":null,\"point\":[]}]";
     let read = read_text(rt.alloc(), &form, text).expect(&rt, "JSON");
     let openings = read.ok().expect(&rt, "openings");
-    assert_eq!(rt; openings.len(), 2);
-    for (opening, want) in openings
-        .as_slice()
-        .iter()
-        .zip([([1, 2].as_slice(), 3), (&[], 4)])
-    {
-        assert_eq!(rt; (opening.0.as_slice(), opening.1), want);
-    }
+    assert!(rt; are_openings(openings.as_slice(), &OPENINGS));
 }
+
+static NO_OPENINGS: [&str; 3] = [
+    "[{\"point\":[1]}]",
+    "[{\"point\":[10],\"value\":3}]",
+    "[[]]",
+];
 
 #[test]
 fn an_object_without_a_member_is_refused(rt: HostRuntime) {
     let form = ListOf {
         item: Opening { bound: 10 },
     };
-    let refused = [
-        "[{\"point\":[1]}]",
-        "[{\"point\":[10],\"value\":3}]",
-        "[[]]",
-    ];
-    assert_refused(&rt, rt.alloc(), &form, &refused);
+    assert_refused(&rt, rt.alloc(), &form, &NO_OPENINGS);
 }
+
+// Bytes, and why they are no value where they are none.
+static BYTES: [(&[u8], Option<NoValue>); 14] = [
+    (b"", Some(NoValue::Bad)),
+    (b"1 2", Some(NoValue::Bad)),
+    (b"[1,]", Some(NoValue::Bad)),
+    (b"01", Some(NoValue::Bad)),
+    (b"\xef\xbb\xbf1", Some(NoValue::Bad)),
+    (b"\"\xff\"", Some(NoValue::Bad)),
+    (b"{\"ignored\":\"\xc3\"}", Some(NoValue::Bad)),
+    (b"\"\\ud800\"", Some(NoValue::Bad)),
+    (b"\"\\ud800\\u0041\"", Some(NoValue::Bad)),
+    (b"{\"ignored\":1e400}", Some(NoValue::Bad)),
+    (b" 1\r\n", None),
+    (b"\"\\ud83d\\ude00\"", None),
+    (b"\"\xc3\xa9\"", None),
+    (b"1e-400", None),
+];
 
 #[test]
 fn texts_that_are_no_json(rt: HostRuntime) {
-    for text in [
-        b"".as_slice(),
-        b"1 2",
-        b"[1,]",
-        b"01",
-        b"\xef\xbb\xbf1",
-        b"\"\xff\"",
-        b"{\"ignored\":\"\xc3\"}",
-        b"\"\\ud800\"",
-        b"\"\\ud800\\u0041\"",
-        b"{\"ignored\":1e400}",
-    ] {
-        assert_eq!(rt;
-            read_value(rt.alloc(), text).err(),
-            Some(NoValue::Bad),
-            "{text:?}"
-        );
+    for (text, fault) in BYTES.iter() {
+        assert_eq!(rt; read_value(rt.alloc(), *text).err(), *fault, "{text:?}");
     }
-    for text in [
-        b" 1\r\n".as_slice(),
-        b"\"\\ud83d\\ude00\"",
-        b"\"\xc3\xa9\"",
-        b"1e-400",
-    ] {
-        assert!(rt; read_value(rt.alloc(), text).is_ok(), "{text:?}");
-    }
+}
+
+// So many arrays, each but the last with the next one in it.
+fn nested<A: Abort>(rt: &A, alloc: Global, depth: usize) -> String {
+    let opening = "[".repeat(alloc, depth).expect(rt, "memory");
+    let closing = "]".repeat(alloc, depth).expect(rt, "memory");
+    format!(in alloc; "{opening}{closing}").expect(rt, "memory")
 }
 
 #[test]
 fn arrays_nest_127_deep(rt: HostRuntime) {
     for (depth, is_read) in [(1, true), (127, true), (128, false)] {
-        let mut text = vec![in rt.alloc(); b'['; depth].expect(&rt, "an answer");
-        for _ in 0..depth {
-            text.push(b']').expect(&rt, "an answer");
-        }
-        assert_eq!(rt; read_value(rt.alloc(), &text).is_ok(), is_read, "{depth}");
+        let text = nested(&rt, rt.alloc(), depth);
+        let value = read_value(rt.alloc(), text.as_bytes());
+        assert_eq!(rt; value.is_ok(), is_read, "{depth}");
     }
+}
+
+// A table of 65536, of so many pairs of 0 and 12345, and of 0.
+fn long_table<A: Abort>(rt: &A, alloc: Global, pairs: usize) -> String {
+    let pairs = ",0,12345".repeat(alloc, pairs).expect(rt, "memory");
+    format!(in alloc; "[65536{pairs},0]").expect(rt, "memory")
 }
 
 #[test]
 fn a_table_of_a_million_numbers_is_read(rt: HostRuntime) {
-    let count = 1 << 20;
-    let mut text = b"[65536".to_vec(rt.alloc()).expect(&rt, "an answer");
-    for i in 1..count {
-        text.extend_from_slice(if i % 2 == 0 { b",12345" } else { b",0" })
-            .expect(&rt, "an answer");
-    }
-    text.push(b']').expect(&rt, "an answer");
-    let value = read_value(rt.alloc(), &text).expect(&rt, "an answer");
+    let text = long_table(&rt, rt.alloc(), (1 << 19) - 1);
+    let value = read_value(rt.alloc(), text.as_bytes()).expect(&rt, "JSON");
     let form = ListOf {
         item: Below { bound: 65_537 },
     };
     let row = form.read(rt.alloc(), &value).ok().expect(&rt, "a table");
-    assert_eq!(rt; row.len(), count);
-    assert_eq!(rt; row.as_slice().first(), Some(&65_536));
-    assert_eq!(rt; row.as_slice().last(), Some(&0));
+    let numbers = row.as_slice();
+    assert_eq!(rt;
+        (numbers.len(), numbers.first(), numbers.last()),
+        (1 << 20, Some(&65_536), Some(&0))
+    );
 }
+
+static NEVER_READ: [&str; 4] = ["\"next\"", "9", "null", "{}"];
 
 #[test]
 fn no_value_is_of_no_form(rt: HostRuntime) {
-    for text in ["\"next\"", "9", "null", "{}"] {
-        assert_eq!(rt;
-            read_text(rt.alloc(), &NoForm, text).expect(&rt, "an answer"),
-            Err(Misread::NotOfForm),
-            "{text}"
-        );
-    }
+    assert_refused(&rt, rt.alloc(), &NoForm, &NEVER_READ);
 }
