@@ -1,526 +1,250 @@
 //! Whole runs over memory.
+mod cases;
+mod challengers;
 mod fields;
 mod jobs;
 mod kinds;
+mod refusals;
+mod streams;
 
-use jobs::{
-    CHANGES, CHECKS, CUBE, DIFFICULTIES, FIRST, FIRST_TEXT, HASHES, LUCKY, LUCKY_BATCH,
-    NO_VARIABLE, ROWS, SAME, SCRIPT, SUFFIX_MODES, SUFFIX_TEXT,
+use cases::{
+    ALONE, CHECKS, CUBES, LAST_OF_TWO, NO_PROOF, PART, SAME, SUFFIX_CUBES, SUFFIX_MODES, WHOLE,
 };
-use std::alloc::{AllocError, Global};
-use std::io::{self, Error, ErrorKind, Read, Write};
-use sumcheck_run::{MemSink, MemSource, PlainSource, Source, StdSink, StdSource, run};
+use challengers::{BATCH, DIFFICULTIES, DRAWS_OF_A_FALSE_CLAIM, FEW_DRAWS, HASHES, NO_ROUNDS};
+use jobs::{DIFFICULT, FIRST, MANY};
+use refusals::CHANGES;
+use std::alloc::Global;
+use std::process::Abort;
+use sumcheck_run::{MemSink, PlainSource, Sink, Source, run};
 
-fn words(alloc: Global, all: &[&str]) -> Result<Vec<String>, AllocError> {
-    let mut words = Vec::new(alloc);
-    for word in all {
-        words.push(String::from_str(alloc, *word)?)?;
-    }
-    Ok(words)
+// A job's text, and the status and the text that `audit` answers.
+type Case = (&'static str, u8, &'static str);
+
+// A job's text, a part of it with what is put in its place, and the answer.
+type Changed = (&'static str, (&'static str, &'static str), u8, &'static str);
+
+// A part of a job, what is put in its place, and why that is refused.
+type Refusal = (&'static str, &'static str, &'static str);
+
+// The challenger of the first job, the order, the difficulty and the mode, and the answer.
+type Difficulty = (
+    &'static str,
+    &'static str,
+    &'static str,
+    &'static str,
+    u8,
+    &'static str,
+);
+
+fn word<A: Abort>(rt: &A, alloc: Global, text: &str) -> String {
+    String::from_str(alloc, text).expect(rt, "memory")
 }
 
-// The status that a run of `audit` on the bytes ends with, and the sink, which has room for all.
-fn audit(alloc: Global, input: &[u8]) -> Result<(u8, MemSink), AllocError> {
-    let words = words(alloc, &["audit"])?;
-    let mut source = PlainSource::new(input.to_vec(alloc)?);
-    let mut sink = MemSink::new(alloc, 1000, Vec::new(alloc))?;
-    let status = run(alloc, &words, &mut source, &mut sink);
-    Ok((status.code, sink))
+// The status that a run with these words ends with.
+fn code_of<S: Source, K: Sink, A: Abort>(
+    rt: &A,
+    alloc: Global,
+    all: &[&str],
+    source: &mut S,
+    sink: &mut K,
+) -> u8 {
+    let mut words = Vec::new(alloc);
+    for text in all {
+        words.push(word(rt, alloc, *text)).expect(rt, "memory");
+    }
+    run(alloc, &words, source, sink).code
+}
+
+// A sink of this room that fails at these calls.
+fn sink_with<A: Abort>(rt: &A, alloc: Global, room: usize, fails: &[u64]) -> MemSink {
+    let fails = fails.to_vec(alloc).expect(rt, "memory");
+    MemSink::new(alloc, room, fails).expect(rt, "memory")
+}
+
+// The status that a run of `audit` on the bytes ends with.
+fn audit_into<A: Abort>(rt: &A, alloc: Global, input: &[u8], sink: &mut MemSink) -> u8 {
+    let mut source = PlainSource::new(input.to_vec(alloc).expect(rt, "memory"));
+    code_of(rt, alloc, &["audit"], &mut source, sink)
+}
+
+fn assert_written<A: Abort>(rt: &A, name: &str, code: u8, bytes: &[u8], want: u8, text: &str) {
+    assert_eq!(rt; (code, bytes), (want, text.as_bytes()), "{name}");
+}
+
+// What is answered to the bytes, into a sink that has room for all.
+fn assert_answer_to<A: Abort>(
+    rt: &A,
+    alloc: Global,
+    name: &str,
+    input: &[u8],
+    code: u8,
+    text: &str,
+) {
+    let mut sink = sink_with(rt, alloc, 1000, &[]);
+    let found = audit_into(rt, alloc, input, &mut sink);
+    assert_written(rt, name, found, sink.bytes(), code, text);
+}
+
+fn assert_answer<A: Abort>(rt: &A, alloc: Global, job: &str, code: u8, text: &str) {
+    assert_answer_to(rt, alloc, job, job.as_bytes(), code, text);
+}
+
+// The text with a part replaced, by which it does change.
+fn change<A: Abort>(rt: &A, alloc: Global, text: &str, part: &str, other: &str) -> String {
+    let changed = text.replace(alloc, part, other).expect(rt, "memory");
+    assert_ne!(rt; changed.as_str(), text, "{part}");
+    changed
+}
+
+fn assert_cases<A: Abort>(rt: &A, alloc: Global, cases: &[Case]) {
+    for (job, code, text) in cases {
+        assert_answer(rt, alloc, *job, *code, *text);
+    }
+}
+
+fn assert_changed<A: Abort>(rt: &A, alloc: Global, cases: &[Changed]) {
+    for (job, (part, other), code, text) in cases {
+        let changed = change(rt, alloc, *job, *part, *other);
+        assert_answer(rt, alloc, &changed, *code, *text);
+    }
+}
+
+// That each of these changes of the job is refused.
+fn assert_refused<A: Abort>(rt: &A, alloc: Global, job: &str, refusals: &[Refusal]) {
+    for (part, other, why) in refusals {
+        let changed = change(rt, alloc, job, *part, *other);
+        let text = format!(in alloc; "refused {why}\n").expect(rt, "memory");
+        assert_answer(rt, alloc, &changed, 3, &text);
+    }
+}
+
+fn assert_difficulties<A: Abort>(rt: &A, alloc: Global, cases: &[Difficulty]) {
+    for (challenger, order, bits, mode, code, text) in cases {
+        let job = change(rt, alloc, DIFFICULT, "CHALLENGER", *challenger);
+        let job = change(rt, alloc, &job, "ORDER", *order);
+        let job = change(rt, alloc, &job, "BITS", *bits);
+        let job = change(rt, alloc, &job, "MODE", *mode);
+        assert_answer(rt, alloc, &job, *code, *text);
+    }
 }
 
 #[test]
-fn rows_of_word_input_status_and_text(rt: HostRuntime) {
-    let alloc = rt.alloc();
-    for (word, input, code, text) in ROWS.iter() {
-        let words = words(alloc, &[*word]).expect(&rt, "an answer");
-        let mut source = PlainSource::new(input.as_bytes().to_vec(alloc).expect(&rt, "an answer"));
-        let mut sink = MemSink::new(alloc, 1000, Vec::new(alloc)).expect(&rt, "an answer");
-        let status = run(alloc, &words, &mut source, &mut sink);
-        assert_eq!(rt; status.code, *code, "{word} {input}");
-        assert_eq!(rt; sink.bytes(), text.as_bytes(), "{word} {input}");
-    }
+fn whole_jobs_and_texts_that_are_none(rt: HostRuntime) {
+    assert_cases(&rt, rt.alloc(), &WHOLE);
 }
 
 #[test]
 fn the_first_job_alone(rt: HostRuntime) {
-    let (code, sink) = audit(rt.alloc(), FIRST.as_bytes()).expect(&rt, "an answer");
-    assert_eq!(rt; code, 0);
-    assert_eq!(rt; sink.bytes(), FIRST_TEXT.as_bytes());
+    assert_cases(&rt, rt.alloc(), &ALONE);
 }
 
 #[test]
 fn a_change_of_the_first_job_that_is_refused(rt: HostRuntime) {
-    let alloc = rt.alloc();
-    for (old, new, why) in CHANGES.iter() {
-        let input = FIRST.replace(alloc, *old, *new).expect(&rt, "an answer");
-        assert_ne!(rt; input.as_str(), FIRST, "{old}");
-        let text = format!(in alloc; "refused {why}\n").expect(&rt, "an answer");
-        let (code, sink) = audit(alloc, input.as_bytes()).expect(&rt, "an answer");
-        assert_eq!(rt; code, 3, "{input}");
-        assert_eq!(rt; sink.bytes(), text.as_bytes(), "{input}");
-    }
+    assert_refused(&rt, rt.alloc(), FIRST, &CHANGES);
 }
 
 #[test]
 fn the_first_job_with_a_proof(rt: HostRuntime) {
-    let alloc = rt.alloc();
-    for (mode, code, text) in CHECKS.iter() {
-        let input = FIRST
-            .replace(alloc, r#"{"build":"plain"}"#, *mode)
-            .expect(&rt, "an answer");
-        let (status, sink) = audit(alloc, input.as_bytes()).expect(&rt, "an answer");
-        assert_eq!(rt; status, *code, "{mode}");
-        assert_eq!(rt; sink.bytes(), text.as_bytes(), "{mode}");
-    }
+    assert_changed(&rt, rt.alloc(), &CHECKS);
 }
 
 #[test]
 fn the_first_job_in_suffix_order(rt: HostRuntime) {
-    let alloc = rt.alloc();
-    let suffix = FIRST
-        .replace(alloc, r#""prefix""#, r#""suffix""#)
-        .expect(&rt, "an answer");
-    for (mode, code, text) in SUFFIX_MODES.iter() {
-        let input = suffix
-            .replace(alloc, r#"{"build":"plain"}"#, *mode)
-            .expect(&rt, "an answer");
-        let (status, sink) = audit(alloc, input.as_bytes()).expect(&rt, "an answer");
-        assert_eq!(rt; status, *code, "{mode}");
-        assert_eq!(rt; sink.bytes(), text.as_bytes(), "{mode}");
-    }
+    assert_changed(&rt, rt.alloc(), &SUFFIX_MODES);
 }
 
 #[test]
 fn the_first_job_at_a_difficulty(rt: HostRuntime) {
-    let alloc = rt.alloc();
-    for (bits, witnesses, mode, code, text) in DIFFICULTIES.iter() {
-        let bits = format!(in alloc; r#""bits":{bits}"#).expect(&rt, "an answer");
-        let witnesses = format!(in alloc; r#""witnesses":{witnesses}"#).expect(&rt, "an answer");
-        let input = FIRST
-            .replace(alloc, r#""bits":0"#, &bits)
-            .expect(&rt, "an answer");
-        let input = input
-            .replace(alloc, r#""witnesses":[]"#, &witnesses)
-            .expect(&rt, "an answer");
-        let input = input
-            .replace(alloc, r#"{"build":"plain"}"#, *mode)
-            .expect(&rt, "an answer");
-        let (status, sink) = audit(alloc, input.as_bytes()).expect(&rt, "an answer");
-        assert_eq!(rt; status, *code, "{input}");
-        assert_eq!(rt; sink.bytes(), text.as_bytes(), "{input}");
-    }
+    assert_difficulties(&rt, rt.alloc(), &DIFFICULTIES);
 }
 
 #[test]
 fn a_difficulty_without_rounds(rt: HostRuntime) {
-    let alloc = rt.alloc();
-    let text = "claim 7\nresidual 7\neval 7\nweight 1\nverdict holds\n";
-    let difficult = NO_VARIABLE
-        .replace(alloc, r#""bits":0"#, r#""bits":3"#)
-        .expect(&rt, "an answer");
-    for (mode, code, text) in [
-        (r#"{"build":"plain"}"#, 0, text),
-        (r#"{"check":null}"#, 0, text),
-        (r#"{"check":{"rounds":[],"witnesses":[]}}"#, 0, text),
-        (
-            r#"{"check":{"rounds":[],"witnesses":[5]}}"#,
-            4,
-            "proof refused witnesses expected 0 actual 1\n",
-        ),
-    ] {
-        let input = difficult
-            .replace(alloc, r#"{"build":"plain"}"#, mode)
-            .expect(&rt, "an answer");
-        let (status, sink) = audit(alloc, input.as_bytes()).expect(&rt, "an answer");
-        assert_eq!(rt; status, code, "{mode}");
-        assert_eq!(rt; sink.bytes(), text.as_bytes(), "{mode}");
-    }
+    assert_changed(&rt, rt.alloc(), &NO_ROUNDS);
 }
 
 #[test]
 fn the_first_job_under_the_hash_challenger(rt: HostRuntime) {
-    let alloc = rt.alloc();
-    for (order, bits, text, proof) in HASHES.iter() {
-        let bits = format!(in alloc; r#""bits":{bits}"#).expect(&rt, "an answer");
-        let input = FIRST
-            .replace(alloc, SCRIPT, r#""hash""#)
-            .expect(&rt, "an answer");
-        let input = input
-            .replace(alloc, r#""prefix""#, *order)
-            .expect(&rt, "an answer");
-        let input = input
-            .replace(alloc, r#""bits":0"#, &bits)
-            .expect(&rt, "an answer");
-        for mode in [r#"{"build":"plain"}"#, *proof] {
-            let input = input
-                .replace(alloc, r#"{"build":"plain"}"#, mode)
-                .expect(&rt, "an answer");
-            let (status, sink) = audit(alloc, input.as_bytes()).expect(&rt, "an answer");
-            assert_eq!(rt; status, 0, "{input}");
-            assert_eq!(rt; sink.bytes(), text.as_bytes(), "{input}");
-        }
-    }
+    assert_difficulties(&rt, rt.alloc(), &HASHES);
 }
 
 #[test]
 fn a_table_without_variables_needs_no_proof(rt: HostRuntime) {
-    let alloc = rt.alloc();
-    let text = "claim 7\nresidual 7\neval 7\nweight 1\nverdict holds\n";
-    for (mode, code, text) in [
-        (r#"{"check":null}"#, 0, text),
-        (r#"{"check":{"rounds":[],"witnesses":[]}}"#, 0, text),
-        (
-            r#"{"check":{"rounds":[[1,2]],"witnesses":[]}}"#,
-            4,
-            "proof refused rounds expected 0 actual 1\n",
-        ),
-    ] {
-        let input = NO_VARIABLE
-            .replace(alloc, r#"{"build":"plain"}"#, mode)
-            .expect(&rt, "an answer");
-        let (status, sink) = audit(alloc, input.as_bytes()).expect(&rt, "an answer");
-        assert_eq!(rt; status, code, "{mode}");
-        assert_eq!(rt; sink.bytes(), text.as_bytes(), "{mode}");
-    }
+    assert_changed(&rt, rt.alloc(), &NO_PROOF);
 }
 
 #[test]
 fn a_false_claim_is_refuted_unless_the_draw_is_lucky(rt: HostRuntime) {
-    let alloc = rt.alloc();
-    for (draw, code, text) in [
-        (
-            "3",
-            1,
-            "claim 5\nround 0: 5 1 challenge 3\nresidual 65533\neval 4\nweight 65535\nverdict refuted\n",
-        ),
-        ("2", 3, "refused unbuilt verdict\n"),
-    ] {
-        let input = LUCKY.replace(alloc, "DRAW", draw).expect(&rt, "an answer");
-        let (status, sink) = audit(alloc, input.as_bytes()).expect(&rt, "an answer");
-        assert_eq!(rt; status, code, "{draw}");
-        assert_eq!(rt; sink.bytes(), text.as_bytes(), "{draw}");
-    }
+    assert_changed(&rt, rt.alloc(), &DRAWS_OF_A_FALSE_CLAIM);
 }
 
 #[test]
 fn a_lucky_batch_waits_for_its_verdict(rt: HostRuntime) {
-    let (code, sink) = audit(rt.alloc(), LUCKY_BATCH.as_bytes()).expect(&rt, "an answer");
-    assert_eq!(rt; code, 3);
-    assert_eq!(rt; sink.bytes(), b"refused unbuilt verdict\n".as_slice());
+    assert_cases(&rt, rt.alloc(), &BATCH);
 }
 
 #[test]
 fn a_change_of_the_first_job_that_says_the_same(rt: HostRuntime) {
-    let alloc = rt.alloc();
-    for (old, new) in SAME.iter() {
-        let input = FIRST.replace(alloc, *old, *new).expect(&rt, "an answer");
-        assert_ne!(rt; input.as_str(), FIRST, "{old}");
-        let (code, sink) = audit(alloc, input.as_bytes()).expect(&rt, "an answer");
-        assert_eq!(rt; code, 0, "{input}");
-        assert_eq!(rt; sink.bytes(), FIRST_TEXT.as_bytes(), "{input}");
-    }
+    assert_changed(&rt, rt.alloc(), &SAME);
 }
 
 #[test]
 fn the_last_of_two_members_counts_where_it_is_refused(rt: HostRuntime) {
-    let alloc = rt.alloc();
-    for (orders, code, text) in [
-        (r#""prefix","order":"suffix""#, 0, SUFFIX_TEXT),
-        (r#""prefix","order":"infix""#, 3, "refused bad-job order\n"),
-    ] {
-        let input = FIRST
-            .replace(alloc, r#""prefix""#, orders)
-            .expect(&rt, "an answer");
-        let (status, sink) = audit(alloc, input.as_bytes()).expect(&rt, "an answer");
-        assert_eq!(rt; status, code, "{orders}");
-        assert_eq!(rt; sink.bytes(), text.as_bytes(), "{orders}");
-    }
-}
-
-#[test]
-fn a_part_of_a_job_and_bytes_that_are_no_text_are_no_json(rt: HostRuntime) {
-    let alloc = rt.alloc();
-    for input in [&FIRST.as_bytes()[..50], b"\"\xff\"".as_slice()] {
-        let (code, sink) = audit(alloc, input).expect(&rt, "an answer");
-        assert_eq!(rt; code, 3);
-        assert_eq!(rt; sink.bytes(), b"refused bad-json\n".as_slice());
-    }
+    assert_changed(&rt, rt.alloc(), &LAST_OF_TWO);
 }
 
 #[test]
 fn draws_past_the_end_of_the_list_are_0(rt: HostRuntime) {
-    let alloc = rt.alloc();
-    for (draws, text) in [
-        (
-            "[3]",
-            "claim 2\nround 0: 2 65535 challenge 3\nround 1: 0 65535 challenge 0\nresidual 0\neval 7\nweight 0\nverdict holds\n",
-        ),
-        (
-            "[]",
-            "claim 2\nround 0: 2 65535 challenge 0\nround 1: 0 1 challenge 0\nresidual 0\neval 1\nweight 0\nverdict holds\n",
-        ),
-    ] {
-        let input = FIRST
-            .replace(alloc, "[3,4]", draws)
-            .expect(&rt, "an answer");
-        let (code, sink) = audit(alloc, input.as_bytes()).expect(&rt, "an answer");
-        assert_eq!(rt; code, 0, "{draws}");
-        assert_eq!(rt; sink.bytes(), text.as_bytes(), "{draws}");
-    }
+    assert_changed(&rt, rt.alloc(), &FEW_DRAWS);
 }
 
 #[test]
 fn three_variables_and_points_outside_the_cube(rt: HostRuntime) {
-    let alloc = rt.alloc();
-    for (value, code, text) in [
-        (
-            "51",
-            0,
-            "claim 2563\nround 0: 932 5196 challenge 10\nround 1: 33642 45000 challenge 20\nround 2: 8166 54 challenge 65536\nresidual 22686\neval 64542\nweight 26192\nverdict holds\n",
-        ),
-        ("0", 3, "refused false-claim 2 claimed 0 true 51\n"),
-    ] {
-        let input = CUBE.replace(alloc, "VALUE", value).expect(&rt, "an answer");
-        let (status, sink) = audit(alloc, input.as_bytes()).expect(&rt, "an answer");
-        assert_eq!(rt; status, code, "{value}");
-        assert_eq!(rt; sink.bytes(), text.as_bytes(), "{value}");
-    }
+    assert_changed(&rt, rt.alloc(), &CUBES);
 }
 
 #[test]
 fn three_variables_in_suffix_order(rt: HostRuntime) {
-    let alloc = rt.alloc();
-    let text =
-        "claim 2563\nround 0: 2744 5758 challenge 10\nround 1: 18872 63330 challenge 20\nround 2: 50204 19120 challenge 65536\nresidual 55828\neval 65158\nweight 53804\nverdict holds\n";
-    let suffix = CUBE
-        .replace(alloc, r#""prefix""#, r#""suffix""#)
-        .expect(&rt, "an answer");
-    for (value, code, text) in [
-        ("51", 0, text),
-        ("0", 3, "refused false-claim 2 claimed 0 true 51\n"),
-    ] {
-        let input = suffix
-            .replace(alloc, "VALUE", value)
-            .expect(&rt, "an answer");
-        let (status, sink) = audit(alloc, input.as_bytes()).expect(&rt, "an answer");
-        assert_eq!(rt; status, code, "{value}");
-        assert_eq!(rt; sink.bytes(), text.as_bytes(), "{value}");
-    }
+    assert_changed(&rt, rt.alloc(), &SUFFIX_CUBES);
 }
 
 #[test]
-fn words_that_are_no_command_leave_the_source_unread(rt: HostRuntime) {
-    let alloc = rt.alloc();
-    for words in [
-        words(alloc, &[]).expect(&rt, "an answer"),
-        words(alloc, &["Audit"]).expect(&rt, "an answer"),
-        words(alloc, &["audits"]).expect(&rt, "an answer"),
-        words(alloc, &["audit", "now"]).expect(&rt, "an answer"),
-        words(alloc, &["audit", "audit"]).expect(&rt, "an answer"),
-    ] {
-        let bytes = FIRST.as_bytes().to_vec(alloc).expect(&rt, "an answer");
-        let mut source = MemSource::new(bytes, [0].to_vec(alloc).expect(&rt, "an answer"));
-        let mut sink = MemSink::new(alloc, 1000, Vec::new(alloc)).expect(&rt, "an answer");
-        let status = run(alloc, &words, &mut source, &mut sink);
-        assert_eq!(rt; status.code, 2);
-        assert_eq!(rt; source.calls(), 0);
-        assert_eq!(rt; sink.bytes(), b"usage\n".as_slice());
-    }
+fn a_part_of_a_job_and_bytes_that_are_no_text_are_no_json(rt: HostRuntime) {
+    assert_cases(&rt, rt.alloc(), &PART);
+    let (name, text) = ("no text", "refused bad-json\n");
+    assert_answer_to(&rt, rt.alloc(), name, b"\"\xff\"", 3, text);
 }
 
-#[test]
-fn the_empty_read_is_the_last(rt: HostRuntime) {
-    let alloc = rt.alloc();
-    let words = words(alloc, &["audit"]).expect(&rt, "an answer");
-    let bytes = FIRST.as_bytes().to_vec(alloc).expect(&rt, "an answer");
-    let mut source = MemSource::new(bytes, [2].to_vec(alloc).expect(&rt, "an answer"));
-    let mut sink = MemSink::new(alloc, 1000, Vec::new(alloc)).expect(&rt, "an answer");
-    let status = run(alloc, &words, &mut source, &mut sink);
-    assert_eq!(rt; status.code, 0);
-    assert_eq!(rt; source.calls(), 2);
+// So many claims as the items of a list, of claims with a comma behind each.
+fn list_of<A: Abort>(rt: &A, alloc: Global, claim: &str, count: usize) -> String {
+    let mut list = claim.repeat(alloc, count).expect(rt, "memory");
+    list.pop();
+    list
 }
 
-#[test]
-fn a_source_that_fails(rt: HostRuntime) {
-    let alloc = rt.alloc();
-    let words = words(alloc, &["audit"]).expect(&rt, "an answer");
-    for call in [0, 1] {
-        let bytes = FIRST.as_bytes().to_vec(alloc).expect(&rt, "an answer");
-        let mut source = MemSource::new(bytes, [call].to_vec(alloc).expect(&rt, "an answer"));
-        let mut sink = MemSink::new(alloc, 1000, Vec::new(alloc)).expect(&rt, "an answer");
-        let status = run(alloc, &words, &mut source, &mut sink);
-        assert_eq!(rt; status.code, 6, "at call {call}");
-        assert_eq!(rt; source.calls(), call + 1, "at call {call}");
-        assert_eq!(rt; sink.calls(), 0, "at call {call}");
-        assert_eq!(rt; sink.bytes().len(), 0, "at call {call}");
-    }
-}
+const MANY_TEXT: &str = "claim 28672\nresidual 28672\neval 7\nweight 4096\nverdict holds\n";
 
-#[test]
-fn a_sink_that_is_full_or_fails(rt: HostRuntime) {
-    let alloc = rt.alloc();
-    let words = words(alloc, &["audit"]).expect(&rt, "an answer");
-    // A room, a call that fails, the status, and how much of the text is written.
-    for (room, call, code, written) in [
-        (10, 9, 7, 10),
-        (FIRST_TEXT.len(), 9, 0, FIRST_TEXT.len()),
-        (FIRST_TEXT.len() - 1, 9, 7, FIRST_TEXT.len() - 1),
-        (1000, 0, 7, 0),
-        (0, 9, 7, 0),
-    ] {
-        let mut source = PlainSource::new(FIRST.as_bytes().to_vec(alloc).expect(&rt, "an answer"));
-        let mut sink = MemSink::new(
-            alloc,
-            room,
-            [call].to_vec(alloc).expect(&rt, "an answer"),
-        ).expect(&rt, "an answer");
-        let status = run(alloc, &words, &mut source, &mut sink);
-        assert_eq!(rt; status.code, code, "of {room} bytes");
-        assert_eq!(rt; sink.bytes().len(), written, "of {room} bytes");
-        assert!(rt;
-            FIRST_TEXT.as_bytes().starts_with(sink.bytes()),
-            "of {room} bytes"
-        );
-    }
-}
+// How many claims a job has at points, and how many behind them at scalars, all of them true, and what is answered.
+static COUNTS: [(usize, usize, u8, &str); 4] = [
+    // 4,096 times 7, and 4,096 weights of 1
+    (4096, 0, 0, MANY_TEXT),
+    (4000, 96, 0, MANY_TEXT),
+    (4097, 0, 3, "refused bad-job groups\n"),
+    (4096, 1, 3, "refused bad-job groups\n"),
+];
 
-#[test]
-fn a_sink_of_ten_bytes_takes_the_first_ten(rt: HostRuntime) {
-    let alloc = rt.alloc();
-    let words = words(alloc, &["audit"]).expect(&rt, "an answer");
-    let mut source = PlainSource::new(FIRST.as_bytes().to_vec(alloc).expect(&rt, "an answer"));
-    let mut sink = MemSink::new(alloc, 10, Vec::new(alloc)).expect(&rt, "an answer");
-    let status = run(alloc, &words, &mut source, &mut sink);
-    assert_eq!(rt; status.code, 7);
-    assert_eq!(rt; sink.bytes(), b"claim 2\nro".as_slice());
-}
-
-// A reader that gives one byte at a call, and a writer that takes at most three.
-#[derive(Drop)]
-struct Few {
-    bytes: Vec<u8>,
-    at: usize,
-}
-
-impl Read for Few {
-    fn read(&mut self, buf: &mut [u8]) -> io::Result<usize> {
-        if buf.is_empty() {
-            return Ok(0);
-        }
-        let Some(byte) = self.bytes.get(self.at) else {
-            return Ok(0);
-        };
-        buf[0] = *byte;
-        self.at = self.at.saturating_add(1);
-        Ok(1)
-    }
-}
-
-impl Write for Few {
-    fn write(&mut self, buf: &[u8]) -> io::Result<usize> {
-        let n = buf.len().min(3);
-        if self.bytes.extend_from_slice(&buf[..n]).is_err() {
-            return Err(Error::from(ErrorKind::OutOfMemory));
-        }
-        Ok(n)
-    }
-
-    fn flush(&mut self) -> io::Result<()> {
-        Ok(())
-    }
-}
-
-#[test]
-fn few_bytes_at_a_call(rt: HostRuntime) {
-    let alloc = rt.alloc();
-    let words = words(alloc, &["audit"]).expect(&rt, "an answer");
-    let bytes = FIRST.as_bytes().to_vec(alloc).expect(&rt, "an answer");
-    let mut written = Few {
-        bytes: Vec::new(alloc),
-        at: 0,
-    };
-    let mut source = StdSource::new(Few { bytes, at: 0 });
-    let mut sink = StdSink::new(&mut written);
-    let status = run(alloc, &words, &mut source, &mut sink);
-    assert_eq!(rt; status.code, 0);
-    drop(sink);
-    assert_eq!(rt; written.bytes.as_slice(), FIRST_TEXT.as_bytes());
-}
-
-#[test]
-fn an_input_of_more_than_67108864_bytes_is_too_long(rt: HostRuntime) {
-    let alloc = rt.alloc();
-    let words = words(alloc, &["audit"]).expect(&rt, "an answer");
-    for (count, text) in [
-        (67_108_864, "refused bad-json\n"),
-        (67_108_865, "refused too-long\n"),
-        (67_108_870, "refused too-long\n"),
-    ] {
-        let mut source = MemSource::new(
-            vec![in alloc; b' '; count].expect(&rt, "an answer"),
-            Vec::new(alloc),
-        );
-        let mut sink = MemSink::new(alloc, 1000, Vec::new(alloc)).expect(&rt, "an answer");
-        let status = run(alloc, &words, &mut source, &mut sink);
-        assert_eq!(rt; status.code, 3, "{count} blanks");
-        assert_eq!(rt; sink.bytes(), text.as_bytes(), "{count} blanks");
-        assert_eq!(rt; source.calls(), 1025, "{count} blanks");
-    }
-}
-
-#[test]
-fn what_is_past_one_byte_more_than_the_limit_stays_unread(rt: HostRuntime) {
-    let alloc = rt.alloc();
-    let words = words(alloc, &["audit"]).expect(&rt, "an answer");
-    let mut source = PlainSource::new(vec![in alloc; b' '; 67_108_870].expect(&rt, "an answer"));
-    let mut sink = MemSink::new(alloc, 1000, Vec::new(alloc)).expect(&rt, "an answer");
-    run(alloc, &words, &mut source, &mut sink);
-    let mut piece = [0; 10];
-    assert_eq!(rt; source.read(&mut piece), Ok(5));
-}
-
-// A job of groups of so many claims each, all of them true: one at points, and behind it one at scalars.
-fn job_of_groups(alloc: Global, counts: &[usize]) -> Result<String, AllocError> {
-    let mut groups = String::new(alloc);
-    for (i, count) in counts.iter().enumerate() {
-        if i > 0 {
-            groups.push_str(",")?;
-        }
-        let (head, claim) = if i == 0 {
-            (r#"{"kind":"eq","claims":["#, r#"{"point":[],"value":7}"#)
-        } else {
-            (r#"{"kind":"select","scalars":["#, r#"{"at":5,"value":7}"#)
-        };
-        groups.push_str(head)?;
-        for j in 0..*count {
-            if j > 0 {
-                groups.push_str(",")?;
-            }
-            groups.push_str(claim)?;
-        }
-        groups.push_str("]}")?;
-    }
-    NO_VARIABLE.replace(
-        alloc,
-        r#"{"kind":"eq","claims":[{"point":[],"value":7}]}"#,
-        &groups,
-    )
+// A job of so many claims.
+fn job_of<A: Abort>(rt: &A, alloc: Global, points: usize, scalars: usize) -> String {
+    let points = list_of(rt, alloc, r#"{"point":[],"value":7},"#, points);
+    let scalars = list_of(rt, alloc, r#"{"at":5,"value":7},"#, scalars);
+    let job = change(rt, alloc, MANY, "POINTS", &points);
+    change(rt, alloc, &job, "SCALARS", &scalars)
 }
 
 #[test]
 fn a_job_has_at_most_4096_statements(rt: HostRuntime) {
-    let alloc = rt.alloc();
-    // 4,096 times 7, and 4,096 weights of 1.
-    let text = "claim 28672\nresidual 28672\neval 7\nweight 4096\nverdict holds\n";
-    for (counts, code, text) in [
-        ([4096, 0], 0, text),
-        ([4000, 96], 0, text),
-        ([4097, 0], 3, "refused bad-job groups\n"),
-        ([4096, 1], 3, "refused bad-job groups\n"),
-    ] {
-        let input = job_of_groups(alloc, &counts).expect(&rt, "an answer");
-        let (status, sink) = audit(alloc, input.as_bytes()).expect(&rt, "an answer");
-        assert_eq!(rt; status, code, "{counts:?}");
-        assert_eq!(rt; sink.bytes(), text.as_bytes(), "{counts:?}");
+    for (points, scalars, code, text) in COUNTS.iter() {
+        let job = job_of(&rt, rt.alloc(), *points, *scalars);
+        assert_answer(&rt, rt.alloc(), &job, *code, *text);
     }
 }

@@ -1,8 +1,8 @@
 // Whole runs over the other fields. The texts are those of a program apart, which sums over all rows and has the fields by their definitions.
-use super::audit;
+use super::{Case, Refusal, assert_cases, assert_refused};
 
-// A job, its status and its text.
-static FIELDS: [(&str, u8, &str); 16] = [
+// Jobs over the field of 16 elements.
+static SIXTEEN: [Case; 8] = [
     // 16 elements
     (
         r#"{"field":"16","challenger":{"draws":[2,4],"witnesses":[]},"order":"prefix","bits":0,"table":[1,2,3,4],"variables":2,"groups":[{"kind":"eq","claims":[{"point":[0,1],"value":2}]}],"batching":1,"mode":{"build":"plain"}}"#,
@@ -39,6 +39,22 @@ static FIELDS: [(&str, u8, &str); 16] = [
         1,
         "claim 11\nround 0: 3 1 challenge 13\nround 1: 1 13 challenge 6\nround 2: 6 0 challenge 13\nresidual 1\neval 2\nweight 9\nverdict refuted\n",
     ),
+    // in a represented build too
+    (
+        r#"{"field":"16","challenger":{"draws":[2,4],"witnesses":[]},"order":"prefix","bits":0,"table":[1,2,3,4],"variables":2,"groups":[{"kind":"eq","claims":[{"point":[0,1],"value":3}]}],"batching":1,"mode":{"build":"represented"}}"#,
+        3,
+        "refused false-claim 0 claimed 3 true 2\n",
+    ),
+    // 16 witnesses, none of 16 bits
+    (
+        r#"{"field":"16","challenger":"hash","order":"prefix","bits":16,"table":[1,2,3,4],"variables":2,"groups":[{"kind":"eq","claims":[{"point":[0,1],"value":2}]}],"batching":1,"mode":{"build":"plain"}}"#,
+        5,
+        "no witness round 0\n",
+    ),
+];
+
+// Jobs over the extension of degree 2 of the integers modulo 257.
+static EXTENDED: [Case; 8] = [
     // statements of every kind, represented, under the hash challenger with a test of two bits
     (
         r#"{"field":"257x2","challenger":"hash","order":"suffix","bits":2,"table":[114,31,203,25,113,23,68,148],"variables":3,"groups":[{"kind":"eq","claims":[{"point":[54937,18907,15439],"value":60155}]},{"kind":"next","claims":[{"selector":[40433],"point":[23688,13507],"order":"suffix","value":13250}]},{"kind":"select","scalars":[{"at":96,"value":124}]},{"kind":"select","points":[{"at":[190,49,32],"value":96}]}],"batching":7812,"mode":{"build":"represented"}}"#,
@@ -81,18 +97,6 @@ static FIELDS: [(&str, u8, &str); 16] = [
         3,
         "refused false-claim 0 claimed 1 true 258\n",
     ),
-    // in a represented build too
-    (
-        r#"{"field":"16","challenger":{"draws":[2,4],"witnesses":[]},"order":"prefix","bits":0,"table":[1,2,3,4],"variables":2,"groups":[{"kind":"eq","claims":[{"point":[0,1],"value":3}]}],"batching":1,"mode":{"build":"represented"}}"#,
-        3,
-        "refused false-claim 0 claimed 3 true 2\n",
-    ),
-    // 16 witnesses, none of 16 bits
-    (
-        r#"{"field":"16","challenger":"hash","order":"prefix","bits":16,"table":[1,2,3,4],"variables":2,"groups":[{"kind":"eq","claims":[{"point":[0,1],"value":2}]}],"batching":1,"mode":{"build":"plain"}}"#,
-        5,
-        "no witness round 0\n",
-    ),
     // no variables
     (
         r#"{"field":"257x2","challenger":"hash","order":"prefix","bits":0,"table":[7],"variables":0,"groups":[{"kind":"eq","claims":[{"point":[],"value":7}]}],"batching":66000,"mode":{"build":"represented"}}"#,
@@ -106,7 +110,7 @@ const EXTENSION: &str =
     r#"{"field":"257x2","challenger":{"draws":[2,1],"witnesses":[]},"order":"prefix","bits":0,"table":[1,2],"variables":1,"groups":[{"kind":"eq","claims":[{"point":[257],"value":258}]}],"batching":1,"mode":{"build":"plain"}}"#;
 
 // A part of that job, what stands in its place, and what is refused: numbers that are no elements of their field.
-static TOO_LARGE: [(&str, &str, &str); 10] = [
+static TOO_LARGE: [Refusal; 10] = [
     // a base number
     ("[1,2]", "[1,257]", "bad-job table"),
     // draws are base numbers
@@ -152,24 +156,16 @@ static TOO_LARGE: [(&str, &str, &str); 10] = [
 ];
 
 #[test]
-fn jobs_over_the_other_fields(rt: HostRuntime) {
-    for (job, want, text) in FIELDS.iter() {
-        let (code, sink) = audit(rt.alloc(), job.as_bytes()).expect(&rt, "an answer");
-        assert_eq!(rt; code, *want, "{job}");
-        assert_eq!(rt; sink.bytes(), text.as_bytes(), "{job}");
-    }
+fn jobs_over_the_field_of_16_elements(rt: HostRuntime) {
+    assert_cases(&rt, rt.alloc(), &SIXTEEN);
+}
+
+#[test]
+fn jobs_over_an_extension(rt: HostRuntime) {
+    assert_cases(&rt, rt.alloc(), &EXTENDED);
 }
 
 #[test]
 fn numbers_that_are_no_elements(rt: HostRuntime) {
-    let alloc = rt.alloc();
-    for (part, other, why) in TOO_LARGE.iter() {
-        let input = EXTENSION
-            .replace(alloc, *part, *other)
-            .expect(&rt, "an answer");
-        let text = format!(in alloc; "refused {why}\n").expect(&rt, "an answer");
-        let (code, sink) = audit(alloc, input.as_bytes()).expect(&rt, "an answer");
-        assert_eq!(rt; code, 3, "{input}");
-        assert_eq!(rt; sink.bytes(), text.as_bytes(), "{input}");
-    }
+    assert_refused(&rt, rt.alloc(), EXTENSION, &TOO_LARGE);
 }
