@@ -1,21 +1,18 @@
 //! Whole audits, with figures from a script that is no part of this.
-ghost use Rattle.std.specs.Prelude.{◌≡◌, IfOk, length};
+ghost use Rattle.std.specs.Prelude.{◌≡◌};
 ghost use Rattle.sc_statements.specs.EqStatements.{eq_arity};
 
 mod refusals;
 mod reports;
-mod representations;
 mod seventeen;
-mod traced;
 
 use sc_audit::{AuditError, Job, Mode, Report, Strategy, Verdict, audit};
 use sc_challenger::{Challenger, Event, ScriptedChallenger};
 use sc_definitions::Event::{Draw, Test, Word};
-use sc_field::{ExtensionField, Field, IntoTranscriptField, NoMemory};
+use sc_field::Field;
 use sc_rounds::SumcheckData;
 use sc_statements::{Constraint, EqStatement, Statements};
 use sc_table::{Point, RoundMessage, VariableOrder};
-use std::alloc::Global;
 use std::process::Abort;
 
 // A point, and the value that is claimed there.
@@ -67,7 +64,7 @@ struct Case {
     events: &'static [Event],
 }
 
-// ---- The bytes of seeds, over a field as its own extension unless another degree is said, and in the basis of values; each digit is a word.
+// ---- The bytes of seeds, over a field as its own extension and in the basis of values; each digit is a word.
 
 // version 1, and the protocol's name behind its length
 const HEAD: &str = "01000000000000001570332d73756d636865636b2d717561647261746963";
@@ -81,13 +78,6 @@ const WITNESS: &str = "0300000000000000010100000000000000010000000000000009726f7
 // a challenge of one part, one value
 const CHALLENGE: &str =
     "020000000000000001000000000000000001000000000000000f726f756e645f6368616c6c656e6765";
-
-// the message and the challenge of an extension of degree 2
-const VALUES_OF_TWO: &str =
-    "010000000000000002010000000000000002000000000000000a726f756e645f706f6c79";
-
-const CHALLENGE_OF_TWO: &str =
-    "020000000000000002000000000000000001000000000000000f726f756e645f6368616c6c656e6765";
 
 // a label of one byte, the basis
 const BASIS: &str = "000000000000000100";
@@ -152,125 +142,116 @@ fn of<F: Field>(number: u64) -> F {
 }
 
 // The elements of these numbers.
-fn elements<F: Field>(alloc: Global, numbers: &[u64]) -> Result<Vec<F>, NoMemory>
-    ensures { IfOk result (λ v. length v.items ≡ length numbers.now) }
-{
-    let elements = numbers.iter().map(|number| of(*number)).collect(alloc)?;
-    Ok(elements)
+fn elements<F: Field, R: Abort + AllocGlobal>(rt: &R, numbers: &[u64]) -> Vec<F> {
+    numbers
+        .iter()
+        .map(|number| of(*number))
+        .collect(rt.alloc())
+        .expect(rt, "elements")
 }
 
 // The statements of these claims. One on another number of variables is left out.
-fn statements<F: Field>(
-    alloc: Global,
+fn statements<F: Field, R: Abort + AllocGlobal>(
+    rt: &R,
     variables: usize,
     claims: &[Claim],
-) -> Result<EqStatement<F>, NoMemory>
-    ensures { IfOk result (λ s. eq_arity s ≡ variables) }
+) -> EqStatement<F>
+    ensures { eq_arity result ≡ variables }
 {
-    let mut statements = EqStatement::initialize(alloc, variables);
+    let mut statements = EqStatement::initialize(rt.alloc(), variables);
     for (coords, value) in claims {
-        let point = Point::new(elements(alloc, *coords)?);
+        let point = Point::new(elements(rt, *coords));
         if point.num_variables() == variables {
-            statements.add_evaluated_constraint(point, of(*value))?;
+            statements
+                .add_evaluated_constraint(point, of(*value))
+                .expect(rt, "a statement");
         }
     }
-    Ok(statements)
+    statements
 }
 
-// The proof of these rounds and witnesses.
-fn proof<F: Field, EF: ExtensionField<F>>(
-    alloc: Global,
-    rounds: &[Pair],
-    witnesses: &[u64],
-) -> Result<SumcheckData<F, EF>, NoMemory> {
-    let messages = rounds
+// The messages of these rounds.
+fn messages<F: Field, R: Abort + AllocGlobal>(rt: &R, rounds: &[Pair]) -> Vec<RoundMessage<F>> {
+    rounds
         .iter()
         .map(|pair| RoundMessage {
             c_a: of(pair.0),
             c_inf: of(pair.1),
         })
-        .collect(alloc)?;
-    Ok(SumcheckData {
-        polynomial_evaluations: messages,
-        pow_witnesses: elements(alloc, witnesses)?,
-    })
+        .collect(rt.alloc())
+        .expect(rt, "messages")
 }
 
 // A case's mode.
-fn mode<F: Field, EF: ExtensionField<F>>(
-    alloc: Global,
-    task: Task,
-) -> Result<Mode<F, EF>, NoMemory> {
+fn mode<F: Field, R: Abort + AllocGlobal>(rt: &R, task: Task) -> Mode<F, F> {
     match task {
-        Task::Build(strategy) => Ok(Mode::Build(strategy)),
-        Task::CheckNone => Ok(Mode::Check(None)),
-        Task::Check(rounds, witnesses) => Ok(Mode::Check(Some(proof(alloc, rounds, witnesses)?))),
+        Task::Build(strategy) => Mode::Build(strategy),
+        Task::CheckNone => Mode::Check(None),
+        Task::Check(rounds, witnesses) => Mode::Check(Some(SumcheckData {
+            polynomial_evaluations: messages(rt, rounds),
+            pow_witnesses: elements(rt, witnesses),
+        })),
     }
 }
 
 // A case's table.
-fn table<F: Field>(alloc: Global, case: &Case) -> Result<Vec<F>, NoMemory> {
-    let mut table: Vec<F> = elements(alloc, case.table)?;
+fn table<F: Field, R: Abort + AllocGlobal>(rt: &R, case: &Case) -> Vec<F> {
+    let mut table: Vec<F> = elements(rt, case.table);
     if table.len() < case.rows {
-        table.resize(case.rows, F::ZERO)?;
+        table.resize(case.rows, F::ZERO).expect(rt, "a table");
     }
-    Ok(table)
+    table
 }
 
 // A case's statements.
-fn constraint<F: Field, EF: ExtensionField<F>>(
-    alloc: Global,
-    case: &Case,
-) -> Result<Constraint<F, EF>, NoMemory> {
-    let first = statements(alloc, case.variables, case.claims)?;
-    let second = statements(alloc, case.variables, case.further)?;
-    let groups = vec![in alloc; Statements::Eq(first), Statements::Eq(second)]?;
-    Ok(Constraint::new(of(case.batching), case.variables, groups))
+fn constraint<F: Field, R: Abort + AllocGlobal>(rt: &R, case: &Case) -> Constraint<F, F> {
+    let groups = vec![in rt.alloc();
+        Statements::Eq(statements(rt, case.variables, case.claims)),
+        Statements::Eq(statements(rt, case.variables, case.further)),
+    ]
+    .expect(rt, "groups");
+    Constraint::new(of(case.batching), case.variables, groups)
 }
 
 // A case's job.
-fn job<F: Field, EF: ExtensionField<F>>(
-    alloc: Global,
-    case: &Case,
-) -> Result<Job<F, EF>, NoMemory> {
-    Ok(Job {
-        table: table(alloc, case)?,
-        constraint: constraint(alloc, case)?,
+fn job<F: Field, R: Abort + AllocGlobal>(rt: &R, case: &Case) -> Job<F, F> {
+    Job {
+        table: table(rt, case),
+        constraint: constraint(rt, case),
         order: case.order,
         pow_bits: case.pow_bits,
-        mode: mode(alloc, case.task)?,
-    })
+        mode: mode(rt, case.task),
+    }
 }
 
 // Observes and draws as a history without a test says.
-fn play<F: Field>(challenger: &mut ScriptedChallenger<F>, past: &[Event]) -> Result<(), NoMemory> {
+fn play<F: Field, A: Abort>(rt: &A, challenger: &mut ScriptedChallenger<F>, past: &[Event]) {
     for event in past {
         match event {
-            Word(number) => challenger.observe(of(*number))?,
+            Word(number) => challenger.observe(of(*number)).expect(rt, "a word"),
             Draw => {
-                challenger.sample()?;
+                challenger.sample().expect(rt, "a draw");
             }
             Test(_) => {}
         }
     }
-    Ok(())
 }
 
 // Lists of the elements of these numbers.
-fn lists<F: Field>(alloc: Global, numbers: &[&[u64]]) -> Result<Vec<Vec<F>>, NoMemory> {
-    let mut lists = Vec::new(alloc);
+fn lists<F: Field, R: Abort + AllocGlobal>(rt: &R, numbers: &[&[u64]]) -> Vec<Vec<F>> {
+    let mut lists = Vec::new(rt.alloc());
     for list in numbers {
-        lists.push(elements(alloc, *list)?)?;
+        lists.push(elements(rt, *list)).expect(rt, "a list");
     }
-    Ok(lists)
+    lists
 }
 
 // A case's challenger.
-fn challenger<F: Field>(alloc: Global, case: &Case) -> Result<ScriptedChallenger<F>, NoMemory> {
-    let good = lists(alloc, case.good)?;
-    let mut challenger = ScriptedChallenger::new(alloc, elements(alloc, case.draws)?, good);
-    play(&mut challenger, case.past)?;
-    Ok(challenger)
+fn challenger<F: Field, R: Abort + AllocGlobal>(rt: &R, case: &Case) -> ScriptedChallenger<F> {
+    let (draws, good) = (elements(rt, case.draws), lists(rt, case.good));
+    let mut challenger = ScriptedChallenger::new(rt.alloc(), draws, good);
+    play(rt, &mut challenger, case.past);
+    challenger
 }
 
 // Whether elements have these numbers.
@@ -289,39 +270,6 @@ fn are_pairs<F: Field>(messages: &[RoundMessage<F>], pairs: &[Pair]) -> bool {
             && message.c_inf.index() == pair.1)
 }
 
-// The first figure of a report that is not as wanted, if there is one.
-fn wrong_figure<F: Field, EF: ExtensionField<F>>(
-    report: &Report<F, EF>,
-    wanted: &Figures,
-) -> Option<&'static str> {
-    let parts = [
-        ("claim", report.claim.index() == wanted.claim),
-        (
-            "rounds",
-            are_pairs(report.rounds.polynomial_evaluations(), wanted.rounds),
-        ),
-        (
-            "witnesses",
-            have_numbers(&report.rounds.pow_witnesses, wanted.witnesses),
-        ),
-        (
-            "challenges",
-            have_numbers(report.challenges.as_slice(), wanted.challenges),
-        ),
-        ("residual", report.residual.index() == wanted.residual),
-        ("eval", report.eval.index() == wanted.eval),
-        ("weight", report.weight.index() == wanted.weight),
-        ("grids", report.grids.rounds.len() == 0),
-        ("verdict", is_verdict(&report.verdict, wanted.holds)),
-    ];
-    for (name, is_right) in parts {
-        if !is_right {
-            return Some(name);
-        }
-    }
-    None
-}
-
 // Whether a verdict is that the statements hold, or else that the rounds are refused.
 fn is_verdict<F>(verdict: &Verdict<F>, holds: bool) -> bool {
     match verdict {
@@ -331,108 +279,86 @@ fn is_verdict<F>(verdict: &Verdict<F>, holds: bool) -> bool {
     }
 }
 
-// The first part of an answer that is not as wanted, if there is one.
-fn wrong_part<F: Field, EF: ExtensionField<F>>(
-    answer: &Result<Report<F, EF>, AuditError>,
-    wanted: &Result<Figures, AuditError>,
-) -> Option<&'static str> {
-    match (answer, wanted) {
-        (Ok(report), Ok(figures)) => wrong_figure(report, figures),
-        (Err(error), Err(refusal)) => {
-            if error == refusal {
-                None
-            } else {
-                Some("refusal")
-            }
-        }
-        (Ok(_), Err(_)) => Some("report"),
-        (Err(_), Ok(_)) => Some("no report"),
-    }
+// Asserts that a report has these figures.
+fn assert_figures<F: Field, A: Abort>(rt: &A, report: &Report<F, F>, wanted: &Figures, name: &str) {
+    let values = (
+        report.claim.index(),
+        report.residual.index(),
+        report.eval.index(),
+        report.weight.index(),
+        report.grids.rounds.len(),
+    );
+    let figures = (wanted.claim, wanted.residual, wanted.eval, wanted.weight, 0);
+    assert_eq!(rt;
+        values,
+        figures,
+        "{name}: claim, residual, eval, weight, grids"
+    );
+    let are_lists = (
+        are_pairs(report.rounds.polynomial_evaluations(), wanted.rounds),
+        have_numbers(&report.rounds.pow_witnesses, wanted.witnesses),
+        have_numbers(report.challenges.as_slice(), wanted.challenges),
+        is_verdict(&report.verdict, wanted.holds),
+    );
+    assert_eq!(rt;
+        are_lists,
+        (true, true, true, true),
+        "{name}: rounds, witnesses, challenges, verdict"
+    );
 }
 
-// The first part of an audit's answer that is not as a case says, if there is one.
-fn wrong_answer<F: Field, EF: ExtensionField<F>, R: IntoTranscriptField<EF>>(
-    alloc: Global,
+// Asserts that an answer is a case's.
+fn assert_answer<F: Field, A: Abort>(
+    rt: &A,
+    answer: &Result<Report<F, F>, AuditError>,
     case: &Case,
-    job: &Job<F, EF>,
-    challenger: &mut ScriptedChallenger<F>,
-) -> Option<&'static str> {
-    let answer = audit::<F, EF, R, ScriptedChallenger<F>>(alloc, job, challenger);
-    wrong_part(&answer, &case.answer)
+) {
+    let name = case.name;
+    match (answer, &case.answer) {
+        (Ok(report), Ok(figures)) => assert_figures(rt, report, figures, name),
+        (Err(error), Err(refusal)) => assert_eq!(rt; error, refusal, "{name}"),
+        (Ok(_), Err(_)) => panic!(rt; "{name}: a report"),
+        (Err(error), Ok(_)) => panic!(rt; "{name}: {error}"),
+    }
 }
 
 // Appends a word for each hexadecimal digit.
-fn push_digits(events: &mut Vec<Event>, digits: &str) -> Result<(), NoMemory> {
+fn push_digits<A: Abort>(rt: &A, events: &mut Vec<Event>, digits: &str) {
     for digit in digits.chars() {
-        events.push(Word(digit.to_digit(16).unwrap_or(16) as u64))?;
+        let word = Word(digit.to_digit(16).unwrap_or(16) as u64);
+        events.push(word).expect(rt, "a word");
     }
-    Ok(())
 }
 
-// The history that a case ends with.
-fn history(alloc: Global, case: &Case) -> Result<Vec<Event>, NoMemory> {
-    let mut events = Vec::from_slice(alloc, case.past)?;
+// Asserts that these events are the history that a case ends with.
+fn assert_history<R: Abort + AllocGlobal>(rt: &R, events: &[Event], case: &Case) {
+    let mut wanted = Vec::from_slice(rt.alloc(), case.past).expect(rt, "a history");
     for digits in case.seed {
-        push_digits(&mut events, *digits)?;
+        push_digits(rt, &mut wanted, *digits);
     }
     for event in case.events {
-        events.push(*event)?;
+        wanted.push(*event).expect(rt, "an event");
     }
-    Ok(events)
+    let name = case.name;
+    assert!(rt; events == wanted.as_slice(), "{name}: history");
 }
 
-// What is wrong with these events if a case does not end with them.
-fn wrong_history(
-    alloc: Global,
+// Asserts that a job is answered as a case says, and the history that it leaves.
+fn assert_audit<F: Field, R: Abort + AllocGlobal>(
+    rt: &R,
     case: &Case,
-    events: &[Event],
-) -> Result<Option<&'static str>, NoMemory> {
-    let wanted = history(alloc, case)?;
-    if events == wanted.as_slice() {
-        Ok(None)
-    } else {
-        Ok(Some("history"))
-    }
+    job: &Job<F, F>,
+    challenger: ScriptedChallenger<F>,
+) {
+    let mut challenger = challenger;
+    let answer = audit::<F, F, F, ScriptedChallenger<F>>(rt.alloc(), job, &mut challenger);
+    assert_answer(rt, &answer, case);
+    assert_history(rt, challenger.events(), case);
 }
 
-// The first part of an audit's answer and of the history that it leaves that is not as a case says, if there is one.
-fn wrong_in<F: Field, EF: ExtensionField<F>, R: IntoTranscriptField<EF>>(
-    alloc: Global,
-    case: &Case,
-    job: &Job<F, EF>,
-    challenger: &mut ScriptedChallenger<F>,
-) -> Result<Option<&'static str>, NoMemory> {
-    match wrong_answer::<F, EF, R>(alloc, case, job, challenger) {
-        Some(part) => Ok(Some(part)),
-        None => wrong_history(alloc, case, challenger.events()),
-    }
-}
-
-// The same of the case's own job and challenger.
-fn wrong_at<F: Field, EF: ExtensionField<F>, R: IntoTranscriptField<EF>>(
-    alloc: Global,
-    case: &Case,
-) -> Result<Option<&'static str>, NoMemory> {
-    let mut challenger = challenger::<F>(alloc, case)?;
-    let job = job::<F, EF>(alloc, case)?;
-    wrong_in::<F, EF, R>(alloc, case, &job, &mut challenger)
-}
-
-// Asserts that each of these cases is answered as it says.
-fn assert_over<F: Field, EF: ExtensionField<F>, R: IntoTranscriptField<EF>, A: Abort>(
-    rt: &A,
-    alloc: Global,
-    cases: &[Case],
-) -> Result<(), NoMemory> {
+// Asserts the same of each case's own job and challenger.
+fn assert_all<F: Field, R: Abort + AllocGlobal>(rt: &R, cases: &[Case]) {
     for case in cases {
-        let name = case.name;
-        let wrong = wrong_at::<F, EF, R>(alloc, case)?;
-        assert_eq!(rt; wrong, None, "{name}");
+        assert_audit::<F, R>(rt, case, &job(rt, case), challenger(rt, case));
     }
-    Ok(())
-}
-
-// The same over a field as its own extension and representation.
-fn assert_all<F: Field, A: Abort>(rt: &A, alloc: Global, cases: &[Case]) -> Result<(), NoMemory> {
-    assert_over::<F, F, F, A>(rt, alloc, cases)
 }

@@ -1,19 +1,18 @@
-//! Figures by hand over the integers modulo 65537.
+//! Equality statements, and their batches: figures by hand over the integers modulo 65537.
 
-ghost use Rattle.std.specs.Prelude.{◌≡◌, ◌^◌, ◌↔◌, [], length, map, IsTrue, IfOk};
+ghost use Rattle.std.specs.Prelude.{◌≡◌, ◌^◌, ◌↔◌, length, map, IsTrue};
 ghost use Rattle.sc_definitions.specs.Statements.{AllTrueOf, powers_sum};
 ghost use Rattle.sc_table.specs.Polys.{variables_of, table_of};
 ghost use Rattle.sc_statements.specs.EqStatements.{eq_arity, eq_statements};
 ghost use Rattle.sc_statements.specs.Weights.{weight_values};
-ghost use Rattle.sc_statements.specs.Constraints.{constraint_arity};
 
-mod kinds;
+mod batches;
 
-use sc_definitions::FalseClaim;
 use sc_field::{F65537, Field, NoMemory};
-use sc_statements::{Constraint, EqStatement, Statements};
+use sc_statements::EqStatement;
 use sc_table::{Point, Poly};
 use std::alloc::Global;
+use std::process::Abort;
 
 // The element of this number.
 pub(crate) fn of(number: u64) -> F65537 {
@@ -21,11 +20,14 @@ pub(crate) fn of(number: u64) -> F65537 {
 }
 
 // The elements of these numbers.
-pub(crate) fn elements(alloc: Global, numbers: &[u64]) -> Result<Vec<F65537>, NoMemory>
-    ensures { IfOk result (λ v. length v.items ≡ length numbers.now) }
+fn elements<R: Abort + AllocGlobal>(rt: &R, numbers: &[u64]) -> Vec<F65537>
+    ensures { length result.items ≡ length numbers.now }
 {
-    let elements = numbers.iter().map(|number| of(*number)).collect(alloc)?;
-    Ok(elements)
+    numbers
+        .iter()
+        .map(|number| of(*number))
+        .collect(rt.alloc())
+        .expect(rt, "elements")
 }
 
 pub(crate) fn have_numbers(elements: &[F65537], numbers: &[u64]) -> bool {
@@ -37,42 +39,41 @@ pub(crate) fn have_numbers(elements: &[F65537], numbers: &[u64]) -> bool {
 }
 
 // The point of these numbers.
-pub(crate) fn point(alloc: Global, numbers: &[u64]) -> Result<Point<F65537>, NoMemory>
-    ensures { IfOk result (λ p. length p ≡ length numbers.now) }
+fn point<R: Abort + AllocGlobal>(rt: &R, numbers: &[u64]) -> Point<F65537>
+    ensures { length result ≡ length numbers.now }
 {
-    Ok(Point::new(elements(alloc, numbers)?))
+    Point::new(elements(rt, numbers))
 }
 
 // The table of these values, as many as 2^n.
-pub(crate) fn table(alloc: Global, n: usize, values: &[u64]) -> Result<Poly<F65537>, NoMemory>
+pub(crate) fn table<R: Abort + AllocGlobal>(rt: &R, n: usize, values: &[u64]) -> Poly<F65537>
     requires { length values.now ≡ 2 ^ n }
-    ensures { IfOk result (λ p. variables_of p ≡ n) }
+    ensures { variables_of result ≡ n }
 {
-    Ok(Poly::new(elements(alloc, values)?))
+    Poly::new(elements(rt, values))
 }
 
-// The statement of one value at a point.
-fn claim(alloc: Global, coords: &[u64], value: u64) -> Result<EqStatement<F65537>, NoMemory>
-    ensures { IfOk result (λ s. eq_arity s ≡ length coords.now) }
+// The table 1, 2, 3, 4.
+fn four<R: Abort + AllocGlobal>(rt: &R) -> Poly<F65537>
+    ensures { variables_of result ≡ 2 }
 {
-    let mut statement = EqStatement::initialize(alloc, coords.len());
-    statement.add_evaluated_constraint(point(alloc, coords)?, of(value))?;
-    Ok(statement)
+    table(rt, 2, &[1, 2, 3, 4])
 }
 
-// The statement of two values at points of two coordinates.
-fn claims(
-    alloc: Global,
-    first: &[u64; 2],
-    value: u64,
-    second: &[u64; 2],
-    next: u64,
-) -> Result<EqStatement<F65537>, NoMemory>
-    ensures { IfOk result (λ s. eq_arity s ≡ 2) }
+// The statements of these values at points.
+pub(crate) fn claims<const N: usize, R: Abort + AllocGlobal>(
+    rt: &R,
+    claims: &[([u64; N], u64)],
+) -> EqStatement<F65537>
+    ensures { eq_arity result ≡ N }
 {
-    let mut statement = claim(alloc, first, value)?;
-    statement.add_evaluated_constraint(point(alloc, second)?, of(next))?;
-    Ok(statement)
+    let mut statement = EqStatement::initialize(rt.alloc(), N);
+    for (coords, value) in claims {
+        statement
+            .add_evaluated_constraint(point(rt, coords), of(*value))
+            .expect(rt, "a statement");
+    }
+    statement
 }
 
 // That each statement is true, by the points and values that the iterator gives.
@@ -104,255 +105,237 @@ fn batched_at<EF: Field>(statement: &EqStatement<EF>, row: &Point<EF>, challenge
     sum
 }
 
+// Asserts how many statements there are, on how many variables, whether there is none, and by either way whether all are true.
+fn assert_told<A: Abort>(
+    rt: &A,
+    statement: &EqStatement<F65537>,
+    table: &Poly<F65537>,
+    told: (usize, usize, bool),
+    hold: bool,
+)
+    requires { variables_of table.now ≡ eq_arity statement.now }
+{
+    assert_eq!(rt;
+        (
+            statement.len(),
+            statement.num_variables(),
+            statement.is_empty()
+        ),
+        told
+    );
+    assert_eq!(rt;
+        (statement.verify(table), all_true(statement, table)),
+        (hold, hold)
+    );
+}
+
+// Asserts that the claimed values and the true ones are these.
+fn assert_values<A: Abort>(
+    rt: &A,
+    statement: &EqStatement<F65537>,
+    table: &Poly<F65537>,
+    values: &[(u64, u64)],
+)
+    requires { variables_of table.now ≡ eq_arity statement.now }
+{
+    assert_eq!(rt; statement.len(), values.len());
+    for (i, value) in values.iter().enumerate() {
+        let actual: F65537 = statement.true_value(i, table);
+        assert_eq!(rt;
+            (statement.claimed_value(i).index(), actual.index()),
+            *value
+        );
+    }
+}
+
+// Asserts that the weights at each of these rows are these, and that their batch under the challenge 2 is this.
+fn assert_weights<R: Abort + AllocGlobal>(
+    rt: &R,
+    statement: &EqStatement<F65537>,
+    rows: &[([u64; 2], &[u64], u64)],
+)
+    requires { eq_arity statement.now ≡ 2 }
+{
+    for (coords, weights, batch) in rows {
+        let row = point(rt, coords);
+        let at: Vec<F65537> = statement
+            .weights_at(&row)
+            .collect(rt.alloc())
+            .expect(rt, "weights");
+        assert!(rt; have_numbers(&at, *weights));
+        assert_eq!(rt; batched_at(statement, &row, of(2)).index(), *batch);
+    }
+}
+
+// Claims of the table 1, 2, 3, 4, of which the second is true or not.
+static RIGHT: [([u64; 2], u64); 2] = [([0, 1], 2), ([2, 3], 8)];
+
+static WRONG: [([u64; 2], u64); 2] = [([0, 1], 2), ([2, 3], 9)];
+
+// One claim, and two that are put behind it.
+static FIRST: [([u64; 2], u64); 1] = [([0, 1], 2)];
+
+static FURTHER: [([u64; 2], u64); 2] = [([2, 3], 8), ([1, 1], 4)];
+
 #[test]
 fn true_statements_are_told(rt: HostRuntime) {
-    let table = table(rt.alloc(), 2, &[1, 2, 3, 4]).expect(&rt, "a table");
-    let right = claims(rt.alloc(), &[0, 1], 2, &[2, 3], 8).expect(&rt, "statements");
-    assert_eq!(rt; (right.num_variables(), right.is_empty()), (2, false));
-    assert_eq!(rt;
-        (right.verify(&table), all_true(&right, &table)),
-        (true, true)
-    );
+    assert_told(&rt, &claims(&rt, &RIGHT), &four(&rt), (2, 2, false), true);
 }
 
 #[test]
 fn false_statements_are_told(rt: HostRuntime) {
-    let table = table(rt.alloc(), 2, &[1, 2, 3, 4]).expect(&rt, "a table");
-    let wrong = claims(rt.alloc(), &[0, 1], 2, &[2, 3], 9).expect(&rt, "statements");
-    assert_eq!(rt; wrong.num_variables(), 2);
-    assert_eq!(rt;
-        (wrong.verify(&table), all_true(&wrong, &table)),
-        (false, false)
-    );
+    let (wrong, table) = (claims(&rt, &WRONG), four(&rt));
+    assert_told(&rt, &wrong, &table, (2, 2, false), false);
+    assert_values(&rt, &wrong, &table, &[(2, 2), (9, 8)]);
 }
+
+// Rows, and the weights of the two claims there.
+static WEIGHTS: [([u64; 2], &[u64], u64); 2] = [
+    ([0, 1], &[1, 65534], 65532),
+    ([3, 4], &[65529, 144], 280),
+];
 
 #[test]
-fn values_are_claimed_and_true(rt: HostRuntime) {
-    let table = table(rt.alloc(), 2, &[1, 2, 3, 4]).expect(&rt, "a table");
-    let wrong = claims(rt.alloc(), &[0, 1], 2, &[2, 3], 9).expect(&rt, "statements");
-    assert_eq!(rt; (wrong.len(), wrong.num_variables()), (2, 2));
-    let claimed = (
-        wrong.claimed_value(0).index(),
-        wrong.claimed_value(1).index(),
-    );
-    let first: F65537 = wrong.true_value(0, &table);
-    let second: F65537 = wrong.true_value(1, &table);
-    assert_eq!(rt; (claimed, first.index(), second.index()), ((2, 9), 2, 8));
+fn weights_at_rows_and_elsewhere(rt: HostRuntime) {
+    assert_weights(&rt, &claims(&rt, &RIGHT), &WEIGHTS);
 }
 
-#[test]
-fn weights_at_a_row_are_the_entries(rt: HostRuntime) {
-    let statement = claims(rt.alloc(), &[0, 1], 2, &[2, 3], 8).expect(&rt, "statements");
-    assert_eq!(rt; statement.num_variables(), 2);
-    let row = point(rt.alloc(), &[0, 1]).expect(&rt, "a point");
-    let weights: Vec<F65537> = statement
-        .weights_at(&row)
-        .collect(rt.alloc())
-        .expect(&rt, "weights");
-    assert!(rt; have_numbers(&weights, &[1, 65534]));
-}
-
-#[test]
-fn weights_at_another_point(rt: HostRuntime) {
-    let statement = claims(rt.alloc(), &[0, 1], 2, &[2, 3], 8).expect(&rt, "statements");
-    assert_eq!(rt; statement.num_variables(), 2);
-    let elsewhere = point(rt.alloc(), &[3, 4]).expect(&rt, "a point");
-    let weights: Vec<F65537> = statement
-        .weights_at(&elsewhere)
-        .collect(rt.alloc())
-        .expect(&rt, "weights");
-    assert!(rt; have_numbers(&weights, &[65529, 144]));
-    assert_eq!(rt; batched_at(&statement, &elsewhere, of(2)).index(), 280);
-}
-
-// A statement, and two put behind it.
-fn concatenated(alloc: Global) -> Result<EqStatement<F65537>, NoMemory>
-    ensures { IfOk result (λ s. eq_arity s ≡ 2) }
-{
-    let mut statement = claim(alloc, &[0, 1], 2)?;
-    let more = claims(alloc, &[2, 3], 8, &[1, 1], 4)?;
-    statement.concatenate(&more)?;
-    Ok(statement)
-}
+// A row, and the weights of the three claims there.
+static THREE_WEIGHTS: [([u64; 2], &[u64], u64); 1] = [([0, 1], &[1, 65534, 0], 65532)];
 
 #[test]
 fn statements_are_put_behind_others(rt: HostRuntime) {
-    let statement = concatenated(rt.alloc()).expect(&rt, "statements");
-    assert_eq!(rt; (statement.len(), statement.num_variables()), (3, 2));
-    let claimed = [
-        statement.claimed_value(0),
-        statement.claimed_value(1),
-        statement.claimed_value(2),
-    ];
-    assert!(rt; have_numbers(&claimed, &[2, 8, 4]));
-    let table = table(rt.alloc(), 2, &[1, 2, 3, 4]).expect(&rt, "a table");
-    assert!(rt; statement.verify(&table));
+    let mut statement = claims(&rt, &FIRST);
+    assert_eq!(rt; statement.concatenate(&claims(&rt, &FURTHER)), Ok(()));
+    let table = four(&rt);
+    assert_told(&rt, &statement, &table, (3, 2, false), true);
+    assert_values(&rt, &statement, &table, &[(2, 2), (8, 8), (4, 4)]);
+    assert_weights(&rt, &statement, &THREE_WEIGHTS);
 }
 
-#[test]
-fn weights_are_put_behind_others(rt: HostRuntime) {
-    let statement = concatenated(rt.alloc()).expect(&rt, "statements");
-    let row = point(rt.alloc(), &[0, 1]).expect(&rt, "a point");
-    let weights: Vec<F65537> = statement
-        .weights_at(&row)
-        .collect(rt.alloc())
-        .expect(&rt, "weights");
-    assert!(rt; have_numbers(&weights, &[1, 65534, 0]));
-}
+static SUMMED: [([u64; 2], u64); 2] = [([0, 1], 3), ([2, 3], 5)];
 
 #[test]
 fn claims_are_summed_from_the_shift_on(rt: HostRuntime) {
-    let statement = claims(rt.alloc(), &[0, 1], 3, &[2, 3], 5).expect(&rt, "an answer");
     let mut sum = F65537::ZERO;
-    statement.combine_evals(&mut sum, of(2), 1);
+    claims(&rt, &SUMMED).combine_evals(&mut sum, of(2), 1);
     assert_eq!(rt; sum.index(), 26);
 }
 
+// Statements that are taken into weights and a sum, and what these are then.
+struct Step {
+    // Whether the weights are added to those that are there.
+    adds: bool,
+    challenge: u64,
+    shift: usize,
+    sum: u64,
+    weights: &'static [u64],
+}
+
+fn take(
+    alloc: Global,
+    statement: &EqStatement<F65537>,
+    weights: &mut Poly<F65537>,
+    sum: &mut F65537,
+    step: &Step,
+) -> Result<(), NoMemory>
+    requires { variables_of weights.old ≡ eq_arity statement.now }
+    ensures { variables_of weights.new ≡ variables_of weights.old }
+{
+    let challenge = of(step.challenge);
+    if step.adds {
+        statement.combine_hypercube::<F65537, true>(alloc, weights, sum, challenge, step.shift)
+    } else {
+        statement.combine_hypercube::<F65537, false>(alloc, weights, sum, challenge, step.shift)
+    }
+}
+
+// Asserts that each step gives its sum and its weights; the answer is the sum behind the last.
+fn sum_of_steps<R: Abort + AllocGlobal>(
+    rt: &R,
+    statement: &EqStatement<F65537>,
+    table: Poly<F65537>,
+    sum: u64,
+    steps: &[Step],
+) -> F65537
+    requires { variables_of table ≡ eq_arity statement.now }
+{
+    let mut weights = table;
+    let mut sum = of(sum);
+    for step in steps {
+        let taken = take(rt.alloc(), statement, &mut weights, &mut sum, step);
+        assert_eq!(rt; (taken, sum.index()), (Ok(()), step.sum));
+        assert!(rt; have_numbers(weights.as_slice(), step.weights));
+    }
+    sum
+}
+
+static TURNED: [([u64; 2], u64); 2] = [([2, 3], 8), ([0, 1], 2)];
+
+static WRITTEN_AND_ADDED: [Step; 2] = [
+    Step {
+        adds: false,
+        challenge: 2,
+        shift: 1,
+        sum: 124,
+        weights: &[4, 65535, 65529, 12],
+    },
+    Step {
+        adds: true,
+        challenge: 2,
+        shift: 0,
+        sum: 136,
+        weights: &[6, 65534, 65525, 18],
+    },
+];
+
 #[test]
 fn weights_are_written_or_added(rt: HostRuntime) {
-    let statement = claims(rt.alloc(), &[2, 3], 8, &[0, 1], 2).expect(&rt, "statements");
-    let mut weights = table(rt.alloc(), 2, &[9, 8, 7, 6]).expect(&rt, "a table");
-    let mut sum = of(100);
-    assert_eq!(rt; statement.num_variables(), 2);
-    let written = statement.combine_hypercube::<F65537, false>(
-        rt.alloc(),
-        &mut weights,
-        &mut sum,
-        of(2),
-        1,
-    );
-    assert_eq!(rt; (written, sum.index()), (Ok(()), 124));
-    assert!(rt; have_numbers(weights.as_slice(), &[4, 65535, 65529, 12]));
-    let added = statement.combine_hypercube::<F65537, true>(
-        rt.alloc(),
-        &mut weights,
-        &mut sum,
-        of(2),
-        0,
-    );
-    assert_eq!(rt; (added, sum.index()), (Ok(()), 136));
-    assert!(rt; have_numbers(weights.as_slice(), &[6, 65534, 65525, 18]));
+    let table = table(&rt, 2, &[9, 8, 7, 6]);
+    sum_of_steps(&rt, &claims(&rt, &TURNED), table, 100, &WRITTEN_AND_ADDED);
 }
+
+static NONE: [([u64; 1], u64); 0] = [];
+
+static NOTHING: [Step; 2] = [
+    Step {
+        adds: true,
+        challenge: 9,
+        shift: 0,
+        sum: 5,
+        weights: &[3, 4],
+    },
+    Step {
+        adds: false,
+        challenge: 9,
+        shift: 0,
+        sum: 5,
+        weights: &[3, 4],
+    },
+];
 
 #[test]
 fn no_statement_changes_nothing(rt: HostRuntime) {
-    let statement = EqStatement::initialize(rt.alloc(), 1);
-    let mut weights = table(rt.alloc(), 1, &[3, 4]).expect(&rt, "a table");
-    let mut sum = of(5);
-    assert_eq!(rt;
-        (statement.is_empty(), statement.verify(&weights)),
-        (true, true)
-    );
-    let added = statement.combine_hypercube::<F65537, true>(
-        rt.alloc(),
-        &mut weights,
-        &mut sum,
-        of(9),
-        0,
-    );
-    let written = statement.combine_hypercube::<F65537, false>(
-        rt.alloc(),
-        &mut weights,
-        &mut sum,
-        of(9),
-        0,
-    );
-    statement.combine_evals(&mut sum, of(9), 0);
-    assert_eq!(rt; (added, written, sum.index()), (Ok(()), Ok(()), 5));
-    assert!(rt; have_numbers(weights.as_slice(), &[3, 4]));
+    let (none, table) = (claims(&rt, &NONE), table(&rt, 1, &[3, 4]));
+    assert_told(&rt, &none, &table, (0, 1, true), true);
+    let mut sum = sum_of_steps(&rt, &none, table, 5, &NOTHING);
+    none.combine_evals(&mut sum, of(9), 0);
+    assert_eq!(rt; sum.index(), 5);
 }
+
+static POINT: [([u64; 0], u64); 1] = [([], 7)];
+
+static ONE_ROW: [Step; 1] = [Step {
+    adds: false,
+    challenge: 5,
+    shift: 1,
+    sum: 36,
+    weights: &[5],
+}];
 
 #[test]
 fn no_variable_is_one_row(rt: HostRuntime) {
-    let statement = claim(rt.alloc(), &[], 7).expect(&rt, "an answer");
-    let mut weights = table(rt.alloc(), 0, &[7]).expect(&rt, "an answer");
-    assert!(rt; statement.verify(&weights));
-    let mut sum = of(1);
-    statement
-        .combine_hypercube::<F65537, false>(rt.alloc(), &mut weights, &mut sum, of(5), 1)
-        .expect(&rt, "an answer");
-    assert!(rt; have_numbers(weights.as_slice(), &[5]));
-    assert_eq!(rt; sum.index(), 36);
-}
-
-// The values 4 at (0), 1 at (1) and 2 at (5), in a group of one and a group of two, under the challenge 3.
-fn three_claims(alloc: Global) -> Result<Constraint<F65537, F65537>, NoMemory>
-    ensures { IfOk result (λ c. constraint_arity c ≡ 1) }
-{
-    let first = claim(alloc, &[0], 4)?;
-    let mut second = claim(alloc, &[1], 1)?;
-    second.add_evaluated_constraint(point(alloc, &[5])?, of(2))?;
-    let groups = vec![in alloc; Statements::Eq(first), Statements::Eq(second)]?;
-    Ok(Constraint::new(of(3), 1, groups))
-}
-
-#[test]
-fn powers_go_on_over_groups(rt: HostRuntime) {
-    let constraint = three_claims(rt.alloc()).expect(&rt, "claims");
-    let mut weights = table(rt.alloc(), 1, &[10, 20]).expect(&rt, "a table");
-    let mut sum = of(100);
-    let combined = constraint.combine(rt.alloc(), &mut weights, &mut sum);
-    assert_eq!(rt; (combined, sum.index()), (Ok(()), 125));
-    assert!(rt; have_numbers(weights.as_slice(), &[65512, 68]));
-    constraint.combine_evals(&mut sum);
-    assert_eq!(rt; sum.index(), 150);
-}
-
-#[test]
-fn a_batch_is_made_anew(rt: HostRuntime) {
-    let constraint = three_claims(rt.alloc()).expect(&rt, "claims");
-    let (weights, claim) = constraint.combine_new(rt.alloc()).expect(&rt, "a batch");
-    assert_eq!(rt; claim.index(), 25);
-    assert!(rt; have_numbers(weights.as_slice(), &[65502, 48]));
-}
-
-#[test]
-fn powers_of_the_challenge(rt: HostRuntime) {
-    let constraint = three_claims(rt.alloc()).expect(&rt, "claims");
-    let powers: Vec<F65537> = constraint
-        .challenge_powers(1)
-        .take(3)
-        .collect(rt.alloc())
-        .expect(&rt, "powers");
-    assert!(rt; have_numbers(&powers, &[3, 9, 27]));
-}
-
-#[test]
-fn groups_are_kept_in_order(rt: HostRuntime) {
-    let constraint = three_claims(rt.alloc()).expect(&rt, "an answer");
-    assert_eq!(rt; constraint.num_variables(), 1);
-    assert_eq!(rt; constraint.initial_power(), 0);
-    assert_eq!(rt; constraint.challenge().index(), 3);
-    let groups = constraint.statements();
-    assert_eq!(rt; groups.len(), 2);
-    assert_eq!(rt; (groups[0].len(), groups[1].len()), (1, 2));
-    assert_eq!(rt; groups[1].num_variables(), 1);
-    assert!(rt; !groups[1].is_empty());
-}
-
-#[test]
-fn false_statements_are_numbered_over_groups(rt: HostRuntime) {
-    let constraint = three_claims(rt.alloc()).expect(&rt, "an answer");
-    let last = constraint.first_false(&table(rt.alloc(), 1, &[4, 1]).expect(&rt, "an answer"));
-    let third = FalseClaim {
-        statement: 2,
-        claimed: 2,
-        actual: 65526,
-    };
-    assert_eq!(rt; last, Some(third));
-    let middle = constraint.first_false(&table(rt.alloc(), 1, &[4, 2]).expect(&rt, "an answer"));
-    let second = FalseClaim {
-        statement: 1,
-        claimed: 1,
-        actual: 2,
-    };
-    assert_eq!(rt; middle, Some(second));
-    let groups = vec![in rt.alloc();
-        Statements::Eq(claim(rt.alloc(), &[1], 2).expect(&rt, "an answer")),
-    ].expect(&rt, "an answer");
-    let right = Constraint::<F65537, F65537>::new(of(3), 1, groups);
-    assert_eq!(rt;
-        right.first_false(&table(rt.alloc(), 1, &[1, 2]).expect(&rt, "an answer")),
-        None
-    );
+    let (statement, table) = (claims(&rt, &POINT), table(&rt, 0, &[7]));
+    assert_told(&rt, &statement, &table, (1, 0, false), true);
+    sum_of_steps(&rt, &statement, table, 1, &ONE_ROW);
 }

@@ -3,8 +3,7 @@ use super::seventeen::F17;
 use super::{Case, PREFIX, Task, assert_all};
 use sc_audit::{AuditError, Form, ShapeFault, Strategy};
 use sc_definitions::Event::{Draw, Word};
-use sc_field::NoMemory;
-use std::alloc::Global;
+use std::process::Abort;
 
 // Nothing is appended to the history, which has a draw.
 const REFUSED: Case = Case {
@@ -169,8 +168,8 @@ static REFUSALS: [Case; 18] = [
 ];
 
 #[test]
-fn a_refusal_leaves_the_history_as_it_was(rt: HostRuntime) -> Result<(), NoMemory> {
-    assert_all::<F17, HostRuntime>(&rt, rt.alloc(), &REFUSALS)
+fn a_refusal_leaves_the_history_as_it_was(rt: HostRuntime) {
+    assert_all::<F17, HostRuntime>(&rt, &REFUSALS);
 }
 
 // The faults of a shape, each mended in the next row: a name, the table, the difficulty, how many variables the statements are on, and what is told. Of
@@ -263,29 +262,36 @@ fn first(fault: AuditError, shape_fault: Option<ShapeFault>) -> AuditError {
     }
 }
 
-// Each shape with each fault.
-fn of_several_faults(alloc: Global) -> Result<Vec<Case>, NoMemory> {
-    let mut cases = Vec::new(alloc);
-    for (name, table, pow_bits, variables, shape_fault) in &SHAPES {
-        for (task, fault) in &FAULTS {
-            cases.push(Case {
-                name: *name,
-                table: *table,
-                pow_bits: *pow_bits,
-                variables: *variables,
-                task: *task,
-                answer: Err(first(*fault, *shape_fault)),
-                ..FALSE_EITHER_WAY
-            })?;
-        }
+// Asserts the first fault of a shape with each fault.
+fn assert_first<R: Abort + AllocGlobal>(
+    rt: &R,
+    shape: &(
+        &'static str,
+        &'static [u64],
+        usize,
+        usize,
+        Option<ShapeFault>,
+    ),
+) {
+    for (task, fault) in &FAULTS {
+        let case = Case {
+            name: shape.0,
+            table: shape.1,
+            pow_bits: shape.2,
+            variables: shape.3,
+            task: *task,
+            answer: Err(first(*fault, shape.4)),
+            ..FALSE_EITHER_WAY
+        };
+        assert_all::<F17, R>(rt, &[case]);
     }
-    Ok(cases)
 }
 
 #[test]
-fn the_first_fault_is_told(rt: HostRuntime) -> Result<(), NoMemory> {
-    let cases = of_several_faults(rt.alloc())?;
-    assert_all::<F17, HostRuntime>(&rt, rt.alloc(), &cases)
+fn the_first_fault_is_told(rt: HostRuntime) {
+    for shape in &SHAPES {
+        assert_first(&rt, shape);
+    }
 }
 
 // Tables of the greatest length, of the next one and of the next power of two.
@@ -314,6 +320,6 @@ static LONG: [Case; 3] = [
 ];
 
 #[test]
-fn a_table_of_more_than_two_to_the_24_rows_is_refused(rt: HostRuntime) -> Result<(), NoMemory> {
-    assert_all::<F17, HostRuntime>(&rt, rt.alloc(), &LONG)
+fn a_table_of_more_than_two_to_the_24_rows_is_refused(rt: HostRuntime) {
+    assert_all::<F17, HostRuntime>(&rt, &LONG);
 }

@@ -1,15 +1,14 @@
 //! Rounds that are built or checked.
 use super::seventeen::F17;
 use super::{
-    Case, Figures, ONE_ROUND, PREFIX, TWO_TESTED_ROUNDS, Task, assert_all, challenger, job,
-    wrong_in,
+    Case, Figures, ONE_ROUND, PREFIX, TWO_TESTED_ROUNDS, Task, assert_all, assert_audit,
+    challenger, job,
 };
-use sc_audit::{AuditError, Form, Job, Mode, Strategy, audit};
+use sc_audit::{AuditError, Form, Mode, Strategy, audit};
 use sc_challenger::ScriptedChallenger;
 use sc_definitions::Event::{Draw, Test, Word};
-use sc_field::{F65537, Field, NoMemory};
+use sc_field::{F65537, Field};
 use sc_table::VariableOrder;
-use std::alloc::Global;
 use std::process::Abort;
 
 // In suffix order, with the claims in two groups.
@@ -429,73 +428,56 @@ static WITNESSES: [Case; 5] = [TESTED, REPRESENTED_TESTED, TURNED, HANDED_IN, OT
 static FAILS: [Case; 2] = [FAILS_SECOND, FAILS_FIRST];
 
 #[test]
-fn honest_rounds_are_built_in_either_order(rt: HostRuntime) -> Result<(), NoMemory> {
-    assert_all::<F17, HostRuntime>(&rt, rt.alloc(), &HONEST)?;
-    assert_all::<F65537, HostRuntime>(&rt, rt.alloc(), &LARGE_HONEST)
-}
-
-// A case's job with the rounds that it builds as a proof.
-fn checking_job<F: Field>(alloc: Global, case: &Case) -> Result<Job<F, F>, AuditError> {
-    let mut challenger = challenger::<F>(alloc, case)?;
-    let mut job = job::<F, F>(alloc, case)?;
-    let report = audit::<F, F, F, ScriptedChallenger<F>>(alloc, &job, &mut challenger)?;
-    job.mode = Mode::Check(Some(report.rounds));
-    Ok(job)
-}
-
-// The first part of what an audit of this proof answers and leaves that is not as the case says, if there is one.
-fn wrong_again<F: Field>(alloc: Global, case: &Case) -> Result<Option<&'static str>, AuditError> {
-    let job = checking_job::<F>(alloc, case)?;
-    let mut challenger = challenger::<F>(alloc, case)?;
-    Ok(wrong_in::<F, F, F>(alloc, case, &job, &mut challenger)?)
+fn honest_rounds_are_built_in_either_order(rt: HostRuntime) {
+    assert_all::<F17, HostRuntime>(&rt, &HONEST);
+    assert_all::<F65537, HostRuntime>(&rt, &LARGE_HONEST);
 }
 
 // Asserts that each of these builds has its report and its history again where its rounds are checked.
-fn assert_again<F: Field, A: Abort>(
-    rt: &A,
-    alloc: Global,
-    cases: &[Case],
-) -> Result<(), AuditError> {
+fn assert_again<F: Field, R: Abort + AllocGlobal>(rt: &R, cases: &[Case]) {
     for case in cases {
-        let name = case.name;
-        let wrong = wrong_again::<F>(alloc, case)?;
-        assert_eq!(rt; wrong, None, "{name}");
+        let mut job = job::<F, R>(rt, case);
+        let mut first = challenger::<F, R>(rt, case);
+        let report = audit::<F, F, F, ScriptedChallenger<F>>(rt.alloc(), &job, &mut first).expect(
+            rt, "a report",
+        );
+        job.mode = Mode::Check(Some(report.rounds));
+        assert_audit::<F, R>(rt, case, &job, challenger(rt, case));
     }
-    Ok(())
 }
 
 #[test]
-fn rounds_that_were_built_hold_when_they_are_checked(rt: HostRuntime) -> Result<(), AuditError> {
-    assert_again::<F17, HostRuntime>(&rt, rt.alloc(), &BUILT)?;
-    assert_again::<F65537, HostRuntime>(&rt, rt.alloc(), &LARGE_HONEST)
+fn rounds_that_were_built_hold_when_they_are_checked(rt: HostRuntime) {
+    assert_again::<F17, HostRuntime>(&rt, &BUILT);
+    assert_again::<F65537, HostRuntime>(&rt, &LARGE_HONEST);
 }
 
 #[test]
-fn altered_rounds_are_refuted(rt: HostRuntime) -> Result<(), NoMemory> {
-    assert_all::<F17, HostRuntime>(&rt, rt.alloc(), &ALTERED)
+fn altered_rounds_are_refuted(rt: HostRuntime) {
+    assert_all::<F17, HostRuntime>(&rt, &ALTERED);
 }
 
 #[test]
-fn a_lucky_challenge_has_no_verdict_yet(rt: HostRuntime) -> Result<(), NoMemory> {
-    assert_all::<F65537, HostRuntime>(&rt, rt.alloc(), &LUCKY)
+fn a_lucky_challenge_has_no_verdict_yet(rt: HostRuntime) {
+    assert_all::<F65537, HostRuntime>(&rt, &LUCKY);
 }
 
 #[test]
-fn no_rounds_need_no_proof_and_no_seed(rt: HostRuntime) -> Result<(), NoMemory> {
-    assert_all::<F17, HostRuntime>(&rt, rt.alloc(), &POINTS)
+fn no_rounds_need_no_proof_and_no_seed(rt: HostRuntime) {
+    assert_all::<F17, HostRuntime>(&rt, &POINTS);
 }
 
 #[test]
-fn a_positive_difficulty_takes_a_witness_each_round(rt: HostRuntime) -> Result<(), NoMemory> {
-    assert_all::<F17, HostRuntime>(&rt, rt.alloc(), &WITNESSES)
+fn a_positive_difficulty_takes_a_witness_each_round(rt: HostRuntime) {
+    assert_all::<F17, HostRuntime>(&rt, &WITNESSES);
 }
 
 #[test]
-fn the_history_ends_with_the_test_that_fails(rt: HostRuntime) -> Result<(), NoMemory> {
-    assert_all::<F17, HostRuntime>(&rt, rt.alloc(), &FAILS)
+fn the_history_ends_with_the_test_that_fails(rt: HostRuntime) {
+    assert_all::<F17, HostRuntime>(&rt, &FAILS);
 }
 
 #[test]
-fn everything_comes_behind_the_history_that_there_was(rt: HostRuntime) -> Result<(), NoMemory> {
-    assert_all::<F17, HostRuntime>(&rt, rt.alloc(), &BEHIND)
+fn everything_comes_behind_the_history_that_there_was(rt: HostRuntime) {
+    assert_all::<F17, HostRuntime>(&rt, &BEHIND);
 }

@@ -8,11 +8,11 @@
 ghost use Rattle.std.specs.Prelude.{◌≡◌, ◌<◌, map, IfOk, false};
 ghost use Rattle.sc_field.specs.Own.{own_representation};
 
-use super::{Case, Figures, PREFIX, Task, job, wrong_history, wrong_part};
-use sc_audit::{AuditError, Report, Strategy, audit};
-use sc_challenger::ScriptedChallenger;
+use super::{Case, Figures, TWO_ROUNDS, assert_case};
+use sc_audit::Strategy;
 use sc_definitions::Event::{Draw, Word};
 use sc_field::{F65537, Field, FromTable, IntoTranscriptField, NoMemory};
+use sc_table::{RoundMessage, VariableOrder};
 use std::alloc::Global;
 use std::process::Abort;
 
@@ -198,8 +198,10 @@ impl IntoTranscriptField<Traced> for Image {
 const PLAIN: Case = Case {
     name: "counts of a plain build",
     table: &[1, 2, 3, 5],
+    variables: 2,
     claims: &[(&[2, 3], 14)],
-    batching: 1,
+    order: VariableOrder::Prefix,
+    strategy: Strategy::Plain,
     draws: &[3, 4],
     answer: Ok(Figures {
         claim: 14,
@@ -211,67 +213,59 @@ const PLAIN: Case = Case {
         weight: 144,
         holds: true,
     }),
+    seed: &TWO_ROUNDS,
     events: &[Word(65533), Word(15), Draw, Word(65425), Word(160), Draw],
-    ..PREFIX
 };
 
 const REPRESENTED: Case = Case {
     name: "counts of a represented build",
-    task: Task::Build(Strategy::Represented),
+    strategy: Strategy::Represented,
     ..PLAIN
 };
 
-// A challenger whose draws have these numbers, the flag and count 0.
-fn flagging(alloc: Global, draws: &[u64]) -> Result<ScriptedChallenger<Traced>, NoMemory> {
-    let mut flagged = Vec::new(alloc);
-    for number in draws {
-        flagged.push(Counted {
+// Builds, and the counts of the two values of each round, the value at 0 first.
+static BUILDS: [(Case, &[(u64, u64)]); 2] = [
+    (PLAIN, &[(0, 0), (3, 5)]),
+    (REPRESENTED, &[(0, 0), (30, 50)]),
+];
+
+// Draws of these numbers, with the flag and count 0.
+fn flagged<R: Abort + AllocGlobal>(rt: &R, draws: &[u64]) -> Vec<Traced> {
+    draws
+        .iter()
+        .map(|number| Counted {
             value: F65537::element(*number % 65537),
             has_flag: true,
             count: 0,
-        })?;
-    }
-    Ok(ScriptedChallenger::new(alloc, flagged, Vec::new(alloc)))
+        })
+        .collect(rt.alloc())
+        .expect(rt, "draws")
 }
 
-// The counts of the two values of each round, the value at 0 first.
-fn counts(alloc: Global, report: &Report<Traced, Traced>) -> Result<Vec<(u64, u64)>, NoMemory> {
-    let mut counts = Vec::new(alloc);
-    for message in report.rounds.polynomial_evaluations() {
-        counts.push((message.c_a.count, message.c_inf.count))?;
-    }
-    Ok(counts)
+// Whether the two values of each round have these counts.
+fn have_counts(messages: &[RoundMessage<Traced>], counts: &[(u64, u64)]) -> bool {
+    messages.len() == counts.len()
+        && messages.iter().zip(counts).all(|(message, count)| (
+            message.c_a.count,
+            message.c_inf.count,
+        ) == *count)
 }
 
 // Asserts that a build's report and history are as its case says, and its values have these counts.
-fn assert_counts<A: Abort>(
-    rt: &A,
-    alloc: Global,
-    case: &Case,
-    wanted: &[(u64, u64)],
-) -> Result<(), AuditError> {
+fn assert_counts<R: Abort + AllocGlobal>(rt: &R, case: &Case, counts: &[(u64, u64)]) {
+    let draws = flagged(rt, case.draws);
+    let answer = assert_case::<Traced, Traced, Image, R>(rt, case, draws);
+    let report = answer.expect(rt, "a report");
     let name = case.name;
-    let job = job::<Traced, Traced>(alloc, case)?;
-    let mut challenger = flagging(alloc, case.draws)?;
-    let answer = audit::<Traced, Traced, Image, ScriptedChallenger<Traced>>(
-        alloc,
-        &job,
-        &mut challenger,
+    assert!(rt;
+        have_counts(report.rounds.polynomial_evaluations(), counts),
+        "{name}: counts"
     );
-    assert_eq!(rt; wrong_part(&answer, &case.answer), None, "{name}");
-    assert_eq!(rt;
-        wrong_history(alloc, case, challenger.events())?,
-        None,
-        "{name}"
-    );
-    let report = answer?;
-    let counts = counts(alloc, &report)?;
-    assert!(rt; counts.as_slice() == wanted, "{name}");
-    Ok(())
 }
 
 #[test]
-fn rounds_are_made_from_folded_tables_in_their_field(rt: HostRuntime) -> Result<(), AuditError> {
-    assert_counts(&rt, rt.alloc(), &PLAIN, &[(0, 0), (3, 5)])?;
-    assert_counts(&rt, rt.alloc(), &REPRESENTED, &[(0, 0), (30, 50)])
+fn rounds_are_made_from_folded_tables_in_their_field(rt: HostRuntime) {
+    for (case, counts) in &BUILDS {
+        assert_counts(&rt, case, *counts);
+    }
 }

@@ -1,19 +1,18 @@
 //! Rounds that are built on a representation and without one, with figures from a script that is no part of this.
-use super::{
-    BASIS, CHALLENGE_OF_TWO, Case, Figures, HEAD, PREFIX, Task, VALUES_OF_TWO, assert_over,
-};
+use super::{BASIS, CHALLENGE_OF_TWO, Case, Figures, HEAD, TWO_ROUNDS, VALUES_OF_TWO, assert_over};
 use sc_audit::{AuditError, Strategy, build_laws};
 use sc_definitions::Event::{Draw, Word};
-use sc_field::{F257, F257x2, NoMemory, Poly16, Tower16};
+use sc_field::{F257, F257x2, Poly16, Tower16};
 use sc_table::VariableOrder;
-use std::process::Abort;
 
 // Over the field of 16 elements that is made by `w^2 = w + 1` and `y^2 = y + w`.
 const SIXTEEN: Case = Case {
     name: "16 elements",
     table: &[1, 2, 3, 4],
+    variables: 2,
     claims: &[(&[0, 1], 2)],
-    batching: 1,
+    order: VariableOrder::Prefix,
+    strategy: Strategy::Plain,
     draws: &[2, 4],
     answer: Ok(Figures {
         claim: 2,
@@ -25,8 +24,8 @@ const SIXTEEN: Case = Case {
         weight: 12,
         holds: true,
     }),
+    seed: &TWO_ROUNDS,
     events: &[Word(2), Word(6), Draw, Word(0), Word(6), Draw],
-    ..PREFIX
 };
 
 const SIXTEEN_SUFFIX: Case = Case {
@@ -65,22 +64,22 @@ static SIXTEEN_BUILDS: [Case; 6] = [
     SIXTEEN_SUFFIX,
     SIXTEEN_FALSE,
     Case {
-        task: Task::Build(Strategy::Represented),
+        strategy: Strategy::Represented,
         ..SIXTEEN
     },
     Case {
-        task: Task::Build(Strategy::Represented),
+        strategy: Strategy::Represented,
         ..SIXTEEN_SUFFIX
     },
     Case {
-        task: Task::Build(Strategy::Represented),
+        strategy: Strategy::Represented,
         ..SIXTEEN_FALSE
     },
 ];
 
 #[test]
-fn images_in_another_field_change_no_report(rt: HostRuntime) -> Result<(), NoMemory> {
-    assert_over::<Tower16, Tower16, Poly16, HostRuntime>(&rt, rt.alloc(), &SIXTEEN_BUILDS)
+fn images_in_another_field_change_no_report(rt: HostRuntime) {
+    assert_over::<Tower16, Tower16, Poly16, HostRuntime>(&rt, &SIXTEEN_BUILDS);
 }
 
 const ONE_ROUND_OF_TWO: [&str; 5] = [
@@ -107,7 +106,8 @@ const PAIRS: Case = Case {
     table: &[1, 2],
     variables: 1,
     claims: &[(&[257], 258)],
-    batching: 1,
+    order: VariableOrder::Prefix,
+    strategy: Strategy::Plain,
     draws: &[2, 1],
     answer: Ok(Figures {
         claim: 258,
@@ -121,7 +121,6 @@ const PAIRS: Case = Case {
     }),
     seed: &ONE_ROUND_OF_TWO,
     events: &[Word(1), Word(256), Word(256), Word(2), Draw, Draw],
-    ..PREFIX
 };
 
 const PAIRS_SUFFIX: Case = Case {
@@ -177,26 +176,25 @@ static PAIR_BUILDS: [Case; 6] = [
     PAIRS_SUFFIX,
     PAIRS_FALSE,
     Case {
-        task: Task::Build(Strategy::Represented),
+        strategy: Strategy::Represented,
         ..PAIRS
     },
     Case {
-        task: Task::Build(Strategy::Represented),
+        strategy: Strategy::Represented,
         ..PAIRS_SUFFIX
     },
     Case {
-        task: Task::Build(Strategy::Represented),
+        strategy: Strategy::Represented,
         ..PAIRS_FALSE
     },
 ];
 
 #[test]
-fn an_extension_may_represent_itself(rt: HostRuntime) -> Result<(), NoMemory> {
-    assert_over::<F257, F257x2, F257x2, HostRuntime>(&rt, rt.alloc(), &PAIR_BUILDS)
+fn an_extension_may_represent_itself(rt: HostRuntime) {
+    assert_over::<F257, F257x2, F257x2, HostRuntime>(&rt, &PAIR_BUILDS);
 }
 
 #[test]
-fn builds_agree_by_law(_rt: HostRuntime) -> Result<(), NoMemory> {
+fn builds_agree_by_law(_rt: HostRuntime) {
     build_laws();
-    Ok(())
 }
