@@ -1,14 +1,15 @@
 //! Drivers, data and replays, by figures by hand and from a script that is no part of this.
-ghost use Rattle.std.specs.Prelude.{◌≡◌, ◌+◌, ◌≤◌, OnOk, IfOk, length};
+ghost use Rattle.std.specs.Prelude.{◌≡◌, ◌+◌, ◌<◌, ◌≤◌, OnOk};
 
 use sc_challenger::{Challenger, Event, ScriptedChallenger};
-use sc_field::{F65537, Field, NoMemory};
+use sc_field::{ExtensionField, F65537, Field, NoMemory};
 use sc_table::{Basis, Point, RoundMessage};
 use sc_transcript::{
     ProverTranscript, SumcheckData, SumcheckError, SumcheckShape, VerifierTranscript,
     verify_final_sumcheck_rounds,
 };
 use std::alloc::Global;
+use std::process::Abort;
 
 // How many words the seeds of one round and of two have without a test, and of two with one.
 const ONE_ROUND: usize = 248;
@@ -18,14 +19,12 @@ const TWO_ROUNDS: usize = 402;
 const TWO_TESTED_ROUNDS: usize = 542;
 
 // The element of this number.
-fn of(number: u64) -> F65537 {
-    F65537::element(number % 65537)
+fn of<F: Field>(number: u64) -> F {
+    F::element(number % F::size())
 }
 
 // The elements of these numbers.
-fn elements(alloc: Global, numbers: &[u64]) -> Result<Vec<F65537>, NoMemory>
-    ensures { IfOk result (λ v. length v.items ≡ length numbers.now) }
-{
+fn elements<F: Field>(alloc: Global, numbers: &[u64]) -> Result<Vec<F>, NoMemory> {
     let elements = numbers.iter().map(|number| of(*number)).collect(alloc)?;
     Ok(elements)
 }
@@ -39,13 +38,11 @@ fn have_numbers<F: Field>(elements: &[F], numbers: &[u64]) -> bool {
 }
 
 // A challenger of these draws, and of these witnesses for its tests.
-fn scripted(
+fn scripted<F: Field>(
     alloc: Global,
     draws: &[u64],
     good: &[&[u64]],
-) -> Result<ScriptedChallenger<F65537>, NoMemory>
-    ensures { IfOk result (λ c. (⟦<ScriptedChallenger<F65537> as Challenger<F65537>>⟧.rules c).max_bits ≡ 16) }
-{
+) -> Result<ScriptedChallenger<F>, NoMemory> {
     let mut lists = Vec::new(alloc);
     for list in good {
         lists.push(elements(alloc, list)?)?;
@@ -54,24 +51,38 @@ fn scripted(
 }
 
 // Whether there are so many events, and these are the last.
-fn ends(challenger: &ScriptedChallenger<F65537>, events: usize, last: &[Event]) -> bool {
+fn ends<F: Field>(challenger: &ScriptedChallenger<F>, events: usize, last: &[Event]) -> bool {
     challenger.events().len() == events && challenger.events().ends_with(last)
+}
+
+// What a verifier answers to a round of (1, 1) without a witness, the first of two at a difficulty of 4 bits, and how many rounds are left.
+fn unwitnessed_round<F: Field, EF: ExtensionField<F>, C: Challenger<F>>(
+    alloc: Global,
+    challenger: &mut C,
+) -> Result<(Result<EF, SumcheckError>, usize), NoMemory> {
+    let difficulty = challenger.max_bits().min(4);
+    let shape = SumcheckShape::new(2, difficulty, Basis::Evaluation);
+    let mut transcript: VerifierTranscript<'_, C, F, EF> = VerifierTranscript::new(
+        alloc, challenger, shape,
+    )?;
+    let answer = transcript.round(of(1), of(1), None);
+    let left = transcript.rounds_left();
+    transcript.abort();
+    Ok((answer, left))
 }
 
 #[test]
 fn a_difficulty_wants_a_witness(rt: HostRuntime) {
-    let mut challenger = scripted(rt.alloc(), &[], &[]).expect(&rt, "an answer");
-    let shape = SumcheckShape::new(2, 4, Basis::Evaluation);
-    let mut transcript: VerifierTranscript<'_, ScriptedChallenger<F65537>, F65537, F65537> =
-        VerifierTranscript::new(rt.alloc(), &mut challenger, shape).expect(&rt, "an answer");
-    let refused = transcript.round(of(1), of(1), None);
-    let left = transcript.rounds_left();
-    transcript.abort();
+    let mut challenger = scripted::<F65537>(rt.alloc(), &[], &[]).expect(&rt, "an answer");
     let missing = SumcheckError::MissingPowWitness {
         round: 0,
         difficulty: 4,
     };
-    assert!(rt; refused == Err(missing));
+    let (answer, left) = unwitnessed_round::<F65537, F65537, _>(rt.alloc(), &mut challenger).expect(
+        &rt,
+        "an answer",
+    );
+    assert!(rt; answer == Err(missing));
     assert_eq!(rt; left, 2);
     assert!(rt;
         ends(
@@ -82,13 +93,20 @@ fn a_difficulty_wants_a_witness(rt: HostRuntime) {
     );
 }
 
-// A challenge and a witness.
-type Played = (F65537, Option<F65537>);
+// The numbers of a challenge and of a witness.
+type Played = (u64, Option<u64>);
+
+fn numbers<F: Field, EF: Field>(played: (EF, Option<F>)) -> Played {
+    match played.1 {
+        Some(witness) => (played.0.index(), Some(witness.index())),
+        None => (played.0.index(), None),
+    }
+}
 
 // Plays the rounds of (2, 65535) and (0, 65535).
-fn two_rounds(
-    transcript: &mut ProverTranscript<'_, ScriptedChallenger<F65537>, F65537, F65537>,
-) -> Result<[Played; 2], SumcheckError>
+fn two_rounds<F: Field, EF: ExtensionField<F>, C: Challenger<F>>(
+    transcript: &mut ProverTranscript<'_, C, F, EF>,
+) -> Result<(Played, Played), SumcheckError>
     requires { transcript.old.played + 2 ≤ transcript.old.shape.num_rounds }
     ensures shape { transcript.new.shape ≡ transcript.old.shape }
     ensures played { OnOk result (transcript.new.played ≡ transcript.old.played + 2) }
@@ -96,18 +114,19 @@ fn two_rounds(
 {
     let first = transcript.round(of(2), of(65535))?;
     let second = transcript.round(of(0), of(65535))?;
-    Ok([first, second])
+    Ok((numbers(first), numbers(second)))
 }
 
 // Plays a batch of these rounds with tests of one bit.
-fn tested_rounds(
+fn tested_rounds<F: Field, EF: ExtensionField<F>, C: Challenger<F>>(
     alloc: Global,
-    challenger: &mut ScriptedChallenger<F65537>,
-) -> Result<[Played; 2], SumcheckError>
-    requires { 1 ≤ (⟦<ScriptedChallenger<F65537> as Challenger<F65537>>⟧.rules challenger.old).max_bits }
-{
-    let shape = SumcheckShape::new(2, 1, Basis::Evaluation);
-    let mut transcript = ProverTranscript::new(alloc, challenger, shape)?;
+    challenger: &mut C,
+) -> Result<(Played, Played), SumcheckError> {
+    let difficulty = challenger.max_bits().min(1);
+    let shape = SumcheckShape::new(2, difficulty, Basis::Evaluation);
+    let mut transcript: ProverTranscript<'_, C, F, EF> = ProverTranscript::new(
+        alloc, challenger, shape,
+    )?;
     match two_rounds(&mut transcript) {
         Ok(played) => {
             transcript.finish();
@@ -120,13 +139,19 @@ fn tested_rounds(
     }
 }
 
-#[test]
-fn a_prover_sends_the_first_witness_that_passes(rt: HostRuntime) {
-    let mut challenger = scripted(rt.alloc(), &[3, 4], &[&[5, 9], &[6]]).expect(&rt, "an answer");
-    let [first, second] = tested_rounds(rt.alloc(), &mut challenger).expect(&rt, "an answer");
-    assert!(rt; first == (of(3), Some(of(5))));
-    assert!(rt; second == (of(4), Some(of(6))));
-    let wanted = [
+// The witnesses that pass, what a prover of these rounds then answers, how many events there are, and the last of them.
+struct Tested {
+    good: &'static [&'static [u64]],
+    answer: Result<(Played, Played), SumcheckError>,
+    events: usize,
+    last: &'static [Event],
+}
+
+static FOUND: Tested = Tested {
+    good: &[&[5, 9], &[6]],
+    answer: Ok(((3, Some(5)), (4, Some(6)))),
+    events: TWO_TESTED_ROUNDS + 10,
+    last: &[
         Event::Word(2),
         Event::Word(65535),
         Event::Word(5),
@@ -137,29 +162,38 @@ fn a_prover_sends_the_first_witness_that_passes(rt: HostRuntime) {
         Event::Word(6),
         Event::Test(1),
         Event::Draw,
-    ];
-    assert!(rt; ends(&challenger, TWO_TESTED_ROUNDS + 10, &wanted));
+    ],
+};
+
+static NONE_FOUND: Tested = Tested {
+    good: &[],
+    answer: Err(SumcheckError::NoWitness { round: 0 }),
+    events: TWO_TESTED_ROUNDS + 2,
+    last: &[Event::Word(2), Event::Word(65535)],
+};
+
+fn assert_tested<A: Abort>(rt: &A, alloc: Global, tested: &Tested) {
+    let mut challenger = scripted(alloc, &[3, 4], tested.good).expect(rt, "an answer");
+    let answer = tested_rounds::<F65537, F65537, _>(alloc, &mut challenger);
+    assert!(rt; answer == tested.answer);
+    assert!(rt; ends(&challenger, tested.events, tested.last));
+}
+
+#[test]
+fn a_prover_sends_the_first_witness_that_passes(rt: HostRuntime) {
+    assert_tested(&rt, rt.alloc(), &FOUND);
 }
 
 #[test]
 fn a_prover_may_find_no_witness(rt: HostRuntime) {
-    let mut challenger = scripted(rt.alloc(), &[3, 4], &[]).expect(&rt, "an answer");
-    let refused = tested_rounds(rt.alloc(), &mut challenger);
-    assert!(rt; refused == Err(SumcheckError::NoWitness { round: 0 }));
-    assert!(rt;
-        ends(
-            &challenger,
-            TWO_TESTED_ROUNDS + 2,
-            &[Event::Word(2), Event::Word(65535)]
-        )
-    );
+    assert_tested(&rt, rt.alloc(), &NONE_FOUND);
 }
 
 // Appends the rounds of (2, 65535) and (0, 65535), and answers their challenges.
-fn append_two(
-    data: &mut SumcheckData<F65537, F65537>,
-    transcript: &mut ProverTranscript<'_, ScriptedChallenger<F65537>, F65537, F65537>,
-) -> Result<[F65537; 2], SumcheckError>
+fn append_two<F: Field, EF: ExtensionField<F>, C: Challenger<F>>(
+    data: &mut SumcheckData<F, EF>,
+    transcript: &mut ProverTranscript<'_, C, F, EF>,
+) -> Result<[EF; 2], SumcheckError>
     requires { transcript.old.played + 2 ≤ transcript.old.shape.num_rounds }
     ensures shape { transcript.new.shape ≡ transcript.old.shape }
     ensures played { OnOk result (transcript.new.played ≡ transcript.old.played + 2) }
@@ -171,11 +205,11 @@ fn append_two(
 }
 
 // Plays a batch of these rounds without a test.
-fn untested_rounds(
+fn untested_rounds<F: Field, EF: ExtensionField<F>, C: Challenger<F>>(
     alloc: Global,
-    challenger: &mut ScriptedChallenger<F65537>,
-    data: &mut SumcheckData<F65537, F65537>,
-) -> Result<[F65537; 2], SumcheckError> {
+    challenger: &mut C,
+    data: &mut SumcheckData<F, EF>,
+) -> Result<[EF; 2], SumcheckError> {
     let shape = SumcheckShape::new(2, 0, Basis::Evaluation);
     let mut transcript = ProverTranscript::new(alloc, challenger, shape)?;
     match append_two(data, &mut transcript) {
@@ -190,40 +224,55 @@ fn untested_rounds(
     }
 }
 
+// Replays data at a difficulty that the challenger takes.
+fn replayed<F: Field, EF: ExtensionField<F>, C: Challenger<F>>(
+    alloc: Global,
+    data: &SumcheckData<F, EF>,
+    challenger: &mut C,
+    claim: &mut EF,
+    rounds: usize,
+    pow_bits: usize,
+    basis: Basis,
+) -> Result<Point<EF>, SumcheckError> {
+    let pow_bits = pow_bits.min(challenger.max_bits());
+    data.verify_rounds(alloc, challenger, claim, rounds, pow_bits, basis)
+}
+
+// Whether data is the two rounds, and no witness.
+fn is_two<F: Field, EF: ExtensionField<F>>(
+    alloc: Global,
+    data: &SumcheckData<F, EF>,
+) -> Result<bool, NoMemory> {
+    let wanted: SumcheckData<F, EF> = data_of(alloc, &TWO, &[])?;
+    Ok(
+        data.num_rounds() == 2
+            && data.polynomial_evaluations() == wanted.polynomial_evaluations()
+            && data.pow_witnesses.len() == 0,
+    )
+}
+
 #[test]
 fn both_sides_keep_in_step(rt: HostRuntime) {
-    let mut prover = scripted(rt.alloc(), &[3, 4], &[]).expect(&rt, "an answer");
+    let mut prover = scripted::<F65537>(rt.alloc(), &[3, 4], &[]).expect(&rt, "an answer");
     let mut verifier = scripted(rt.alloc(), &[3, 4], &[]).expect(&rt, "an answer");
-    let mut data = SumcheckData::new(rt.alloc());
+    let mut data: SumcheckData<F65537, F65537> = SumcheckData::new(rt.alloc());
     data.reserve(2).expect(&rt, "an answer");
     let challenges = untested_rounds(rt.alloc(), &mut prover, &mut data).expect(&rt, "an answer");
     assert!(rt; have_numbers(&challenges, &[3, 4]));
     assert_eq!(rt; data.num_rounds(), 2);
     let data = data.copy(rt.alloc()).expect(&rt, "an answer");
-    let messages = [
-        RoundMessage {
-            c_a: of(2),
-            c_inf: of(65535),
-        },
-        RoundMessage {
-            c_a: of(0),
-            c_inf: of(65535),
-        },
-    ];
-    assert!(rt; data.polynomial_evaluations() == messages.as_slice());
-    assert_eq!(rt; data.pow_witnesses.len(), 0);
+    assert!(rt; is_two(rt.alloc(), &data) == Ok(true));
     let mut claim = of(2);
-    let point = data
-        .verify_rounds(
-            rt.alloc(),
-            &mut verifier,
-            &mut claim,
-            2,
-            0,
-            Basis::Evaluation,
-        )
-        .expect(&rt, "an answer");
-    assert!(rt; have_numbers(point.as_slice(), &[3, 4]));
+    let point = replayed(
+        rt.alloc(),
+        &data,
+        &mut verifier,
+        &mut claim,
+        2,
+        0,
+        Basis::Evaluation,
+    );
+    assert!(rt; answers(&point, Ok(&[3, 4])));
     assert_eq!(rt; claim.index(), 65449);
     assert!(rt; prover.events() == verifier.events());
     assert_eq!(rt; verifier.events().len(), TWO_ROUNDS + 6);
@@ -348,11 +397,11 @@ static REPLAYS: [Replay; 8] = [
 ];
 
 // Data of these rounds and witnesses.
-fn data_of(
+fn data_of<F: Field, EF: ExtensionField<F>>(
     alloc: Global,
     rounds: &[(u64, u64)],
     witnesses: &[u64],
-) -> Result<SumcheckData<F65537, F65537>, NoMemory> {
+) -> Result<SumcheckData<F, EF>, NoMemory> {
     let messages = rounds
         .iter()
         .map(|round| RoundMessage {
@@ -367,8 +416,8 @@ fn data_of(
 }
 
 // Whether an answer is this one; a point by its coordinates' numbers.
-fn answers(
-    answer: &Result<Point<F65537>, SumcheckError>,
+fn answers<F: Field>(
+    answer: &Result<Point<F>, SumcheckError>,
     wanted: Result<&[u64], SumcheckError>,
 ) -> bool {
     match (answer, wanted) {
@@ -378,100 +427,178 @@ fn answers(
     }
 }
 
+// The first part of what a replay answers and leaves that is not as wanted, if there is one.
+fn wrong_part<F: Field, EF: Field>(
+    wanted: &Replay,
+    answer: &Result<Point<EF>, SumcheckError>,
+    claim: EF,
+    challenger: &ScriptedChallenger<F>,
+) -> Option<&'static str> {
+    if !answers(answer, wanted.answer) {
+        Some("answer")
+    } else if claim.index() != wanted.claim_left {
+        Some("claim")
+    } else if !ends(challenger, wanted.events, wanted.last) {
+        Some("events")
+    } else {
+        None
+    }
+}
+
+// Replays a proof, and tells the first part that is wrong, if there is one.
+fn wrong_in<F: Field, EF: ExtensionField<F>>(
+    alloc: Global,
+    wanted: &Replay,
+) -> Result<Option<&'static str>, NoMemory> {
+    let mut challenger = scripted::<F>(alloc, &[3, 4], &[&[5], &[7]])?;
+    let data: SumcheckData<F, EF> = data_of(alloc, wanted.rounds, wanted.witnesses)?;
+    let mut claim = of(wanted.claim);
+    let answer = replayed(
+        alloc,
+        &data,
+        &mut challenger,
+        &mut claim,
+        wanted.expected_rounds,
+        wanted.pow_bits,
+        wanted.basis,
+    );
+    Ok(wrong_part(wanted, &answer, claim, &challenger))
+}
+
 #[test]
 fn a_replay_ends_where_it_is_refused(rt: HostRuntime) {
     for replay in &REPLAYS {
         let name = replay.name;
-        let mut challenger = scripted(rt.alloc(), &[3, 4], &[&[5], &[7]]).expect(&rt, "an answer");
-        let data = data_of(rt.alloc(), replay.rounds, replay.witnesses).expect(&rt, "an answer");
-        let mut claim = of(replay.claim);
-        let answer = data.verify_rounds(
-            rt.alloc(),
-            &mut challenger,
-            &mut claim,
-            replay.expected_rounds,
-            replay.pow_bits.min(16),
-            replay.basis,
+        assert!(rt;
+            wrong_in::<F65537, F65537>(rt.alloc(), replay) == Ok(None),
+            "{name}"
         );
-        assert!(rt; answers(&answer, replay.answer), "{name}");
-        assert_eq!(rt; claim.index(), replay.claim_left, "{name}");
-        assert!(rt; ends(&challenger, replay.events, replay.last), "{name}");
     }
 }
 
+static REFUSALS: [(SumcheckError, &str); 2] = [
+    (
+        SumcheckError::RoundCountMismatch {
+            expected: 2,
+            actual: 1,
+        },
+        "expected 2 sumcheck rounds, but the proof has 1",
+    ),
+    (
+        SumcheckError::InvalidPowWitness {
+            round: 7,
+            difficulty: 9,
+        },
+        "the witness of sumcheck round 7 does not pass at 9 bits",
+    ),
+];
+
 #[test]
 fn a_refusal_names_what_was_expected(rt: HostRuntime) {
-    for (error, wanted) in [
-        (
-            SumcheckError::RoundCountMismatch {
-                expected: 2,
-                actual: 1,
-            },
-            "expected 2 sumcheck rounds, but the proof has 1",
-        ),
-        (
-            SumcheckError::InvalidPowWitness {
-                round: 7,
-                difficulty: 9,
-            },
-            "the witness of sumcheck round 7 does not pass at 9 bits",
-        ),
-    ] {
+    for (error, wanted) in &REFUSALS {
         let text = error.to_string(rt.alloc()).expect(&rt, "an answer");
-        assert!(rt; text.as_str() == wanted, "{text}");
+        assert!(rt; text.as_str() == *wanted, "{text}");
+    }
+}
+
+// A call for last rounds, with data or without: how many, their difficulty, the answer, the claim that is left, and how many events there are then.
+struct Last {
+    has_data: bool,
+    rounds: usize,
+    pow_bits: usize,
+    answer: Result<&'static [u64], SumcheckError>,
+    claim_left: u64,
+    events: usize,
+}
+
+static NO_LAST: [Last; 2] = [
+    Last {
+        has_data: false,
+        rounds: 0,
+        pow_bits: 99,
+        answer: Ok(&[]),
+        claim_left: 2,
+        events: 0,
+    },
+    Last {
+        has_data: true,
+        rounds: 0,
+        pow_bits: 99,
+        answer: Ok(&[]),
+        claim_left: 2,
+        events: 0,
+    },
+];
+
+static LAST: [Last; 2] = [
+    Last {
+        has_data: false,
+        rounds: 2,
+        pow_bits: 0,
+        answer: Err(SumcheckError::MissingSumcheckData { expected_rounds: 2 }),
+        claim_left: 2,
+        events: 0,
+    },
+    Last {
+        has_data: true,
+        rounds: 2,
+        pow_bits: 0,
+        answer: Ok(&[3, 4]),
+        claim_left: 65449,
+        events: TWO_ROUNDS + 6,
+    },
+];
+
+// A difficulty for so many rounds that the challenger takes.
+fn taken<F: Field, C: Challenger<F>>(challenger: &C, rounds: usize, pow_bits: usize) -> usize
+    ensures { 0 < rounds → result ≤ (C.rules challenger.now).max_bits }
+{
+    if rounds == 0 {
+        pow_bits
+    } else {
+        pow_bits.min(challenger.max_bits())
+    }
+}
+
+// Makes a call for last rounds.
+fn last_rounds<F: Field, EF: ExtensionField<F>, C: Challenger<F>>(
+    alloc: Global,
+    last: &Last,
+    data: &SumcheckData<F, EF>,
+    challenger: &mut C,
+    claim: &mut EF,
+) -> Result<Point<EF>, SumcheckError> {
+    let found = if last.has_data { Some(data) } else { None };
+    let pow_bits = taken::<F, C>(challenger, last.rounds, last.pow_bits);
+    verify_final_sumcheck_rounds(
+        alloc,
+        found,
+        challenger,
+        claim,
+        last.rounds,
+        pow_bits,
+        Basis::Evaluation,
+    )
+}
+
+// Makes the calls one after the other, each on what the one before it left.
+fn assert_last<A: Abort>(rt: &A, alloc: Global, calls: &[Last]) {
+    let data: SumcheckData<F65537, F65537> = data_of(alloc, &TWO, &[]).expect(rt, "an answer");
+    let mut challenger = scripted(alloc, &[3, 4], &[]).expect(rt, "an answer");
+    let mut claim = of(2);
+    for last in calls {
+        let answer = last_rounds(alloc, last, &data, &mut challenger, &mut claim);
+        assert!(rt; answers(&answer, last.answer));
+        assert!(rt; (claim.index(), challenger.events().len()) == (last.claim_left, last.events));
     }
 }
 
 #[test]
 fn no_last_rounds_want_no_data(rt: HostRuntime) {
-    let data = data_of(rt.alloc(), &[(2, 65535), (0, 65535)], &[]).expect(&rt, "an answer");
-    let mut challenger = scripted(rt.alloc(), &[3, 4], &[]).expect(&rt, "an answer");
-    let mut claim = of(2);
-    for found in [None, Some(&data)] {
-        let none = verify_final_sumcheck_rounds(
-            rt.alloc(),
-            found,
-            &mut challenger,
-            &mut claim,
-            0,
-            99,
-            Basis::Evaluation,
-        )
-        .expect(&rt, "an answer");
-        assert_eq!(rt; none.num_variables(), 0);
-        assert_eq!(rt; claim.index(), 2);
-        assert_eq!(rt; challenger.events().len(), 0);
-    }
+    assert_last(&rt, rt.alloc(), &NO_LAST);
 }
 
 #[test]
 fn last_rounds_want_their_data(rt: HostRuntime) {
-    let data = data_of(rt.alloc(), &[(2, 65535), (0, 65535)], &[]).expect(&rt, "an answer");
-    let mut challenger = scripted(rt.alloc(), &[3, 4], &[]).expect(&rt, "an answer");
-    let mut claim = of(2);
-    let missing = verify_final_sumcheck_rounds::<F65537, F65537, _>(
-        rt.alloc(),
-        None,
-        &mut challenger,
-        &mut claim,
-        2,
-        0,
-        Basis::Evaluation,
-    );
-    let wanted = SumcheckError::MissingSumcheckData { expected_rounds: 2 };
-    assert!(rt; answers(&missing, Err(wanted)));
-    assert_eq!(rt; claim.index(), 2);
-    assert_eq!(rt; challenger.events().len(), 0);
-    let point = verify_final_sumcheck_rounds(
-        rt.alloc(),
-        Some(&data),
-        &mut challenger,
-        &mut claim,
-        2,
-        0,
-        Basis::Evaluation,
-    )
-    .expect(&rt, "an answer");
-    assert!(rt; have_numbers(point.as_slice(), &[3, 4]));
-    assert_eq!(rt; claim.index(), 65449);
+    assert_last(&rt, rt.alloc(), &LAST);
 }
