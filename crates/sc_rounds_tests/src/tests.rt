@@ -1,34 +1,54 @@
 //! A pair of tables, by figures by hand and from a script that is no part of this.
-ghost use Rattle.std.specs.Prelude.{◌≡◌, ◌+◌, ◌<◌, ◌≤◌, OnOk, IfOk, length};
-ghost use Rattle.sc_rounds.specs.Products.{variables_in, sum_in};
+ghost use Rattle.std.specs.Prelude.{◌≡◌, IfOk, length};
+ghost use Rattle.sc_table.specs.Polys.{variables_of};
+ghost use Rattle.sc_rounds.specs.Products.{variables_in};
 
 mod constraint;
-mod represented;
 mod step;
 
-use sc_challenger::{Challenger, ScriptedChallenger};
+use sc_challenger::ScriptedChallenger;
 use sc_field::{F65537, Field, NoMemory};
-use sc_rounds::{ProductPolynomial, ProverTranscript, SumcheckData, SumcheckError, SumcheckShape};
+use sc_rounds::{
+    ProductPolynomial, ProverTranscript, SumcheckData, SumcheckError, SumcheckProver, SumcheckShape,
+};
 use sc_table::{Basis, Point, Poly, RoundMessage, VariableOrder};
 use std::alloc::Global;
 
 // How many words the seed of one round has without a test.
 const ONE_ROUND: usize = 248;
 
+// The two values that a round sends.
+type Pair = (u64, u64);
+
 // The element of this number.
-pub(crate) fn of(number: u64) -> F65537 {
-    F65537::element(number % 65537)
+fn of<F: Field>(number: u64) -> F {
+    F::element(number % F::size())
 }
 
 // The elements of these numbers.
-pub(crate) fn elements(alloc: Global, numbers: &[u64]) -> Result<Vec<F65537>, NoMemory>
+fn elements<F: Field>(alloc: Global, numbers: &[u64]) -> Result<Vec<F>, NoMemory>
     ensures { IfOk result (λ v. length v.items ≡ length numbers.now) }
 {
     let elements = numbers.iter().map(|number| of(*number)).collect(alloc)?;
     Ok(elements)
 }
 
-pub(crate) fn have_numbers<F: Field>(elements: &[F], numbers: &[u64]) -> bool {
+// The point of these numbers.
+fn point<F: Field>(alloc: Global, numbers: &[u64]) -> Result<Point<F>, NoMemory>
+    ensures { IfOk result (λ p. length p ≡ length numbers.now) }
+{
+    Ok(Point::new(elements(alloc, numbers)?))
+}
+
+// The table of these four values.
+fn table(alloc: Global, values: &[u64]) -> Result<Poly<F65537>, NoMemory>
+    requires { length values.now ≡ 4 }
+    ensures { IfOk result (λ p. variables_of p ≡ 2) }
+{
+    Ok(Poly::new(elements(alloc, values)?))
+}
+
+fn have_numbers<F: Field>(elements: &[F], numbers: &[u64]) -> bool {
     elements.len() == numbers.len()
         && elements
             .iter()
@@ -36,14 +56,19 @@ pub(crate) fn have_numbers<F: Field>(elements: &[F], numbers: &[u64]) -> bool {
             .all(|(element, number)| element.index() == *number)
 }
 
+// Whether messages are these pairs.
+fn are_pairs<F: Field>(messages: &[RoundMessage<F>], pairs: &[Pair]) -> bool {
+    messages.len() == pairs.len()
+        && messages.iter().zip(pairs).all(|(message, pair)| message.c_a.index() == pair.0
+            && message.c_inf.index() == pair.1)
+}
+
 // A challenger of these draws, and of these witnesses for its tests.
-fn scripted(
+fn scripted<F: Field>(
     alloc: Global,
     draws: &[u64],
     good: &[&[u64]],
-) -> Result<ScriptedChallenger<F65537>, NoMemory>
-    ensures { IfOk result (λ c. (⟦<ScriptedChallenger<F65537> as Challenger<F65537>>⟧.rules c).max_bits ≡ 16) }
-{
+) -> Result<ScriptedChallenger<F>, NoMemory> {
     let mut lists = Vec::new(alloc);
     for list in good {
         lists.push(elements(alloc, list)?)?;
@@ -51,46 +76,69 @@ fn scripted(
     Ok(ScriptedChallenger::new(alloc, elements(alloc, draws)?, lists))
 }
 
-const TWO: [(u64, u64); 2] = [(2, 65535), (0, 65535)];
-
-// Data of these rounds and witnesses.
-pub(crate) fn data_of(
-    alloc: Global,
-    rounds: &[(u64, u64)],
-    witnesses: &[u64],
-) -> Result<SumcheckData<F65537, F65537>, NoMemory> {
-    let messages = rounds
-        .iter()
-        .map(|round| RoundMessage {
-            c_a: of(round.0),
-            c_inf: of(round.1),
-        })
-        .collect(alloc)?;
-    Ok(SumcheckData {
-        polynomial_evaluations: messages,
-        pow_witnesses: elements(alloc, witnesses)?,
-    })
+// Two tables of as many variables, and their sum.
+struct Standing {
+    variables: usize,
+    evals: &'static [u64],
+    weights: &'static [u64],
+    sum: u64,
 }
 
-// Plays a batch of one round on a pair, without a test, and answers its challenge.
+// Whether two tables and their sum stand so.
+fn are_standing<F: Field>(evals: &Poly<F>, weights: &Poly<F>, sum: u64, wanted: &Standing) -> bool {
+    evals.num_variables() == wanted.variables
+        && have_numbers(evals.as_slice(), wanted.evals)
+        && have_numbers(weights.as_slice(), wanted.weights)
+        && sum == wanted.sum
+}
+
+// Whether a pair and its sum stand so.
+fn stands(
+    alloc: Global,
+    pair: &ProductPolynomial<F65537, F65537>,
+    sum: F65537,
+    wanted: &Standing,
+) -> Result<bool, NoMemory> {
+    let evals = pair.evals(alloc)?;
+    let weights = pair.weights(alloc)?;
+    Ok(
+        are_standing(&evals, &weights, sum.index(), wanted)
+            && pair.num_variables() == wanted.variables
+            && have_numbers(pair.evals_view(), wanted.evals)
+            && pair.dot_product() == sum,
+    )
+}
+
+// The pair of the table 1, 2, 3, 4 and of these four weights.
+fn pair_of(
+    alloc: Global,
+    order: VariableOrder,
+    weights: &[u64],
+) -> Result<ProductPolynomial<F65537, F65537>, NoMemory>
+    requires { length weights.now ≡ 4 }
+    ensures { IfOk result (λ p. variables_in p ≡ 2) }
+{
+    let evals = table(alloc, &[1, 2, 3, 4])?;
+    Ok(ProductPolynomial::new_unpacked(order, evals, table(alloc, weights)?))
+}
+
+// Plays a batch of one round on a pair, without a test, where it has a variable and that sum, and answers its challenge.
 fn play_one(
     alloc: Global,
     challenger: &mut ScriptedChallenger<F65537>,
     pair: &mut ProductPolynomial<F65537, F65537>,
     data: &mut SumcheckData<F65537, F65537>,
     sum: &mut F65537,
-) -> Result<F65537, SumcheckError>
-    requires variables { 0 < variables_in pair.old }
-    requires sum { ⟦<F65537 as Field>⟧.number sum.old ≡ sum_in ⟦<F65537 as Field>⟧.ops ⟦<F65537 as Field>⟧.number pair.old }
-    ensures fewer { OnOk result (variables_in pair.old ≡ variables_in pair.new + 1) }
-    ensures true_sum { OnOk result (⟦<F65537 as Field>⟧.number sum.new ≡ sum_in ⟦<F65537 as Field>⟧.ops ⟦<F65537 as Field>⟧.number pair.new) }
-{
+) -> Result<Option<F65537>, SumcheckError> {
+    if pair.num_variables() == 0 || !SumcheckProver::sum_is_true(pair, *sum) {
+        return Ok(None);
+    }
     let shape = SumcheckShape::new(1, 0, Basis::Evaluation);
     let mut transcript = ProverTranscript::new(alloc, challenger, shape)?;
     match pair.round(data, &mut transcript, sum) {
         Ok(challenge) => {
             transcript.finish();
-            Ok(challenge)
+            Ok(Some(challenge))
         }
         Err(error) => {
             transcript.abort();
@@ -99,110 +147,94 @@ fn play_one(
     }
 }
 
-// The tables of a pair, and their sum.
-#[derive(Clone, Copy)]
-struct Standing {
-    evals: &'static [u64],
-    weights: &'static [u64],
-    sum: u64,
-}
-
-// What is sent in an order, and how the pair stands after each round.
-#[derive(Clone, Copy)]
+// An order, what is sent in it, and of each round the challenge and how the pair stands after it.
 struct Play {
     order: VariableOrder,
-    sent: &'static [(u64, u64)],
-    after_one: Standing,
-    after_two: Standing,
+    sent: &'static [Pair],
+    after: &'static [(u64, Standing)],
 }
 
 static PLAYS: [Play; 2] = [
     Play {
         order: VariableOrder::Prefix,
-        sent: &TWO,
-        after_one: Standing {
-            evals: &[7, 8],
-            weights: &[0, 65535],
-            sum: 65521,
-        },
-        after_two: Standing {
-            evals: &[11],
-            weights: &[65529],
-            sum: 65449,
-        },
+        sent: &[(2, 65535), (0, 65535)],
+        after: &[
+            (
+                3,
+                Standing {
+                    variables: 1,
+                    evals: &[7, 8],
+                    weights: &[0, 65535],
+                    sum: 65521,
+                },
+            ),
+            (
+                4,
+                Standing {
+                    variables: 0,
+                    evals: &[11],
+                    weights: &[65529],
+                    sum: 65449,
+                },
+            ),
+        ],
     },
     Play {
         order: VariableOrder::Suffix,
         sent: &[(0, 1), (12, 65531)],
-        after_one: Standing {
-            evals: &[4, 6],
-            weights: &[3, 0],
-            sum: 12,
-        },
-        after_two: Standing {
-            evals: &[12],
-            weights: &[65528],
-            sum: 65429,
-        },
+        after: &[
+            (
+                3,
+                Standing {
+                    variables: 1,
+                    evals: &[4, 6],
+                    weights: &[3, 0],
+                    sum: 12,
+                },
+            ),
+            (
+                4,
+                Standing {
+                    variables: 0,
+                    evals: &[12],
+                    weights: &[65528],
+                    sum: 65429,
+                },
+            ),
+        ],
     },
 ];
 
-// Whether a pair and its sum stand so.
-fn stands(
-    alloc: Global,
+// The order, the number of variables, and the value at a point of as many coordinates.
+fn outline(
     pair: &ProductPolynomial<F65537, F65537>,
-    sum: F65537,
-    wanted: Standing,
-) -> Result<bool, NoMemory> {
-    let evals = pair.evals(alloc)?;
-    let weights = pair.weights(alloc)?;
-    Ok(
-        have_numbers(evals.as_slice(), wanted.evals)
-            && have_numbers(pair.evals_view(), wanted.evals)
-            && have_numbers(weights.as_slice(), wanted.weights)
-            && sum.index() == wanted.sum
-            && pair.dot_product() == sum,
-    )
-}
-
-// The pair of the table 1, 2, 3, 4 and of the weights 0, 1, 0, 0.
-fn pair_of(
-    alloc: Global,
-    order: VariableOrder,
-) -> Result<ProductPolynomial<F65537, F65537>, NoMemory>
-    ensures { IfOk result (λ p. variables_in p ≡ 2) }
-{
-    let evals = Poly::new(elements(alloc, &[1, 2, 3, 4])?);
-    let weights = Poly::new(elements(alloc, &[0, 1, 0, 0])?);
-    Ok(ProductPolynomial::new_unpacked(order, evals, weights))
+    at: &Point<F65537>,
+) -> (VariableOrder, usize, Option<u64>) {
+    let variables = pair.num_variables();
+    let value = if at.num_variables() == variables {
+        Some(pair.eval(at).index())
+    } else {
+        None
+    };
+    (pair.order(), variables, value)
 }
 
 #[test]
 fn a_pair_is_bound_at_the_challenges(rt: HostRuntime) {
     for play in &PLAYS {
         let mut challenger = scripted(rt.alloc(), &[3, 4], &[]).expect(&rt, "an answer");
-        let mut pair = pair_of(rt.alloc(), play.order).expect(&rt, "an answer");
+        let mut pair = pair_of(rt.alloc(), play.order, &[0, 1, 0, 0]).expect(&rt, "an answer");
         let mut data = SumcheckData::new(rt.alloc());
         let mut sum = pair.dot_product();
         assert_eq!(rt; sum.index(), 2);
-        assert!(rt; pair.order() == play.order);
-        assert_eq!(rt; pair.num_variables(), 2);
-        let row_one = Point::new(elements(rt.alloc(), &[0, 1]).expect(&rt, "an answer"));
-        assert_eq!(rt; pair.eval(&row_one).index(), 2);
-        let first = play_one(rt.alloc(), &mut challenger, &mut pair, &mut data, &mut sum).expect(
-            &rt,
-            "an answer",
-        );
-        assert_eq!(rt; first.index(), 3);
-        assert!(rt; stands(rt.alloc(), &pair, sum, play.after_one).expect(&rt, "an answer"));
-        let second = play_one(rt.alloc(), &mut challenger, &mut pair, &mut data, &mut sum).expect(
-            &rt,
-            "an answer",
-        );
-        assert_eq!(rt; second.index(), 4);
-        assert!(rt; stands(rt.alloc(), &pair, sum, play.after_two).expect(&rt, "an answer"));
-        let sent = data_of(rt.alloc(), play.sent, &[]).expect(&rt, "an answer");
-        assert!(rt; data.polynomial_evaluations() == sent.polynomial_evaluations());
+        let row_one = point(rt.alloc(), &[0, 1]).expect(&rt, "an answer");
+        assert!(rt; outline(&pair, &row_one) == (play.order, 2, Some(2)));
+        for (challenge, standing) in play.after {
+            let drawn = play_one(rt.alloc(), &mut challenger, &mut pair, &mut data, &mut sum);
+            assert!(rt; drawn == Ok(Some(of(*challenge))));
+            assert!(rt; stands(rt.alloc(), &pair, sum, standing) == Ok(true));
+        }
+        assert!(rt; are_pairs(data.polynomial_evaluations(), play.sent));
         assert_eq!(rt; challenger.events().len(), 2 * (ONE_ROUND + 3));
     }
 }

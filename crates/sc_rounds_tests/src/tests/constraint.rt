@@ -2,17 +2,21 @@
 ghost use Rattle.std.specs.Prelude.{◌≡◌, ◌^◌, length};
 ghost use Rattle.sc_rounds.specs.Products.{variables_in};
 
-use super::step::{one_claim, prover_of, scripted};
-use super::{data_of, elements, have_numbers, of};
-use sc_field::{F65537, Field};
+use super::step::{claim_is_true, one_claim, play, prover_of, scripted, stands};
+use super::{Pair, Standing, are_pairs, elements, of};
+use sc_challenger::Challenger;
+use sc_field::{ExtensionField, F65537, Field};
 use sc_rounds::{SumcheckData, SumcheckProver};
+use sc_statements::Constraint;
 use sc_table::{Basis, VariableOrder};
+use std::alloc::Global;
+use std::process::Abort;
 
 // A constraint on what the first of two rounds leaves: the value claimed at 2, what the second round then sends, and the claims before and after it.
 struct Between {
     order: VariableOrder,
     value: u64,
-    sent: (u64, u64),
+    sent: Pair,
     claim: u64,
     left: u64,
 }
@@ -34,66 +38,54 @@ static BETWEEN: [Between; 2] = [
     },
 ];
 
+// Plays a round without a test on one challenger, replays it on the other, and answers its data.
+fn round_in_step<F: Field, EF: ExtensionField<F>, C: Challenger<F>, A: Abort>(
+    rt: &A,
+    alloc: Global,
+    prover: &mut SumcheckProver<F, EF>,
+    prover_side: &mut C,
+    verifier_side: &mut C,
+    claim: &mut EF,
+    constraint: Option<Constraint<F, EF>>,
+) -> SumcheckData<F, EF> {
+    let mut data = SumcheckData::new(alloc);
+    play(rt, alloc, prover, &mut data, prover_side, 1, 0, constraint);
+    data.verify_rounds(alloc, verifier_side, claim, 1, 0, Basis::Evaluation)
+        .expect(rt, "an answer");
+    data
+}
+
 #[test]
 fn a_constraint_is_taken_in_between_batches(rt: HostRuntime) {
     for row in &BETWEEN {
         let mut prover = prover_of(rt.alloc(), row.order, &[0, 1, 0, 0]).expect(&rt, "an answer");
         let mut prover_side = scripted(rt.alloc()).expect(&rt, "an answer");
         let mut verifier_side = scripted(rt.alloc()).expect(&rt, "an answer");
-        let mut first = SumcheckData::new(rt.alloc());
-        prover
-            .compute_sumcheck_polynomials(rt.alloc(), &mut first, &mut prover_side, 1, 0, None)
-            .expect(&rt, "an answer");
         let mut claim = of(2);
-        first
-            .verify_rounds(
-                rt.alloc(),
-                &mut verifier_side,
-                &mut claim,
-                1,
-                0,
-                Basis::Evaluation,
-            )
-            .expect(&rt, "an answer");
-        let wrong = one_claim(rt.alloc(), &[2], row.value + 1).expect(&rt, "an answer");
-        assert!(rt;
-            !prover
-                .constraint_is_true(rt.alloc(), &wrong)
-                .expect(&rt, "an answer")
+        round_in_step(
+            &rt,
+            rt.alloc(),
+            &mut prover,
+            &mut prover_side,
+            &mut verifier_side,
+            &mut claim,
+            None,
         );
+        assert!(rt; claim_is_true(rt.alloc(), &mut prover, &[2], row.value + 1) == Ok(false));
         let right = one_claim(rt.alloc(), &[2], row.value).expect(&rt, "an answer");
-        assert!(rt;
-            prover
-                .constraint_is_true(rt.alloc(), &right)
-                .expect(&rt, "an answer")
-        );
         right.combine_evals(&mut claim);
         assert_eq!(rt; claim.index(), row.claim);
-        let mut second = SumcheckData::new(rt.alloc());
-        prover
-            .compute_sumcheck_polynomials(
-                rt.alloc(),
-                &mut second,
-                &mut prover_side,
-                1,
-                0,
-                Some(right),
-            )
-            .expect(&rt, "an answer");
-        let sent = data_of(rt.alloc(), &[row.sent], &[]).expect(&rt, "an answer");
-        assert!(rt; second.polynomial_evaluations() == sent.polynomial_evaluations());
-        second
-            .verify_rounds(
-                rt.alloc(),
-                &mut verifier_side,
-                &mut claim,
-                1,
-                0,
-                Basis::Evaluation,
-            )
-            .expect(&rt, "an answer");
-        assert_eq!(rt; claim.index(), row.left);
-        assert_eq!(rt; prover.claimed_sum().index(), row.left);
+        let second = round_in_step(
+            &rt,
+            rt.alloc(),
+            &mut prover,
+            &mut prover_side,
+            &mut verifier_side,
+            &mut claim,
+            Some(right),
+        );
+        assert!(rt; are_pairs(second.polynomial_evaluations(), &[row.sent]));
+        assert!(rt; (claim.index(), prover.claimed_sum().index()) == (row.left, row.left));
         assert!(rt; prover_side.events() == verifier_side.events());
     }
 }
@@ -114,6 +106,13 @@ fn add_claim(
     is_true
 }
 
+static ADDED: Standing = Standing {
+    variables: 2,
+    evals: &[1, 2, 3, 4],
+    weights: &[5, 1, 0, 0],
+    sum: 7,
+};
+
 #[test]
 fn a_claim_is_added_row_by_row(rt: HostRuntime) {
     let mut prover = prover_of(rt.alloc(), VariableOrder::Suffix, &[5, 0, 0, 1]).expect(
@@ -124,15 +123,5 @@ fn a_claim_is_added_row_by_row(rt: HostRuntime) {
     let delta = elements(rt.alloc(), &[0, 1, 0, 65536]).expect(&rt, "an answer");
     assert!(rt; !add_claim(&mut prover, &delta, of(2)));
     assert!(rt; add_claim(&mut prover, &delta, of(65535)));
-    assert_eq!(rt; prover.claimed_sum().index(), 7);
-    assert!(rt; have_numbers(prover.evals_view(), &[1, 2, 3, 4]));
-    assert!(rt;
-        have_numbers(
-            prover
-                .weights(rt.alloc())
-                .expect(&rt, "an answer")
-                .as_slice(),
-            &[5, 1, 0, 0]
-        )
-    );
+    assert!(rt; stands(rt.alloc(), &mut prover, &ADDED) == Ok(true));
 }

@@ -1,48 +1,31 @@
 //! Provers with their verifiers, by figures by hand and from a script that is no part of this.
-ghost use Rattle.std.specs.Prelude.{◌≡◌, IfOk, length};
+ghost use Rattle.std.specs.Prelude.{◌≡◌, IfOk, IsTrue, length};
 ghost use Rattle.sc_statements.specs.EqStatements.{eq_arity};
 ghost use Rattle.sc_statements.specs.Constraints.{constraint_arity};
-ghost use Rattle.sc_table.specs.Polys.{variables_of};
-ghost use Rattle.sc_rounds.specs.Products.{variables_in};
+ghost use Rattle.sc_rounds.specs.Products.{variables_in, evals_in};
+ghost use Rattle.sc_rounds.specs.Provers.{IsTrueIfSome};
 
-use super::{elements, have_numbers, of};
+use super::{Standing, are_standing, have_numbers, of, pair_of, point};
 use sc_challenger::{Challenger, ScriptedChallenger};
-use sc_field::{F65537, Field, NoMemory};
+use sc_field::{ExtensionField, F65537, Field, NoMemory};
 use sc_rounds::{
-    EvalConstraints, ProductPolynomial, SumcheckData, SumcheckProver, SumcheckShape, batch_in_step,
-    replay_laws, shape_laws,
+    EvalConstraints, SumcheckData, SumcheckProver, SumcheckShape, batch_in_step, replay_laws,
+    shape_laws,
 };
 use sc_statements::{Constraint, EqStatement, Statements};
-use sc_table::{Basis, Point, Poly, VariableOrder};
+use sc_table::{Basis, Point, VariableOrder};
 use std::alloc::Global;
+use std::process::Abort;
 
-// The point of these numbers.
-pub(crate) fn point(alloc: Global, numbers: &[u64]) -> Result<Point<F65537>, NoMemory>
-    ensures { IfOk result (λ p. length p ≡ length numbers.now) }
-{
-    Ok(Point::new(elements(alloc, numbers)?))
-}
+static GOOD: [&[u64]; 2] = [&[9, 5], &[6]];
 
 // A challenger that draws 3 and 4, and whose tests 5, 9 and 6 pass, in this order.
-pub(crate) fn scripted(alloc: Global) -> Result<ScriptedChallenger<F65537>, NoMemory>
-    ensures { IfOk result (λ c. (⟦<ScriptedChallenger<F65537> as Challenger<F65537>>⟧.rules c).max_bits ≡ 16) }
-{
-    let mut good = Vec::new(alloc);
-    good.push(elements(alloc, &[9, 5])?)?;
-    good.push(elements(alloc, &[6])?)?;
-    Ok(ScriptedChallenger::new(alloc, elements(alloc, &[3, 4])?, good))
-}
-
-// The table of these four values.
-fn table(alloc: Global, values: &[u64]) -> Result<Poly<F65537>, NoMemory>
-    requires { length values.now ≡ 4 }
-    ensures { IfOk result (λ p. variables_of p ≡ 2) }
-{
-    Ok(Poly::new(elements(alloc, values)?))
+pub(super) fn scripted(alloc: Global) -> Result<ScriptedChallenger<F65537>, NoMemory> {
+    super::scripted(alloc, &[3, 4], &GOOD)
 }
 
 // The prover of the table 1, 2, 3, 4 and of these four weights.
-pub(crate) fn prover_of(
+pub(super) fn prover_of(
     alloc: Global,
     order: VariableOrder,
     weights: &[u64],
@@ -50,8 +33,7 @@ pub(crate) fn prover_of(
     requires { length weights.now ≡ 4 }
     ensures { IfOk result (λ p. variables_in p.poly ≡ 2) }
 {
-    let evals = table(alloc, &[1, 2, 3, 4])?;
-    let pair = ProductPolynomial::new_unpacked(order, evals, table(alloc, weights)?);
+    let pair = pair_of(alloc, order, weights)?;
     let sum = pair.dot_product();
     Ok(SumcheckProver::new(pair, sum))
 }
@@ -66,7 +48,7 @@ fn claim(alloc: Global, coords: &[u64], value: u64) -> Result<EqStatement<F65537
 }
 
 // The constraint of one value at a point, under the challenge 1.
-pub(crate) fn one_claim(
+pub(super) fn one_claim(
     alloc: Global,
     coords: &[u64],
     value: u64,
@@ -88,111 +70,293 @@ fn three_claims(alloc: Global) -> Result<Constraint<F65537, F65537>, NoMemory>
     Ok(Constraint::new(of(7), 2, groups))
 }
 
-#[test]
-fn prover_and_verifier_stay_in_step(rt: HostRuntime) {
-    for (order, left) in [
-        (VariableOrder::Prefix, 65449),
-        (VariableOrder::Suffix, 65429),
-    ] {
-        let mut prover = prover_of(rt.alloc(), order, &[0, 1, 0, 0]).expect(&rt, "an answer");
-        assert_eq!(rt; prover.claimed_sum().index(), 2);
-        let mut data = SumcheckData::new(rt.alloc());
-        let mut one_side = scripted(rt.alloc()).expect(&rt, "an answer");
-        let mut other_side = one_side.copy(rt.alloc()).expect(&rt, "an answer");
-        let (drawn, replayed, claim) = batch_in_step(
-            rt.alloc(),
+// Whether a constraint, if there is one, is true of a prover.
+fn is_true<F: Field, EF: ExtensionField<F>>(
+    alloc: Global,
+    prover: &mut SumcheckProver<F, EF>,
+    constraint: &Option<Constraint<F, EF>>,
+) -> Result<bool, NoMemory>
+    ensures kept { prover.new ≡ prover.old }
+    ensures told { IfOk result (λ told. IsTrue told → IsTrueIfSome EF.ops (λ x. EF.embedding (F.number x)) EF.number (variables_in prover.old.poly) (evals_in EF.number prover.old.poly) constraint.now) }
+{
+    match constraint {
+        Some(constraint) => prover.constraint_is_true(alloc, constraint),
+        None => Ok(true),
+    }
+}
+
+// Plays a batch with a constraint that has to be true. The batch has at most as many rounds as there are variables, and a difficulty that the challenger
+// takes. The constraint is let go on no path, which would have to be proved.
+pub(super) fn play<F: Field, EF: ExtensionField<F>, C: Challenger<F>, A: Abort>(
+    rt: &A,
+    alloc: Global,
+    prover: &mut SumcheckProver<F, EF>,
+    data: &mut SumcheckData<F, EF>,
+    challenger: &mut C,
+    rounds: usize,
+    pow_bits: usize,
+    constraint: Option<Constraint<F, EF>>,
+) -> Point<EF> {
+    let holds = is_true(alloc, prover, &constraint).expect(rt, "an answer");
+    assert!(rt; holds);
+    let rounds = rounds.min(prover.num_variables());
+    let pow_bits = pow_bits.min(challenger.max_bits());
+    prover
+        .compute_sumcheck_polynomials(alloc, data, challenger, rounds, pow_bits, constraint)
+        .expect(rt, "an answer")
+}
+
+// A batch, its challenges and witnesses, and the claim that it leaves.
+struct Batch {
+    rounds: usize,
+    pow_bits: usize,
+    drawn: &'static [u64],
+    witnesses: &'static [u64],
+    left: u64,
+}
+
+// The first part of a batch that is not as wanted, if there is one.
+fn wrong_part<F: Field, EF: ExtensionField<F>>(
+    wanted: &Batch,
+    sides: &(Point<EF>, Point<EF>, EF),
+    data: &SumcheckData<F, EF>,
+    sum: EF,
+) -> Option<&'static str> {
+    let (drawn, replayed, claim) = sides;
+    if !have_numbers(drawn.as_slice(), wanted.drawn) {
+        Some("drawn")
+    } else if !have_numbers(replayed.as_slice(), wanted.drawn) {
+        Some("replayed")
+    } else if !have_numbers(&data.pow_witnesses, wanted.witnesses) {
+        Some("witnesses")
+    } else if claim.index() != wanted.left || sum.index() != wanted.left {
+        Some("claim")
+    } else {
+        None
+    }
+}
+
+// Plays a batch with a constraint that has to be true on both sides.
+fn assert_batch<F: Field, EF: ExtensionField<F>, C: Challenger<F>, A: Abort>(
+    rt: &A,
+    alloc: Global,
+    prover: &mut SumcheckProver<F, EF>,
+    one_side: &mut C,
+    other_side: &mut C,
+    constraint: Option<Constraint<F, EF>>,
+    batch: &Batch,
+)
+    requires rules { C.rules other_side.old ≡ C.rules one_side.old }
+    requires history { C.history other_side.old ≡ C.history one_side.old }
+    ensures rules { C.rules other_side.new ≡ C.rules one_side.new }
+    ensures history { C.history other_side.new ≡ C.history one_side.new }
+{
+    let holds = is_true(alloc, prover, &constraint).expect(rt, "an answer");
+    assert!(rt; holds);
+    let rounds = batch.rounds.min(prover.num_variables());
+    let pow_bits = batch.pow_bits.min(one_side.max_bits());
+    let mut data = SumcheckData::new(alloc);
+    let sides = batch_in_step(
+        alloc, prover, &mut data, one_side, other_side, rounds, pow_bits, constraint,
+    )
+    .expect(rt, "an answer");
+    assert_eq!(rt;
+        wrong_part(batch, &sides, &data, prover.claimed_sum()),
+        None
+    );
+}
+
+// A prover by its order and weights, its claim, and one or two batches.
+struct InStep {
+    order: VariableOrder,
+    weights: [u64; 4],
+    sum: u64,
+    first: Batch,
+    second: Option<Batch>,
+}
+
+static WITHOUT_CONSTRAINT: [InStep; 2] = [
+    InStep {
+        order: VariableOrder::Prefix,
+        weights: [0, 1, 0, 0],
+        sum: 2,
+        first: Batch {
+            rounds: 2,
+            pow_bits: 1,
+            drawn: &[3, 4],
+            witnesses: &[5, 6],
+            left: 65449,
+        },
+        second: None,
+    },
+    InStep {
+        order: VariableOrder::Suffix,
+        weights: [0, 1, 0, 0],
+        sum: 2,
+        first: Batch {
+            rounds: 2,
+            pow_bits: 1,
+            drawn: &[3, 4],
+            witnesses: &[5, 6],
+            left: 65429,
+        },
+        second: None,
+    },
+];
+
+static WITH_CONSTRAINT: [InStep; 2] = [
+    InStep {
+        order: VariableOrder::Prefix,
+        weights: [5, 0, 0, 1],
+        sum: 9,
+        first: Batch {
+            rounds: 2,
+            pow_bits: 1,
+            drawn: &[3, 4],
+            witnesses: &[5, 6],
+            left: 374,
+        },
+        second: None,
+    },
+    InStep {
+        order: VariableOrder::Suffix,
+        weights: [5, 0, 0, 1],
+        sum: 9,
+        first: Batch {
+            rounds: 2,
+            pow_bits: 1,
+            drawn: &[3, 4],
+            witnesses: &[5, 6],
+            left: 396,
+        },
+        second: None,
+    },
+];
+
+static TWO_BATCHES: [InStep; 2] = [
+    InStep {
+        order: VariableOrder::Prefix,
+        weights: [0, 1, 0, 0],
+        sum: 2,
+        first: Batch {
+            rounds: 1,
+            pow_bits: 0,
+            drawn: &[3],
+            witnesses: &[],
+            left: 65521,
+        },
+        second: Some(Batch {
+            rounds: 1,
+            pow_bits: 0,
+            drawn: &[4],
+            witnesses: &[],
+            left: 65449,
+        }),
+    },
+    InStep {
+        order: VariableOrder::Suffix,
+        weights: [0, 1, 0, 0],
+        sum: 2,
+        first: Batch {
+            rounds: 1,
+            pow_bits: 0,
+            drawn: &[3],
+            witnesses: &[],
+            left: 12,
+        },
+        second: Some(Batch {
+            rounds: 1,
+            pow_bits: 0,
+            drawn: &[4],
+            witnesses: &[],
+            left: 65429,
+        }),
+    },
+];
+
+fn assert_in_step<A: Abort>(
+    rt: &A,
+    alloc: Global,
+    row: &InStep,
+    constraint: Option<Constraint<F65537, F65537>>,
+) {
+    let mut prover = prover_of(alloc, row.order, &row.weights).expect(rt, "an answer");
+    assert_eq!(rt; prover.claimed_sum().index(), row.sum);
+    let mut one_side = scripted(alloc).expect(rt, "an answer");
+    let mut other_side = one_side.copy(alloc).expect(rt, "an answer");
+    assert_batch(
+        rt,
+        alloc,
+        &mut prover,
+        &mut one_side,
+        &mut other_side,
+        constraint,
+        &row.first,
+    );
+    if let Some(second) = &row.second {
+        assert_batch(
+            rt,
+            alloc,
             &mut prover,
-            &mut data,
             &mut one_side,
             &mut other_side,
-            2,
-            1,
             None,
-        )
-        .expect(&rt, "an answer");
-        assert!(rt; have_numbers(drawn.as_slice(), &[3, 4]));
-        assert!(rt; have_numbers(replayed.as_slice(), &[3, 4]));
-        assert!(rt; have_numbers(&data.pow_witnesses, &[5, 6]));
-        assert_eq!(rt; claim.index(), left);
-        assert_eq!(rt; prover.claimed_sum().index(), left);
-        assert!(rt; one_side.events() == other_side.events());
+            second,
+        );
+    }
+    assert!(rt; one_side.events() == other_side.events());
+}
+
+#[test]
+fn prover_and_verifier_stay_in_step(rt: HostRuntime) {
+    for row in &WITHOUT_CONSTRAINT {
+        assert_in_step(&rt, rt.alloc(), row, None);
     }
 }
 
 #[test]
 fn a_batch_stays_in_step_with_its_constraint(rt: HostRuntime) {
-    for (order, left) in [(VariableOrder::Prefix, 374), (VariableOrder::Suffix, 396)] {
-        let mut prover = prover_of(rt.alloc(), order, &[5, 0, 0, 1]).expect(&rt, "an answer");
-        assert_eq!(rt; prover.claimed_sum().index(), 9);
+    for row in &WITH_CONSTRAINT {
         let constraint = one_claim(rt.alloc(), &[0, 1], 2).expect(&rt, "an answer");
-        assert!(rt;
-            prover
-                .constraint_is_true(rt.alloc(), &constraint)
-                .expect(&rt, "an answer")
-        );
-        let mut data = SumcheckData::new(rt.alloc());
-        let mut one_side = scripted(rt.alloc()).expect(&rt, "an answer");
-        let mut other_side = one_side.copy(rt.alloc()).expect(&rt, "an answer");
-        let (drawn, replayed, claim) = batch_in_step(
-            rt.alloc(),
-            &mut prover,
-            &mut data,
-            &mut one_side,
-            &mut other_side,
-            2,
-            1,
-            Some(constraint),
-        )
-        .expect(&rt, "an answer");
-        assert!(rt; have_numbers(drawn.as_slice(), &[3, 4]));
-        assert!(rt; have_numbers(replayed.as_slice(), &[3, 4]));
-        assert_eq!(rt; claim.index(), left);
-        assert_eq!(rt; prover.claimed_sum().index(), left);
-        assert!(rt; one_side.events() == other_side.events());
+        assert_in_step(&rt, rt.alloc(), row, Some(constraint));
     }
 }
 
 #[test]
 fn batches_follow_on_each_other(rt: HostRuntime) {
     replay_laws::<F65537>();
-    for (order, between, left) in [
-        (VariableOrder::Prefix, 65521, 65449),
-        (VariableOrder::Suffix, 12, 65429),
-    ] {
-        let mut prover = prover_of(rt.alloc(), order, &[0, 1, 0, 0]).expect(&rt, "an answer");
-        let mut one_side = scripted(rt.alloc()).expect(&rt, "an answer");
-        let mut other_side = one_side.copy(rt.alloc()).expect(&rt, "an answer");
-        let mut data = SumcheckData::new(rt.alloc());
-        let (first, _, claim) = batch_in_step(
-            rt.alloc(),
-            &mut prover,
-            &mut data,
-            &mut one_side,
-            &mut other_side,
-            1,
-            0,
-            None,
-        )
-        .expect(&rt, "an answer");
-        assert!(rt; have_numbers(first.as_slice(), &[3]));
-        assert_eq!(rt; claim.index(), between);
-        let mut data = SumcheckData::new(rt.alloc());
-        let (_, second, claim) = batch_in_step(
-            rt.alloc(),
-            &mut prover,
-            &mut data,
-            &mut one_side,
-            &mut other_side,
-            1,
-            0,
-            None,
-        )
-        .expect(&rt, "an answer");
-        assert!(rt; have_numbers(second.as_slice(), &[4]));
-        assert_eq!(rt; claim.index(), left);
-        assert!(rt; one_side.events() == other_side.events());
+    for row in &TWO_BATCHES {
+        assert_in_step(&rt, rt.alloc(), row, None);
     }
 }
+
+static SHAPES: [SumcheckShape; 5] = [
+    SumcheckShape {
+        num_rounds: 1,
+        pow_bits: 0,
+        basis: Basis::Evaluation,
+    },
+    SumcheckShape {
+        num_rounds: 2,
+        pow_bits: 0,
+        basis: Basis::Evaluation,
+    },
+    SumcheckShape {
+        num_rounds: 1,
+        pow_bits: 1,
+        basis: Basis::Evaluation,
+    },
+    SumcheckShape {
+        num_rounds: 1,
+        pow_bits: 2,
+        basis: Basis::Evaluation,
+    },
+    SumcheckShape {
+        num_rounds: 1,
+        pow_bits: 0,
+        basis: Basis::Projective,
+    },
+];
 
 // A challenger that has observed the seed of a shape, over a field as its own extension.
 fn seeded(alloc: Global, shape: SumcheckShape) -> Result<ScriptedChallenger<F65537>, NoMemory> {
@@ -201,44 +365,91 @@ fn seeded(alloc: Global, shape: SumcheckShape) -> Result<ScriptedChallenger<F655
     Ok(challenger)
 }
 
+// Whether two shapes have the same seed.
+fn have_one_seed(
+    alloc: Global,
+    shape: SumcheckShape,
+    other: SumcheckShape,
+) -> Result<bool, NoMemory> {
+    Ok(seeded(alloc, shape)?.events() == seeded(alloc, other)?.events())
+}
+
 #[test]
 fn shapes_have_seeds_of_their_own(rt: HostRuntime) {
     shape_laws();
-    let shapes = [
-        SumcheckShape::new(1, 0, Basis::Evaluation),
-        SumcheckShape::new(2, 0, Basis::Evaluation),
-        SumcheckShape::new(1, 1, Basis::Evaluation),
-        SumcheckShape::new(1, 2, Basis::Evaluation),
-        SumcheckShape::new(1, 0, Basis::Projective),
-    ];
-    for (i, shape) in shapes.iter().enumerate() {
-        let seed = seeded(rt.alloc(), *shape).expect(&rt, "an answer");
-        for (j, other) in shapes.iter().enumerate() {
-            let other_seed = seeded(rt.alloc(), *other).expect(&rt, "an answer");
-            assert_eq!(rt; seed.events() == other_seed.events(), i == j);
+    for (i, shape) in SHAPES.iter().enumerate() {
+        for (j, other) in SHAPES.iter().enumerate() {
+            assert_eq!(rt; have_one_seed(rt.alloc(), *shape, *other), Ok(i == j));
         }
     }
 }
 
+static TAKEN_IN: Standing = Standing {
+    variables: 2,
+    evals: &[1, 2, 3, 4],
+    weights: &[0, 1, 0, 0],
+    sum: 2,
+};
+
 #[test]
 fn a_constraint_is_combined_into_a_pair(rt: HostRuntime) {
-    let evals = table(rt.alloc(), &[1, 2, 3, 4]).expect(&rt, "an answer");
-    let weights = table(rt.alloc(), &[0, 0, 0, 0]).expect(&rt, "an answer");
-    let mut pair = ProductPolynomial::new_unpacked(VariableOrder::Suffix, evals, weights);
+    let mut pair = pair_of(rt.alloc(), VariableOrder::Suffix, &[0, 0, 0, 0]).expect(
+        &rt,
+        "an answer",
+    );
     let mut sum = pair.dot_product();
     assert_eq!(rt; sum.index(), 0);
     let constraint = one_claim(rt.alloc(), &[0, 1], 2).expect(&rt, "an answer");
     pair.combine(rt.alloc(), &mut sum, &constraint)
         .expect(&rt, "an answer");
-    assert!(rt;
-        have_numbers(
-            pair.weights(rt.alloc()).expect(&rt, "an answer").as_slice(),
-            &[0, 1, 0, 0]
-        )
-    );
-    assert!(rt; have_numbers(pair.evals_view(), &[1, 2, 3, 4]));
-    assert_eq!(rt; sum.index(), 2);
+    assert!(rt; super::stands(rt.alloc(), &pair, sum, &TAKEN_IN) == Ok(true));
 }
+
+// Whether a prover's tables and its claim stand so.
+pub(super) fn stands(
+    alloc: Global,
+    prover: &mut SumcheckProver<F65537, F65537>,
+    wanted: &Standing,
+) -> Result<bool, NoMemory> {
+    let evals = prover.evals(alloc)?;
+    let weights = prover.weights(alloc)?;
+    let sum = prover.claimed_sum().index();
+    Ok(
+        are_standing(&evals, &weights, sum, wanted)
+            && prover.num_variables() == wanted.variables
+            && have_numbers(prover.evals_view(), wanted.evals),
+    )
+}
+
+// Whether the constraint of one value at a point is true of a prover.
+pub(super) fn claim_is_true(
+    alloc: Global,
+    prover: &mut SumcheckProver<F65537, F65537>,
+    coords: &[u64],
+    value: u64,
+) -> Result<bool, NoMemory> {
+    is_true(alloc, prover, &Some(one_claim(alloc, coords, value)?))
+}
+
+// The value of a prover's table at a point of as many coordinates as there are variables.
+fn value_at(
+    alloc: Global,
+    prover: &mut SumcheckProver<F65537, F65537>,
+    coords: &[u64],
+) -> Result<Option<u64>, NoMemory> {
+    let at = point(alloc, coords)?;
+    if at.num_variables() != prover.num_variables() {
+        return Ok(None);
+    }
+    Ok(Some(prover.eval(&at).index()))
+}
+
+static BOUND: Standing = Standing {
+    variables: 1,
+    evals: &[7, 8],
+    weights: &[0, 65535],
+    sum: 65521,
+};
 
 #[test]
 fn a_true_constraint_is_taken_in(rt: HostRuntime) {
@@ -247,82 +458,45 @@ fn a_true_constraint_is_taken_in(rt: HostRuntime) {
         "an answer",
     );
     assert_eq!(rt; prover.claimed_sum().index(), 0);
-    assert!(rt;
-        !prover
-            .constraint_is_true(
-                rt.alloc(),
-                &one_claim(rt.alloc(), &[0, 1], 3).expect(&rt, "an answer")
-            )
-            .expect(&rt, "an answer")
-    );
-    assert!(rt;
-        !prover
-            .constraint_is_true(
-                rt.alloc(),
-                &one_claim(rt.alloc(), &[0], 2).expect(&rt, "an answer")
-            )
-            .expect(&rt, "an answer")
-    );
+    assert!(rt; claim_is_true(rt.alloc(), &mut prover, &[0, 1], 3) == Ok(false));
+    assert!(rt; claim_is_true(rt.alloc(), &mut prover, &[0], 2) == Ok(false));
     let right = one_claim(rt.alloc(), &[0, 1], 2).expect(&rt, "an answer");
-    assert!(rt;
-        prover
-            .constraint_is_true(rt.alloc(), &right)
-            .expect(&rt, "an answer")
-    );
     let mut data = SumcheckData::new(rt.alloc());
     let mut challenger = scripted(rt.alloc()).expect(&rt, "an answer");
-    let none = prover
-        .compute_sumcheck_polynomials(rt.alloc(), &mut data, &mut challenger, 0, 0, Some(right))
-        .expect(&rt, "an answer");
-    assert_eq!(rt; none.num_variables(), 0);
-    assert_eq!(rt; prover.claimed_sum().index(), 2);
-    assert!(rt;
-        have_numbers(
-            prover
-                .weights(rt.alloc())
-                .expect(&rt, "an answer")
-                .as_slice(),
-            &[0, 1, 0, 0]
-        )
+    let none = play(
+        &rt,
+        rt.alloc(),
+        &mut prover,
+        &mut data,
+        &mut challenger,
+        0,
+        0,
+        Some(right),
     );
-    let first = prover
-        .compute_sumcheck_polynomials(rt.alloc(), &mut data, &mut challenger, 1, 0, None)
-        .expect(&rt, "an answer");
+    assert_eq!(rt; none.num_variables(), 0);
+    assert!(rt; stands(rt.alloc(), &mut prover, &TAKEN_IN) == Ok(true));
+    let first = play(
+        &rt,
+        rt.alloc(),
+        &mut prover,
+        &mut data,
+        &mut challenger,
+        1,
+        0,
+        None,
+    );
     assert!(rt; have_numbers(first.as_slice(), &[3]));
-    assert_eq!(rt; prover.num_variables(), 1);
     assert!(rt; prover.order() == VariableOrder::Prefix);
     prover.settle();
-    assert!(rt;
-        have_numbers(
-            prover.evals(rt.alloc()).expect(&rt, "an answer").as_slice(),
-            &[7, 8]
-        )
-    );
-    assert!(rt;
-        have_numbers(
-            prover
-                .weights(rt.alloc())
-                .expect(&rt, "an answer")
-                .as_slice(),
-            &[0, 65535]
-        )
-    );
-    assert_eq!(rt;
-        prover
-            .eval(&point(rt.alloc(), &[4]).expect(&rt, "an answer"))
-            .index(),
-        11
-    );
+    assert!(rt; stands(rt.alloc(), &mut prover, &BOUND) == Ok(true));
+    assert!(rt; value_at(rt.alloc(), &mut prover, &[4]) == Ok(Some(11)));
 }
 
 #[test]
 fn constraints_have_their_values_at_the_last_challenges(rt: HostRuntime) {
     let three = three_claims(rt.alloc()).expect(&rt, "an answer");
-    let constraints = vec![in rt.alloc();
-        three,
-        one_claim(rt.alloc(), &[1, 0, 0], 0).expect(&rt, "an answer"),
-    ]
-    .expect(&rt, "an answer");
+    let one = one_claim(rt.alloc(), &[1, 0, 0], 0).expect(&rt, "an answer");
+    let constraints = vec![in rt.alloc(); three, one].expect(&rt, "an answer");
     let challenges = point(rt.alloc(), &[5, 3, 4]).expect(&rt, "an answer");
     for (order, wanted) in [
         (VariableOrder::Prefix, 17813),
