@@ -501,52 +501,30 @@ fn a_refusal_names_what_was_expected(rt: HostRuntime) {
     }
 }
 
-// A call for last rounds, with data or without: how many, their difficulty, the answer, the claim that is left, and how many events there are then.
-struct Last {
-    has_data: bool,
-    rounds: usize,
-    pow_bits: usize,
-    answer: Result<&'static [u64], SumcheckError>,
-    claim_left: u64,
-    events: usize,
-}
+// A call for last rounds: whether it has data, how many rounds it wants, their difficulty, the answer, and what is left: the claim, and how many events
+// there are then.
+type Last = (
+    bool,
+    usize,
+    usize,
+    Result<&'static [u64], SumcheckError>,
+    (u64, usize),
+);
 
 static NO_LAST: [Last; 2] = [
-    Last {
-        has_data: false,
-        rounds: 0,
-        pow_bits: 99,
-        answer: Ok(&[]),
-        claim_left: 2,
-        events: 0,
-    },
-    Last {
-        has_data: true,
-        rounds: 0,
-        pow_bits: 99,
-        answer: Ok(&[]),
-        claim_left: 2,
-        events: 0,
-    },
+    (false, 0, 99, Ok(&[]), (2, 0)),
+    (true, 0, 99, Ok(&[]), (2, 0)),
 ];
 
 static LAST: [Last; 2] = [
-    Last {
-        has_data: false,
-        rounds: 2,
-        pow_bits: 0,
-        answer: Err(SumcheckError::MissingSumcheckData { expected_rounds: 2 }),
-        claim_left: 2,
-        events: 0,
-    },
-    Last {
-        has_data: true,
-        rounds: 2,
-        pow_bits: 0,
-        answer: Ok(&[3, 4]),
-        claim_left: 65449,
-        events: TWO_ROUNDS + 6,
-    },
+    (
+        false,
+        2,
+        0,
+        Err(SumcheckError::MissingSumcheckData { expected_rounds: 2 }),
+        (2, 0),
+    ),
+    (true, 2, 0, Ok(&[3, 4]), (65449, TWO_ROUNDS + 6)),
 ];
 
 // A difficulty for so many rounds that the challenger takes.
@@ -560,22 +538,22 @@ fn taken<F: Field, C: Challenger<F>>(challenger: &C, rounds: usize, pow_bits: us
     }
 }
 
-// Makes a call for last rounds.
+// Makes a call for so many last rounds, with data or without.
 fn last_rounds<F: Field, EF: ExtensionField<F>, C: Challenger<F>>(
     alloc: Global,
-    last: &Last,
-    data: &SumcheckData<F, EF>,
+    data: Option<&SumcheckData<F, EF>>,
     challenger: &mut C,
     claim: &mut EF,
+    rounds: usize,
+    pow_bits: usize,
 ) -> Result<Point<EF>, SumcheckError> {
-    let found = if last.has_data { Some(data) } else { None };
-    let pow_bits = taken::<F, C>(challenger, last.rounds, last.pow_bits);
+    let pow_bits = taken::<F, C>(challenger, rounds, pow_bits);
     verify_final_sumcheck_rounds(
         alloc,
-        found,
+        data,
         challenger,
         claim,
-        last.rounds,
+        rounds,
         pow_bits,
         Basis::Evaluation,
     )
@@ -586,10 +564,18 @@ fn assert_last<A: Abort>(rt: &A, alloc: Global, calls: &[Last]) {
     let data: SumcheckData<F65537, F65537> = data_of(alloc, &TWO, &[]).expect(rt, "an answer");
     let mut challenger = scripted(alloc, &[3, 4], &[]).expect(rt, "an answer");
     let mut claim = of(2);
-    for last in calls {
-        let answer = last_rounds(alloc, last, &data, &mut challenger, &mut claim);
-        assert!(rt; answers(&answer, last.answer));
-        assert!(rt; (claim.index(), challenger.events().len()) == (last.claim_left, last.events));
+    for (has_data, rounds, pow_bits, wanted, left) in calls {
+        let found = if *has_data { Some(&data) } else { None };
+        let answer = last_rounds(
+            alloc,
+            found,
+            &mut challenger,
+            &mut claim,
+            *rounds,
+            *pow_bits,
+        );
+        assert!(rt; answers(&answer, *wanted));
+        assert!(rt; (claim.index(), challenger.events().len()) == *left);
     }
 }
 
