@@ -55,3 +55,7 @@ returns-clause-weights g c = λ b low.
 
 pub returns-clause-claim : goal.returns-clause-claim
 returns-clause-claim g c = claim-batched g.EF.Field.ops _ _ (c.new.ensures.claim ∙ c.in_ok-weights.ensures.claim)
+
+-- the rounds go in the job's order
+pub returns-clause-order : goal.returns-clause-order
+returns-clause-order g c = c.new.ensures.order ∙ c.new_unpacked-poly.ensures.order
