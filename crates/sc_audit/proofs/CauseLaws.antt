@@ -1,5 +1,5 @@
 -- What a refusal is caused by.
-use Rattle.std.proofs.Common.{◌≡◌, ℕ, zero, suc, true, false, List, [], ◌∷◌, ◌++◌, take, Option, Some, None, Result, Ok, Err, OnErr, ◌⊎◌, refl, sym, ◌∙◌, ap, subst, append_assoc}
+use Rattle.std.proofs.Common.{rules, ◌≡◌, ℕ, zero, suc, true, false, List, [], ◌∷◌, ◌++◌, take, Option, Some, None, Result, Ok, Err, OnErr, ◌⊎◌, inl, inr, refl, sym, ◌∙◌, ap, subst, append_assoc}
 use Rattle.std.proofs.lemmas.List.{append-nil}
 use Rattle.std.specs.List.{slice_get}
 use Rattle.sc_definitions.specs.declared.events.Event.{Event}
@@ -11,8 +11,9 @@ use Rattle.sc_audit.specs.declared.error.AuditError.{AuditError}
 use Rattle.sc_audit.specs.declared.error.AuditError.TheVariants.{Unbuilt, JobShape, StrategyUnfit, FalseClaim, MissingSumcheckData, NoWitness, RoundCountMismatch, PowWitnessCountMismatch, InvalidPowWitness, NoMemory}
 use Rattle.sc_audit.specs.declared.error.Form.TheVariants.{Mode, Verdict}
 use Rattle.sc_audit.specs.Cases.{Case, Task, Given, build, check}
-use Rattle.sc_audit.specs.Refusals.{or_later, mode_refusal, shape_refusal, task_refusal, refusal_of}
-use Rattle.sc_audit.specs.Audits.{begun, IsLucky, IsBrokenOff, FailsAt, IsFailing, IsUnground, IsCaused, PassesAll, IsValid, MayMeet, IsUngroundResult}
+use Rattle.sc_audit.specs.Refusals.{or_later, mode_refusal, shape_refusal, missing_refusal, count_refusal, task_refusal, refusal_of}
+use Rattle.sc_audit.specs.Figures.{Figures}
+use Rattle.sc_audit.specs.Audits.{begun, IsAudited, IsLucky, IsBrokenOff, FailsAt, IsFailing, IsUnground, IsCaused, PassesAll, IsValid, MayMeet, IsUngroundResult}
 
 -- what holds of a refusal
 pub on_err : {T E : Type 0} {P : Type 0} (r : Result T E) (e : E) → r ≡ Err e → OnErr r P → P
@@ -70,6 +71,54 @@ module _ (first : Option AuditError) (o : Ops) (R : Rules) (E : Extension) (size
 
   pub caused-invalid : (given : Given) (i d : ℕ) → e ≡ InvalidPowWitness i d → d ≡ k.bits → FailsAt o R E h k given i h' → IsCaused first o R E size h k (check (Some given)) e h'
   caused-invalid given i d is same found = subst (λ t. IsCaused first o R E size h k (check (Some given)) t h') (sym is) (same, found)
+
+-- a proof of no rounds
+abbrev nothing : Given
+nothing = record { messages = []; witnesses = [] }
+
+no_round : {T : Type 0} {x : T} → ◌≡◌ {A = Option T} None (Some x) → ⊥
+no_round is = cc
+
+no_count : (bits : ℕ) → count_refusal 0 bits nothing ≡ None
+no_count bits = search rules
+
+-- without a variable no proof is refused for want of one
+pub none_missing : (n : ℕ) (e : AuditError) → n ≡ 0 → missing_refusal n ≡ Some e → ⊥
+none_missing n e none is = no_error e (sym (ap missing_refusal none) ∙ is)
+
+no_proof : (o : Ops) (R : Rules) (E : Extension) (h : List Event) (k : Case) (r : Figures) (h' : List Event) →
+    IsAudited o R E h k (check (Some nothing)) r h' → IsAudited o R E h k (check None) r h'
+no_proof o R E h k r h' a = record { rounds = a.rounds; are = a.are; plays = a.plays; figures = a.figures }
+
+module _ (o : Ops) (R : Rules) (E : Extension) (size : ℕ) (h : List Event) (k : Case) (h' : List Event) where
+  unrefused : (bits : ℕ) (e : AuditError) → count_refusal 0 bits nothing ≡ Some e → ⊥
+  unrefused bits e is = no_error e (sym (no_count bits) ∙ is)
+
+  -- what a proof of no rounds meets, an absent one does
+  caused-nothing : (bits : ℕ) (e : AuditError) → IsCaused (count_refusal 0 bits nothing) o R E size h k (check (Some nothing)) e h' →
+      IsCaused (missing_refusal 0) o R E size h k (check None) e h'
+  caused-nothing bits (Unbuilt Mode) found = absurd (unrefused bits (Unbuilt Mode) found.0)
+  caused-nothing bits (Unbuilt Verdict) found = record { report = found.report; audited = no_proof o R E h k found.report h' found.audited; lucky = found.lucky }
+  caused-nothing bits (JobShape fault) found = absurd (unrefused bits (JobShape fault) found.0)
+  caused-nothing bits (StrategyUnfit fault) found = absurd (unrefused bits (StrategyUnfit fault) found.0)
+  caused-nothing bits (FalseClaim i a b) found = absurd (unrefused bits (FalseClaim i a b) found.0)
+  caused-nothing bits (MissingSumcheckData n) found = absurd (unrefused bits (MissingSumcheckData n) found.0)
+  caused-nothing bits (RoundCountMismatch n m) found = absurd (unrefused bits (RoundCountMismatch n m) found.0)
+  caused-nothing bits (PowWitnessCountMismatch n m) found = absurd (unrefused bits (PowWitnessCountMismatch n m) found.0)
+  caused-nothing bits (InvalidPowWitness i d) found = (let clash : ⊥ = no_round found.1.at.is in absurd clash)
+  caused-nothing bits (NoWitness i) found = found
+  caused-nothing bits NoMemory (inl kept) = inl kept
+  caused-nothing bits NoMemory (inr some) = inr (record { rounds = some.rounds; are = some.are; count = some.count; played = some.played; passes = some.passes; history = some.history })
+
+  pub caused-none : (n bits : ℕ) (messages : List (List ℕ)) (witnesses : List ℕ) (e : AuditError) → n ≡ 0 → messages ≡ [] → witnesses ≡ [] →
+      IsCaused (count_refusal n bits (record { messages = messages; witnesses = witnesses })) o R E size h k (check (Some (record { messages = messages; witnesses = witnesses }))) e h' →
+      IsCaused (missing_refusal n) o R E size h k (check None) e h'
+  caused-none n bits messages witnesses e none no_messages no_witnesses found =
+      subst (λ m. IsCaused (missing_refusal m) o R E size h k (check None) e h') (sym none)
+      (caused-nothing bits e
+      (subst (λ m. IsCaused (count_refusal m bits nothing) o R E size h k (check (Some nothing)) e h') none
+      (subst (λ w. IsCaused (count_refusal n bits (record { messages = []; witnesses = w })) o R E size h k (check (Some (record { messages = []; witnesses = w }))) e h') no_witnesses
+      (subst (λ l. IsCaused (count_refusal n bits (record { messages = l; witnesses = witnesses })) o R E size h k (check (Some (record { messages = l; witnesses = witnesses }))) e h') no_messages found))))
 
 -- nothing earlier refuses: the refusal is that of what is done
 pub no_earlier : (o : Ops) (max_bits : ℕ) (k : Case) → mode_refusal k.task ≡ None → shape_refusal max_bits k ≡ None → refusal_of o max_bits k ≡ task_refusal o k.problem k.bits k.task

@@ -104,8 +104,7 @@ pub(crate) fn represented<
         Ok(challenges) => challenges,
         Err(error) => return Err(refusal(error)),
     };
-    let weight = prover.weights(alloc)?.as_slice()[0].into_transcript();
-    let eval = prover.evals(alloc)?.as_slice()[0].into_transcript();
+    let (eval, weight) = last_values(alloc, &mut prover)?;
     Ok(Built {
         claim,
         rounds,
@@ -113,6 +112,20 @@ pub(crate) fn represented<
         eval,
         weight,
     })
+}
+
+// What is left of the two tables of images where no variable is: the evaluation's element, and the weight's.
+fn last_values<F: Field, EF: ExtensionField<F>, R: IntoTranscriptField<EF>>(
+    alloc: Global,
+    prover: &mut ReprSumcheckProver<F, EF, R>,
+) -> Result<(EF, EF), NoMemory>
+    requires { variables_in prover.old.poly ≡ 0 }
+    ensures eval { IfOk result (λ p. EF.number p.0 ≡ evals_in (λ x. R.to_number (R.number x)) prover.old.poly 0) }
+    ensures weight { IfOk result (λ p. EF.number p.1 ≡ weights_in (λ x. R.to_number (R.number x)) prover.old.poly 0) }
+{
+    let weight = prover.weights(alloc)?.as_slice()[0].into_transcript();
+    let eval = prover.evals(alloc)?.as_slice()[0].into_transcript();
+    Ok((eval, weight))
 }
 
 // The prover of a job whose statements are true.

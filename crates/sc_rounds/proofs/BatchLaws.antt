@@ -1,5 +1,5 @@
 -- A batch of rounds, one round after the other.
-use Rattle.std.proofs.Common.{◌≡◌, ℕ, zero, suc, ◌+◌, ◌^◌, ◌<◌, List, [], ◌∷◌, ◌++◌, refl, ap, sym, ◌∙◌, ◌⊎◌, inl, inr, subst, arith, append_assoc, Result, Ok, Err, IfOk}
+use Rattle.std.proofs.Common.{◌≡◌, ℕ, zero, suc, ◌+◌, ◌^◌, ◌<◌, List, [], ◌∷◌, ◌++◌, refl, ap, sym, ◌∙◌, ◌⊎◌, inl, inr, subst, arith, append_assoc, Result, Ok, Err, IfOk, OnOk, IsErr, IsErrAnd, ◌≤◌}
 use Rattle.std.proofs.lemmas.List.{append-nil, map-append}
 use Rattle.sc_definitions.specs.declared.events.Event.{Event}
 use Rattle.sc_definitions.specs.Ring.{Ops, IsRing}
@@ -13,6 +13,7 @@ use Rattle.sc_definitions.proofs.PlayedLaws.{IsPlayed-none, IsPlayed-more}
 use Rattle.sc_transcript.specs.declared.error.SumcheckError.{SumcheckError}
 use Rattle.sc_transcript.specs.declared.error.SumcheckError.TheVariants.{NoMemory, NoWitness}
 use Rattle.sc_transcript.specs.Data.{witnesses_of}
+use Rattle.sc_transcript.specs.Invalid.{FindsNone}
 use Rattle.sc_rounds.specs.Products.{PlaysRound, EndsRound}
 use Rattle.sc_rounds.specs.Batches.{PlaysBatch, StopsBatch, FailsBatch}
 
@@ -140,3 +141,90 @@ module _ (order order₁ : Order) (o : Ops) (R : Rules) (E : Extension) (bits bi
       StopsBatch order o R E bits n f w claim h v f' w' claim' h' ms ws ms' ws'
   stopped_batch v f' w' claim' h' ms ws ms' ws' p =
       rw (← same_order, ← same_bits, ← same_size, ← same_claim, ← same_history) (p f w evals_at weights_at)
+
+-- ---- results
+
+-- a success is no refusal
+pub no_refusal : {T E : Type 0} (x : T) (e : E) → Ok x ≡ Err e → ⊥
+no_refusal x e is = cc
+
+-- two numbers that are one more than the same are the same
+pub one_less : (a b m n : ℕ) → a ≡ m + 1 → b ≡ n + 1 → a ≡ b → n ≡ m
+one_less a b m n first second same = omega arith
+
+-- a refusal says nothing of a success
+pub no_success : {T E : Type 0} (r : Result T E) (P : Type 0) → IsErr r → OnOk r P
+no_success (Ok x) P is = absurd cc
+no_success (Err e) P is = tt
+
+-- the want of memory is no want of a witness
+pub not_found : {T : Type 0} (r : Result T SumcheckError) (i : ℕ) → IsErrAnd r (λ e. e ≡ NoMemory) → r ≡ Err (NoWitness i) → ⊥
+not_found (Ok x) i memory witness = elim memory [ ]
+not_found (Err e) i memory witness = cc
+
+-- the want of memory, or of a witness
+pub caused : {T S : Type 0} (e : SumcheckError) (k : ℕ) →
+    (◌≡◌ {A = Result T SumcheckError} (Err e) (Err NoMemory)) ⊎ (◌≡◌ {A = Result T SumcheckError} (Err e) (Err (NoWitness k))) →
+    (◌≡◌ {A = Result S SumcheckError} (Err e) (Err NoMemory)) ⊎ FindsNone {T = S} (Err e)
+caused {T} {S} e k (inl none) = inl (let same : e ≡ NoMemory = cc in ap Err same)
+caused {T} {S} e k (inr found) = inr (let same : e ≡ NoWitness k = cc in rw same tt)
+
+-- where v variables are left after p rounds of n, no more than n are bound
+pub bound_at_most : (v v₀ p n m : ℕ) → v + p ≡ v₀ → p < n → n ≡ m → v₀ ≤ v + m
+bound_at_most v v₀ p n m left less same = omega arith
+
+pub no_more : (v n : ℕ) → v ≤ v + n
+no_more v n = omega arith
+
+pub as_many : (a b : ℕ) → a ≡ b → b ≤ a
+as_many a b same = omega arith
+
+-- a round that is not played: which one it is, and how many variables are left
+pub stopped_at : {T : Type 0} (r : Result T SumcheckError) (e : SumcheckError) (i k v v₀ n m : ℕ) → r ≡ Err e → e ≡ NoWitness i →
+    (r ≡ Err NoMemory) ⊎ (r ≡ Err (NoWitness k)) → v + k ≡ v₀ → k < n → n ≡ m → (i < m) × (v + i ≡ v₀)
+stopped_at r e i k v v₀ n m is told causes left less same =
+    let found = told_at r e i k is told causes in
+    let one : i ≡ k = cc in
+    (omega arith, omega arith)
+
+-- a variable is left as long as a round is
+pub some_left : (v v₀ p n : ℕ) → v + p ≡ v₀ → n ≤ v₀ → p < n → 0 < v
+some_left v v₀ p n left enough less = omega arith
+
+-- all rounds are played when none is left
+pub all_played : (p k n m : ℕ) → p ≡ k → m ≡ n → n ≤ k → k ≤ n → p ≡ m
+all_played p k n m same size low high = omega arith
+
+-- a round k below as many as there are, by other names
+pub less_at : (p k n m : ℕ) → p ≡ k → k < n → n ≡ m → p < m
+less_at p k n m same less size = omega arith
+
+pub room_at : (p k n m r : ℕ) → p ≡ k → k < n → n ≡ m → m ≤ r → p < r
+room_at p k n m r same less size room = omega arith
+
+pub sum_at : (v p k s : ℕ) → p ≡ k → v + k ≡ s → v + p ≡ s
+sum_at v p k s same is = omega arith
+
+-- the sum that stays is that of the pair that stays
+pub refused_sum : {Sum Pair : Type 0} (number : Sum → ℕ) (total : Pair → ℕ) (s s' : Sum) (p p' : Pair) → s' ≡ s → p' ≡ p → number s ≡ total p → number s' ≡ total p'
+refused_sum number total s s' p p' same_sum same_pair is = cc
+
+-- a refusal of one result, as that of another
+pub refused_for : {T S : Type 0} (e : SumcheckError) (k l : ℕ) → k ≡ l →
+    (◌≡◌ {A = Result T SumcheckError} (Err e) (Err NoMemory)) ⊎ (◌≡◌ {A = Result T SumcheckError} (Err e) (Err (NoWitness l))) →
+    (◌≡◌ {A = Result S SumcheckError} (Err e) (Err NoMemory)) ⊎ (◌≡◌ {A = Result S SumcheckError} (Err e) (Err (NoWitness k)))
+refused_for {T} {S} e k l same (inl none) = inl (let one : e ≡ NoMemory = cc in ap Err one)
+refused_for {T} {S} e k l same (inr found) = inr (let one : e ≡ NoWitness k = cc in ap Err one)
+
+-- on success so many variables are bound, by other names
+pub fewer_at : {T E : Type 0} (r : Result T E) (v k n s s₀ : ℕ) → k ≡ n → s ≡ s₀ → OnOk r (v + k ≡ s) → OnOk r (v + n ≡ s₀)
+fewer_at (Ok x) v k n s s₀ same size is = ap (λ b. v + b) (sym same) ∙ is ∙ size
+fewer_at (Err e) v k n s s₀ same size is = tt
+
+-- an order between numbers by other names
+pub fits : (a k v w : ℕ) → a ≡ k → v ≡ w → k ≤ w → a ≤ v
+fits a k v w same size low = omega arith
+
+-- one variable less, one round more
+pub less_by_one : (v v₀ p s : ℕ) → v₀ ≡ v + 1 → v₀ + p ≡ s → v + (p + 1) ≡ s
+less_by_one v v₀ p s fewer is = omega arith

@@ -1,6 +1,6 @@
 -- The last challenges as a point, and the sum over constraints.
 use Rattle.std.proofs.Common.{◌≡◌, ℕ, suc, ◌+◌, ◌-◌, ◌<◌, ◌≤◌, List, [], ◌∷◌, ◌++◌, length, reverse, get_or, Result, Ok, Err, IfOk, drop, map, sym, ◌∙◌, ap, refl, arith, add-one}
-use Rattle.std.proofs.lemmas.List.{length-map, map-append, length-append, reverse-append, drop_at, drop_all}
+use Rattle.std.proofs.lemmas.List.{length-map, map-append, length-append, length-reverse, reverse-append, drop_at, drop_all}
 use Rattle.std.proofs.Math.Seq.{drop-cons}
 use Rattle.sc_definitions.specs.Ring.{Ops, IsRing, plus, element}
 use Rattle.sc_definitions.proofs.RingLaws.{plus-zero, plus_assoc, plus_comm, element-small, element-plus, element-zero}
@@ -32,6 +32,15 @@ pub reversed_part : {X E : Type 0} (number : X → ℕ) (result : Result (List X
     IfOk result (λ p. map number p ≡ reverse ns)
 reversed_part number (Ok p) back ns is same = ap (map number) is ∙ map-reverse number back ∙ ap reverse (sym same)
 reversed_part number (Err e) back ns is same = tt
+
+-- and then it has as many coordinates
+pub reversed_size : {X E : Type 0} (result : Result (List X) E) (back : List X) (k : ℕ) → IfOk result (λ p. p ≡ reverse back) → length back ≡ k → IfOk result (λ p. length p ≡ k)
+reversed_size (Ok p) back k is size = ap length is ∙ length-reverse back ∙ size
+reversed_size (Err e) back k is size = tt
+
+-- what is left of a number is no more
+pub rest_within : (a b k : ℕ) → a ≡ b → a - k ≤ b
+rest_within a b k same = omega arith
 
 module _ {F EF : Type 0} (o : Ops) (ring : IsRing o) (of : F → ℕ) (number : EF → ℕ) (order : Order) (rs : List ℕ) where
   element-values : (cs : List (Constraint F EF)) → element o (constraints_value o of number order rs cs) ≡ constraints_value o of number order rs cs

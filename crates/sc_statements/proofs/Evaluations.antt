@@ -1,8 +1,8 @@
 -- Lists of weights with claimed values, and the statements that they are.
-use Rattle.std.proofs.Common.{◌≡◌, ℕ, zero, suc, ◌<◌, List, [], ◌∷◌, length, All, get_or, map, slice_index, nat_lt, IsTrue, ◌↔◌, sym, ◌∙◌, ap, subst, arith, lt-ltb}
+use Rattle.std.proofs.Common.{◌≡◌, ℕ, zero, suc, ◌<◌, List, [], ◌∷◌, ◌++◌, length, All, get_or, map, slice_index, nat_lt, Bool, true, false, if◌then◌else◌, IsTrue, ◌↔◌, sym, ◌∙◌, ap, subst, arith, lt-ltb}
 use Rattle.std.proofs.lemmas.Bool.{ltb-true}
 use Rattle.std.proofs.lemmas.List.{length-map}
-use Rattle.std.proofs.lemmas.List.Elements.{All-tail, All-cons}
+use Rattle.std.proofs.lemmas.List.Elements.{All-tail, All-cons, All-append}
 use Rattle.sc_definitions.specs.Statements.{Kind, Statement, arity_of}
 use Rattle.sc_statements.specs.declared.evaluated.EvaluatedConstraint.{EvaluatedConstraint}
 use Rattle.sc_statements.specs.Lists.{evaluated, evaluated_all}
@@ -19,6 +19,11 @@ eq-arities number n (c ∷ cs) fits =
     All-cons (λ s. arity_of n s.kind ≡ n) (evaluated (point_kind number) number c) (evaluated_all (point_kind number) number cs)
     (length-map c.weights number ∙ fits 0 c (omega arith)) (eq-arities number n cs (All-tail (λ d. length d.weights ≡ n) c cs fits))
 
+-- what all of a list have, all of it have as it was or with such as have it behind it
+pub all-kept : {X : Type 0} (P : X → Type 0) (added : Bool) (xs more ys : List X) → All P xs → All P more → ys ≡ (if added then xs ++ more else xs) → All P ys
+all-kept P true xs more ys old new is = subst (All P) (sym is) (All-append P xs more old new)
+all-kept P false xs more ys old new is = subst (All P) (sym is) old
+
 -- ---- one at a place
 
 module _ {W EF : Type 0} (kind : W → Kind) (number : EF → ℕ) where
@@ -28,6 +33,10 @@ module _ {W EF : Type 0} (kind : W → Kind) (number : EF → ℕ) where
   read-evaluated f [] i c low is = absurd (omega (arith, low))
   read-evaluated f (d ∷ cs) zero c low is = ap (λ e. f (evaluated kind number e)) is
   read-evaluated f (d ∷ cs) (suc i) c low is = read-evaluated f cs i c (omega (arith, low)) is
+
+  -- a place among the statements is one in the list
+  pub place-inside : (cs : List (EvaluatedConstraint W EF)) (size i : ℕ) → size ≡ length cs → i < length (evaluated_all kind number cs) → i < size
+  place-inside cs size i is low = subst (λ n. i < n) (length-map cs (evaluated kind number) ∙ sym is) low
 
 -- what all have, one has
 pub all-at : {X : Type 0} (P : X → Type 0) (cs : List X) (i : ℕ) (c : X) → All P cs → i < length cs → c ≡ get_or cs i c → P c

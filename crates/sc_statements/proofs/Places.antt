@@ -45,3 +45,7 @@ weights-first o row ss i weight low is =
     let there = at-place ss i low in
     let one : Statement → ℕ = λ s. value o (weight_of o s.kind) row in
     ap (map one) (left-at ss i there.0 there.1) ∙ ap (λ w. w ∷ map one (drop (i + 1) ss)) (sym (is ∙ read-at one ss i there.0 there.1))
+
+-- what is left behind the first is shorter
+pub shorter-left : {B : Type 0} (all rest : List B) (b : B) → all ≡ b ∷ rest → length rest < length all
+shorter-left all rest b first = omega (arith, ap length first)

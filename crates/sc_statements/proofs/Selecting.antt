@@ -1,5 +1,5 @@
 -- Selecting statements: scalars and direct points with their claimed values.
-use Rattle.std.proofs.Common.{◌≡◌, ℕ, zero, suc, ◌+◌, ◌-◌, ◌<◌, ◌≤◌, List, [], ◌∷◌, ◌++◌, length, get_or, map, slice_index, Bool, IsTrue, ◌↔◌, ◌==◌, sym, ◌∙◌, ap, refl, arith, eq-eqb, eqb-true}
+use Rattle.std.proofs.Common.{◌≡◌, ℕ, zero, suc, ◌+◌, ◌-◌, ◌<◌, ◌≤◌, List, [], ◌∷◌, ◌++◌, length, get_or, map, slice_index, Bool, true, false, not, IsTrue, Result, Ok, Err, IsErr, OnOk, OnErr, ◌↔◌, ◌==◌, sym, ◌∙◌, ap, refl, arith, eq-eqb, eqb-true}
 use Rattle.std.proofs.lemmas.List.{length-map, length-append, map-append, append-nil}
 use Rattle.std.proofs.Common.{append_assoc}
 use Rattle.std.specs.Borrow.{Bor}
@@ -11,6 +11,20 @@ use Rattle.sc_statements.specs.Lists.{IsAt}
 use Rattle.sc_statements.specs.declared.statement.select.SelectStatement.{SelectStatement}
 use Rattle.sc_statements.specs.SelectStatements.{claims_of, select_kinds, select_statements, SelectsAt}
 use Rattle.sc_statements.proofs.Places.{read-at}
+
+-- ---- refusals
+
+-- an error asks nothing of a success
+pub no-success : {T E : Type 0} (r : Result T E) (P : Type 0) → IsErr r → OnOk r P
+no-success (Ok x) P refused = cc
+no-success (Err e) P refused = tt
+
+-- what holds anyway holds on an error
+pub on-refusal : {T E : Type 0} (r : Result T E) (P : Type 0) → P → OnErr r P
+on-refusal (Ok x) P p = tt
+on-refusal (Err e) P p = p
+
+-- ---- claims
 
 pub claims_of-length : (kinds : List Kind) (values : List ℕ) → length kinds ≡ length values → length (claims_of kinds values) ≡ length values
 claims_of-length [] [] same = refl
@@ -75,6 +89,13 @@ pub empty-test : (test : Bool) (n : ℕ) (ss : List Statement) → test ≡ (n =
 empty-test test n [] is size = ((λ _. refl), (λ _. is ∙ eq-eqb n 0 (sym size)))
 empty-test test n (s ∷ ss) is size =
     ((λ t. let none : n ≡ 0 = eqb-true n 0 (sym is ∙ t) in absurd (omega (arith, none, size))), (λ none. let none' : suc (length ss) ≡ 0 = ap length none in absurd (omega (arith, none'))))
+
+-- whether there is one of something, by their number
+pub holds-test : {X : Type 0} (test : Bool) (n : ℕ) (xs : List X) → test ≡ (n == 0) → n ≡ length xs → IsTrue (not test) ↔ (xs ≡ [] → ⊥)
+holds-test true n [] is size = ((λ t _. cc), (λ some. absurd (some refl)))
+holds-test false n [] is size = let wrong : false ≡ true = is ∙ eq-eqb n 0 size in cc
+holds-test true n (x ∷ xs) is size = let none : n ≡ 0 = eqb-true n 0 (sym is) in absurd (omega (arith, none, size))
+holds-test false n (x ∷ xs) is size = ((λ _ e. let none : suc (length xs) ≡ 0 = ap length e in absurd (omega (arith, none))), (λ _. refl))
 
 -- the value at a place of a list of numbers
 slice_index-map : {X : Type 0} (number : X → ℕ) (xs : List X) (i : ℕ) (x : X) → i < length xs → x ≡ get_or xs i x → slice_index (map number xs) i ≡ number x

@@ -3,3 +3,4 @@ pub mod RoundWords
 pub mod WitnessReads
 pub mod SeedLaws
 pub mod ReplayedLaws
+pub mod RoundRoom

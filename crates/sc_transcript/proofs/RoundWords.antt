@@ -21,6 +21,11 @@ pub ground_positive : (bits w : ℕ) (h h₁ : List Event) → 0 < bits → h₁
 ground_positive zero w h h₁ positive is = absurd (omega (arith, positive))
 ground_positive (suc b) w h h₁ positive is = is
 
+-- and without one nothing
+pub ground_none : (bits w : ℕ) (h : List Event) → bits ≡ 0 → h ≡ h ++ ground bits w
+ground_none zero w h none = sym (append-nil h)
+ground_none (suc b) w h none = absurd (omega (arith, none))
+
 -- what stands before the draw
 pub round_before : (E : Extension) (bits c q w : ℕ) (h h₀ h₁ h₂ : List Event) → h₀ ≡ h → h₁ ≡ h₀ ++ sent E (c ∷ q ∷ []) → h₂ ≡ h₁ ++ ground bits w →
     h₂ ≡ h ++ before_draw E bits (pair_round c q w)

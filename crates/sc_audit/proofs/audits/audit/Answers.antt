@@ -1,6 +1,6 @@
 use Rattle.std.proofs.Common.{◌≡◌, sym, ◌∙◌, ap, subst, rules}
 use Rattle.std.specs.Option.{option_map}
-use Rattle.std.proofs.lemmas.Result.{IfOk-weaker}
+use Rattle.std.proofs.lemmas.Result.{IfOk-weaker, IfOk-from_err}
 use Rattle.sc_audit.specs.Cases.{build, check, case_in, given_in, task_in}
 use Rattle.sc_audit.specs.Refusals.{refusal_of, task_refusal}
 use Rattle.sc_audit.specs.Figures.{figures_in}
@@ -72,3 +72,28 @@ returns-in-Check-clause-caused g c = λ e is.
 pub returns-in-Check-clause-answered : goal.returns-in-Check-clause-answered
 returns-in-Check-clause-answered g c = λ e valid is.
     valid-answered _ _ _ g.F.Field.ops.size _ (case_in g.F.Field.number g.EF.Field.number g.EF.Algebra.embedding c.args.job.now) (g.C.Challenger.history c.check.new.challenger) e valid (returns-in-Check-clause-caused g c e is)
+
+-- a refusal tells nothing of a report
+pub returns-in_err-check_mode-clause-report : goal.returns-in_err-check_mode-clause-report
+returns-in_err-check_mode-clause-report g c = IfOk-from_err c.from_residual.result _ c.from_residual.ensures.0
+
+pub returns-in_err-check_mode-clause-grids : goal.returns-in_err-check_mode-clause-grids
+returns-in_err-check_mode-clause-grids g c = IfOk-from_err c.from_residual.result _ c.from_residual.ensures.0
+
+pub returns-in_err-check_mode-clause-no_luck : goal.returns-in_err-check_mode-clause-no_luck
+returns-in_err-check_mode-clause-no_luck g c = IfOk-from_err c.from_residual.result _ c.from_residual.ensures.0
+
+pub returns-in_err-check_mode-clause-holds : goal.returns-in_err-check_mode-clause-holds
+returns-in_err-check_mode-clause-holds g c = IfOk-from_err c.from_residual.result _ c.from_residual.ensures.0
+
+pub returns-in_err-check_shape-clause-report : goal.returns-in_err-check_shape-clause-report
+returns-in_err-check_shape-clause-report g c = IfOk-from_err c.from_residual-in_err-check_shape.result _ c.from_residual-in_err-check_shape.ensures.0
+
+pub returns-in_err-check_shape-clause-grids : goal.returns-in_err-check_shape-clause-grids
+returns-in_err-check_shape-clause-grids g c = IfOk-from_err c.from_residual-in_err-check_shape.result _ c.from_residual-in_err-check_shape.ensures.0
+
+pub returns-in_err-check_shape-clause-no_luck : goal.returns-in_err-check_shape-clause-no_luck
+returns-in_err-check_shape-clause-no_luck g c = IfOk-from_err c.from_residual-in_err-check_shape.result _ c.from_residual-in_err-check_shape.ensures.0
+
+pub returns-in_err-check_shape-clause-holds : goal.returns-in_err-check_shape-clause-holds
+returns-in_err-check_shape-clause-holds g c = IfOk-from_err c.from_residual-in_err-check_shape.result _ c.from_residual-in_err-check_shape.ensures.0

@@ -1,9 +1,10 @@
 use Rattle.std.proofs.Common.{◌≡◌, Some, None, Err, sym, ◌∙◌, ap, inl, inr}
+use Rattle.std.proofs.lemmas.Result.{IfOk-from_err}
 use Rattle.std.proofs.lemmas.Option.{same_Some}
 use Rattle.sc_definitions.specs.Statements.{first_false_claim}
 use Rattle.sc_statements.specs.Constraints.{constraint_arity, constraint_statements}
 use Rattle.sc_statements.specs.FalseClaims.{told}
-use Rattle.sc_audit.specs.declared.error.AuditError.TheVariants.{NoWitness, NoMemory}
+use Rattle.sc_audit.specs.declared.error.AuditError.TheVariants.{NoWitness}
 use Rattle.sc_audit.specs.Cases.{build, case_in, problem_in}
 use Rattle.sc_audit.specs.Refusals.{false_refusal}
 use Rattle.sc_audit.specs.Figures.{false_claim_of}
@@ -40,3 +41,13 @@ returns-clause-caused g c = λ strategy e is.
           let same : e ≡ NoWitness named.0 = same_error _ _ _ is named.1 in
           caused-unground _ _ _ _ g.F.Field.ops.size _ k _ e (build strategy) named.0 same found.0 found.1
     ]
+
+-- a refusal tells nothing of an answer
+pub returns-in_err-table-clause-report : goal.returns-in_err-table-clause-report
+returns-in_err-table-clause-report g c = IfOk-from_err c.from_residual.result _ c.from_residual.ensures.0
+
+pub returns-in_err-table-clause-holds : goal.returns-in_err-table-clause-holds
+returns-in_err-table-clause-holds g c = IfOk-from_err c.from_residual.result _ c.from_residual.ensures.0
+
+pub returns-in_err-table-clause-grids : goal.returns-in_err-table-clause-grids
+returns-in_err-table-clause-grids g c = IfOk-from_err c.from_residual.result _ c.from_residual.ensures.0

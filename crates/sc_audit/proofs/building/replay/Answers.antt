@@ -6,7 +6,6 @@ use Rattle.sc_definitions.specs.Seeds.{quadratic_seed}
 use Rattle.sc_definitions.specs.Rounds.{next_claim}
 use Rattle.sc_table.specs.Strategy.{order_of}
 use Rattle.sc_statements.specs.Constraints.{constraint_arity}
-use Rattle.sc_transcript.specs.declared.error.SumcheckError.TheVariants.{NoMemory}
 use Rattle.sc_transcript.specs.Data.{witness_count}
 use Rattle.sc_rounds.proofs.InStep.{invalid_is}
 use Rattle.sc_audit.specs.Audits.{refusal_by}

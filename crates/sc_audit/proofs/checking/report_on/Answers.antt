@@ -1,4 +1,5 @@
 use Rattle.std.proofs.Common.{◌≡◌, ℕ, ◌==◌, map, refl, sym, ◌∙◌, ap}
+use Rattle.std.proofs.lemmas.Result.{IfOk-from_err}
 use Rattle.sc_definitions.specs.Tables.{entries, value}
 use Rattle.sc_definitions.specs.Statements.{batched_weight}
 use Rattle.sc_definitions.specs.Problem.{eval_of, weight_value_of}
@@ -43,3 +44,40 @@ returns-clause-figures g c =
     matched-told o p _ (N c.args.residual) (N c.eval-eval.result) (N c.eval_at-weight.result) ms rs c.requires.residual eval weight (cc (c.index.ensures, c.index-2.ensures, c.mul.ensures)) in
     figures-are o p _ ms _ (witnesses_in g.F.Field.number c.args.proof.now) _ rs _ _ _ _ _ c.in_ok-rounds.ensures.messages c.in_ok-rounds.ensures.witnesses refl
     c.requires.claim c.requires.residual eval weight (c.in_ok-verdict.ensures.found ∙ ap (λ t. finding_by t (false_claim_of o p)) matched)
+
+-- a refusal tells nothing of a report
+pub returns-in_err-table-clause-figures : goal.returns-in_err-table-clause-figures
+returns-in_err-table-clause-figures g c = IfOk-from_err c.from_residual.result _ c.from_residual.ensures.0
+
+pub returns-in_err-table-clause-no_luck : goal.returns-in_err-table-clause-no_luck
+returns-in_err-table-clause-no_luck g c = IfOk-from_err c.from_residual.result _ c.from_residual.ensures.0
+
+pub returns-in_err-table-clause-grids : goal.returns-in_err-table-clause-grids
+returns-in_err-table-clause-grids g c = IfOk-from_err c.from_residual.result _ c.from_residual.ensures.0
+
+pub returns-in_err-point-clause-figures : goal.returns-in_err-point-clause-figures
+returns-in_err-point-clause-figures g c = IfOk-from_err c.from_residual-in_err-point.result _ c.from_residual-in_err-point.ensures.0
+
+pub returns-in_err-point-clause-no_luck : goal.returns-in_err-point-clause-no_luck
+returns-in_err-point-clause-no_luck g c = IfOk-from_err c.from_residual-in_err-point.result _ c.from_residual-in_err-point.ensures.0
+
+pub returns-in_err-point-clause-grids : goal.returns-in_err-point-clause-grids
+returns-in_err-point-clause-grids g c = IfOk-from_err c.from_residual-in_err-point.result _ c.from_residual-in_err-point.ensures.0
+
+pub returns-in_err-verdict-clause-figures : goal.returns-in_err-verdict-clause-figures
+returns-in_err-verdict-clause-figures g c = IfOk-from_err c.from_residual-in_err-verdict.result _ c.from_residual-in_err-verdict.ensures.0
+
+pub returns-in_err-verdict-clause-no_luck : goal.returns-in_err-verdict-clause-no_luck
+returns-in_err-verdict-clause-no_luck g c = IfOk-from_err c.from_residual-in_err-verdict.result _ c.from_residual-in_err-verdict.ensures.0
+
+pub returns-in_err-verdict-clause-grids : goal.returns-in_err-verdict-clause-grids
+returns-in_err-verdict-clause-grids g c = IfOk-from_err c.from_residual-in_err-verdict.result _ c.from_residual-in_err-verdict.ensures.0
+
+pub returns-in_err-rounds-clause-figures : goal.returns-in_err-rounds-clause-figures
+returns-in_err-rounds-clause-figures g c = IfOk-from_err c.from_residual-in_err-rounds.result _ c.from_residual-in_err-rounds.ensures.0
+
+pub returns-in_err-rounds-clause-no_luck : goal.returns-in_err-rounds-clause-no_luck
+returns-in_err-rounds-clause-no_luck g c = IfOk-from_err c.from_residual-in_err-rounds.result _ c.from_residual-in_err-rounds.ensures.0
+
+pub returns-in_err-rounds-clause-grids : goal.returns-in_err-rounds-clause-grids
+returns-in_err-rounds-clause-grids g c = IfOk-from_err c.from_residual-in_err-rounds.result _ c.from_residual-in_err-rounds.ensures.0

@@ -1,4 +1,5 @@
 use Rattle.std.proofs.Common.{◌≡◌, ◌<◌, ◌^◌, suc, ◌-◌, ◌++◌, refl, sym, ◌∙◌, ap, arith, inl, inr, length}
+use Rattle.std.proofs.lemmas.Result.{IfOk-from_err}
 use Rattle.std.proofs.lemmas.List.Elements.{All-map}
 use Rattle.sc_definitions.specs.Tables.{evaluation}
 use Rattle.sc_definitions.specs.Events.{words}
@@ -7,7 +8,7 @@ use Rattle.sc_definitions.proofs.LoopLaws.{entry-read}
 use Rattle.sc_table.specs.Strategy.{order_of}
 use Rattle.sc_statements.specs.Constraints.{constraint_arity}
 use Rattle.sc_rounds.specs.Products.{variables_in, order_in, evals_in, weights_in}
-use Rattle.sc_transcript.specs.declared.error.SumcheckError.TheVariants.{NoMemory, NoWitness}
+use Rattle.sc_transcript.specs.declared.error.SumcheckError.TheVariants.{NoWitness}
 use Rattle.sc_audit.specs.Audits.{refusal_by}
 use Rattle.sc_audit.proofs.CauseLaws.{same_error, same_round, unlike}
 use Rattle.sc_audit.proofs.BuiltReports.{played-case, built-case, unground-built, finds_none_is}
@@ -75,3 +76,13 @@ returns-in-Err-clause-no_witness g c = λ i e.
           c.new-rounds.ensures.messages c.new-rounds.ensures.witnesses (All-map (λ n. n < g.F.Field.ops.size) g.F.Field.number _ (λ k d low. g.met.F.Field.number_below _))
           (omega (arith, same, some, stopped.1, c.in_ok-prover.ensures.variables)) fails
     ]
+
+-- a refusal tells nothing of an answer
+pub returns-in_err-prover-clause-built : goal.returns-in_err-prover-clause-built
+returns-in_err-prover-clause-built g c = IfOk-from_err c.from_residual.result _ c.from_residual.ensures.0
+
+pub returns-in_err-copied-clause-built : goal.returns-in_err-copied-clause-built
+returns-in_err-copied-clause-built g c = IfOk-from_err c.from_residual-in_err-copied.result _ c.from_residual-in_err-copied.ensures.0
+
+pub returns-in_err-weights-clause-built : goal.returns-in_err-weights-clause-built
+returns-in_err-weights-clause-built g c = IfOk-from_err c.from_residual-in_err-weights.result _ c.from_residual-in_err-weights.ensures.0

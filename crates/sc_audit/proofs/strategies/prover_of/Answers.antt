@@ -1,4 +1,5 @@
 use Rattle.std.proofs.Common.{◌≡◌, ◌^◌, length, map, sym, ◌∙◌, ap, arith}
+use Rattle.std.proofs.lemmas.Result.{IfOk-from_err}
 use Rattle.sc_definitions.specs.Tables.{entries, inner}
 use Rattle.sc_definitions.proofs.BuildLaws.{batch-true, first_false_claim-all}
 use Rattle.sc_table.specs.Polys.{variables_of}
@@ -59,3 +60,34 @@ returns-clause-claim g c = claim-batched g.EF.Field.ops _ _ (c.new.ensures.claim
 -- the rounds go in the job's order
 pub returns-clause-order : goal.returns-clause-order
 returns-clause-order g c = c.new.ensures.order ∙ c.new_unpacked-poly.ensures.order
+
+-- a refusal tells nothing of an answer
+pub returns-in_err-weights-clause-order : goal.returns-in_err-weights-clause-order
+returns-in_err-weights-clause-order g c = IfOk-from_err c.from_residual.result _ c.from_residual.ensures.0
+
+pub returns-in_err-weights-clause-variables : goal.returns-in_err-weights-clause-variables
+returns-in_err-weights-clause-variables g c = IfOk-from_err c.from_residual.result _ c.from_residual.ensures.0
+
+pub returns-in_err-weights-clause-evals : goal.returns-in_err-weights-clause-evals
+returns-in_err-weights-clause-evals g c = IfOk-from_err c.from_residual.result _ c.from_residual.ensures.0
+
+pub returns-in_err-weights-clause-weights : goal.returns-in_err-weights-clause-weights
+returns-in_err-weights-clause-weights g c = IfOk-from_err c.from_residual.result _ c.from_residual.ensures.0
+
+pub returns-in_err-weights-clause-claim : goal.returns-in_err-weights-clause-claim
+returns-in_err-weights-clause-claim g c = IfOk-from_err c.from_residual.result _ c.from_residual.ensures.0
+
+pub returns-in_err-embedded-clause-order : goal.returns-in_err-embedded-clause-order
+returns-in_err-embedded-clause-order g c = IfOk-from_err c.from_residual-in_err-embedded.result _ c.from_residual-in_err-embedded.ensures.0
+
+pub returns-in_err-embedded-clause-variables : goal.returns-in_err-embedded-clause-variables
+returns-in_err-embedded-clause-variables g c = IfOk-from_err c.from_residual-in_err-embedded.result _ c.from_residual-in_err-embedded.ensures.0
+
+pub returns-in_err-embedded-clause-evals : goal.returns-in_err-embedded-clause-evals
+returns-in_err-embedded-clause-evals g c = IfOk-from_err c.from_residual-in_err-embedded.result _ c.from_residual-in_err-embedded.ensures.0
+
+pub returns-in_err-embedded-clause-weights : goal.returns-in_err-embedded-clause-weights
+returns-in_err-embedded-clause-weights g c = IfOk-from_err c.from_residual-in_err-embedded.result _ c.from_residual-in_err-embedded.ensures.0
+
+pub returns-in_err-embedded-clause-claim : goal.returns-in_err-embedded-clause-claim
+returns-in_err-embedded-clause-claim g c = IfOk-from_err c.from_residual-in_err-embedded.result _ c.from_residual-in_err-embedded.ensures.0

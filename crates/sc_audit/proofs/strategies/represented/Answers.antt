@@ -1,18 +1,21 @@
-use Rattle.std.proofs.Common.{◌≡◌, ℕ, ◌<◌, ◌^◌, suc, ◌-◌, ◌++◌, refl, sym, ◌∙◌, ap, arith, inl, inr, length}
+use Rattle.std.proofs.Common.{◌≡◌, ℕ, ◌<◌, suc, ◌-◌, ◌++◌, refl, sym, ◌∙◌, ap, arith, inl, inr, length}
+use Rattle.std.proofs.lemmas.Result.{IfOk-from_err}
 use Rattle.std.proofs.lemmas.List.Elements.{All-map}
 use Rattle.sc_definitions.specs.Tables.{evaluation}
 use Rattle.sc_definitions.specs.Events.{words}
 use Rattle.sc_definitions.specs.Seeds.{quadratic_seed}
-use Rattle.sc_definitions.proofs.LoopLaws.{entry-read}
 use Rattle.sc_table.specs.Strategy.{order_of}
 use Rattle.sc_statements.specs.Constraints.{constraint_arity}
-use Rattle.sc_rounds.specs.Products.{variables_in, order_in, evals_in, weights_in}
-use Rattle.sc_transcript.specs.declared.error.SumcheckError.TheVariants.{NoMemory, NoWitness}
-use Rattle.sc_rounds.proofs.MappedRounds.{same_images}
+use Rattle.sc_rounds.specs.Products.{variables_in, order_in}
+use Rattle.sc_transcript.specs.declared.error.SumcheckError.TheVariants.{NoWitness}
 use Rattle.sc_audit.specs.Audits.{refusal_by}
 use Rattle.sc_audit.proofs.CauseLaws.{same_error, same_round, unlike}
 use Rattle.sc_audit.proofs.BuiltReports.{played-case, built-case, unground-built, finds_none_is}
 use Rattle.sc_audit.proofs.strategies.represented.Goals as goal
+
+-- each variable has had its round
+pub last_values-requires : goal.last_values-requires
+last_values-requires g c = omega (arith, c.in-Ok.ensures.fewer, c.num_variables.ensures, c.in_ok-prover.ensures.variables, c.in_ok-prover_of.ensures.variables)
 
 pub returns-clause-built : goal.returns-clause-built
 returns-clause-built g c =
@@ -39,23 +42,9 @@ returns-clause-built g c =
     c.new-rounds.ensures.messages c.new-rounds.ensures.witnesses c.in-Ok.ensures.batch in
     let end = c.compute_sumcheck_polynomials.new.self.poly in
     let none_left : variables_in end ≡ 0 = omega (arith, c.in-Ok.ensures.fewer, count, size) in
-    let one : 2 ^ variables_in end ≡ 1 = ap (λ k. 2 ^ k) none_left in
-    let to = g.R.FromTable.to_number in
-    let back = g.met.R.FromTable.represents.back in
-    let ring_r = g.met.R.Field.is_field.ring in
-    let weights_one : length c.as_slice.result.now ≡ 1 = c.as_slice.ensures.size ∙ ap (λ k. 2 ^ k) (c.in_ok-weights.ensures.variables ∙ none_left) in
-    let y : N c.into_transcript-weight.result ≡ weights_in T end 0 =
-    c.into_transcript-weight.ensures ∙ sym (entry-read T c.as_slice.result.now 0 c.index-as_slice-0.result (omega (arith, weights_one)) c.index-as_slice-0.is)
-    ∙ ap (λ t. t 0) (same_images g.R.Field.ops o ring_r ring to back g.R.Field.number g.R.Field.number _ _ c.as_slice.ensures.numbers ∙ c.in_ok-weights.ensures.table) in
-    let kept = c.in_ok-weights.ensures.kept in
-    let evals_one : length c.as_slice-2.result.now ≡ 1 =
-    c.as_slice-2.ensures.size ∙ ap (λ k. 2 ^ k) (c.in_ok-evals.ensures.variables ∙ ap (λ t. variables_in t.poly) kept ∙ none_left) in
-    let x : N c.into_transcript-eval.result ≡ evals_in T end 0 =
-    c.into_transcript-eval.ensures ∙ sym (entry-read T c.as_slice-2.result.now 0 c.index-as_slice-0-2.result (omega (arith, evals_one)) c.index-as_slice-0-2.is)
-    ∙ ap (λ t. t 0) (same_images g.R.Field.ops o ring_r ring to back g.R.Field.number g.R.Field.number _ _ c.as_slice-2.ensures.numbers ∙ c.in_ok-evals.ensures.table)
-    ∙ ap (λ t. evals_in T t.poly 0) kept in
     built-case (order_of job.order) o ring _ E bits n _ _ _ _ H (length job.table.items) _ _ (variables_in end) _ _ _ _ _ _ _ _ _
-    batch none_left (c.claimed_sum-claim.ensures ∙ c.in_ok-prover.ensures.claim ∙ c.in_ok-prover_of.ensures.claim) x y (g.met.EF.Field.number_below _) (g.met.EF.Field.number_below _)
+    batch none_left (c.claimed_sum-claim.ensures ∙ c.in_ok-prover.ensures.claim ∙ c.in_ok-prover_of.ensures.claim)
+    (c.in_ok-eval.ensures.eval) (c.in_ok-eval.ensures.weight) (g.met.EF.Field.number_below _) (g.met.EF.Field.number_below _)
 
 pub returns-in-Err-clause-no_witness : goal.returns-in-Err-clause-no_witness
 returns-in-Err-clause-no_witness g c = λ i e.
@@ -91,3 +80,17 @@ returns-in-Err-clause-no_witness g c = λ i e.
           c.new-rounds.ensures.messages c.new-rounds.ensures.witnesses (All-map (λ n. n < g.F.Field.ops.size) g.F.Field.number _ (λ k d low. g.met.F.Field.number_below _))
           (omega (arith, same, some, stopped.1, size)) fails
     ]
+
+-- a refusal tells nothing of an answer
+pub returns-in_err-prover_of-clause-built : goal.returns-in_err-prover_of-clause-built
+returns-in_err-prover_of-clause-built g c = IfOk-from_err c.from_residual.result _ c.from_residual.ensures.0
+
+pub returns-in_err-prover-clause-built : goal.returns-in_err-prover-clause-built
+returns-in_err-prover-clause-built g c = IfOk-from_err c.from_residual-in_err-prover.result _ c.from_residual-in_err-prover.ensures.0
+
+pub returns-in_err-copied-clause-built : goal.returns-in_err-copied-clause-built
+returns-in_err-copied-clause-built g c = IfOk-from_err c.from_residual-in_err-copied.result _ c.from_residual-in_err-copied.ensures.0
+
+-- a refusal tells nothing of an answer
+pub returns-in_err-eval-clause-built : goal.returns-in_err-eval-clause-built
+returns-in_err-eval-clause-built g c = IfOk-from_err c.from_residual-in_err-eval.result _ c.from_residual-in_err-eval.ensures.0

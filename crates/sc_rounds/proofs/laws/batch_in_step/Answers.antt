@@ -1,9 +1,11 @@
-use Rattle.std.proofs.Common.{◌≡◌, ◌++◌, inl, inr, ap, sym, ◌∙◌}
+use Rattle.std.proofs.Common.{◌≡◌, refl, ◌++◌, inl, inr, ap, sym, ◌∙◌}
+use Rattle.std.proofs.lemmas.Result.{IfOk-from_err}
 use Rattle.std.proofs.lemmas.List.{length-map}
 use Rattle.sc_definitions.specs.Tables.{evaluation}
 use Rattle.sc_definitions.specs.Events.{words}
 use Rattle.sc_definitions.specs.Seeds.{quadratic_seed}
 use Rattle.sc_transcript.specs.declared.error.SumcheckError.TheVariants.{NoMemory}
+use Rattle.sc_rounds.proofs.BatchLaws.{no_success}
 use Rattle.sc_rounds.proofs.TakenLaws.{claim_begun}
 use Rattle.sc_rounds.proofs.InStep.{out_of_memory, invalid_is, message_count, found_count, same_challenges, same_histories, same_claims, none_invalid}
 use Rattle.sc_rounds.proofs.laws.batch_in_step.Goals as goal
@@ -46,3 +48,90 @@ returns-in_err-replayed-clause-causes g c =
         ]
       ]
     ]
+
+-- the prover's call asks for what the caller gives
+pub compute_sumcheck_polynomials-requires-clause-variables : goal.compute_sumcheck_polynomials-requires-clause-variables
+compute_sumcheck_polynomials-requires-clause-variables g c = c.requires.variables
+
+pub compute_sumcheck_polynomials-requires-clause-difficulty : goal.compute_sumcheck_polynomials-requires-clause-difficulty
+compute_sumcheck_polynomials-requires-clause-difficulty g c = c.requires.difficulty
+
+pub compute_sumcheck_polynomials-requires-clause-constraint : goal.compute_sumcheck_polynomials-requires-clause-constraint
+compute_sumcheck_polynomials-requires-clause-constraint g c = c.requires.constraint
+
+-- both challengers have the same rules
+pub verify_rounds-requires : goal.verify_rounds-requires
+verify_rounds-requires g c = rw c.requires.rules c.requires.difficulty
+
+-- the prover's refusal: the verifier has not begun
+pub returns-in_err-drawn-clause-challenges : goal.returns-in_err-drawn-clause-challenges
+returns-in_err-drawn-clause-challenges g c = IfOk-from_err _ _ c.from_residual.ensures.0
+
+pub returns-in_err-drawn-clause-claims : goal.returns-in_err-drawn-clause-claims
+returns-in_err-drawn-clause-claims g c = IfOk-from_err _ _ c.from_residual.ensures.0
+
+pub returns-in_err-drawn-clause-batch : goal.returns-in_err-drawn-clause-batch
+returns-in_err-drawn-clause-batch g c = IfOk-from_err _ _ c.from_residual.ensures.0
+
+pub returns-in_err-drawn-clause-histories : goal.returns-in_err-drawn-clause-histories
+returns-in_err-drawn-clause-histories g c = no_success _ _ c.from_residual.ensures.0
+
+pub returns-in_err-drawn-clause-fewer : goal.returns-in_err-drawn-clause-fewer
+returns-in_err-drawn-clause-fewer g c = no_success _ _ c.from_residual.ensures.0
+
+pub returns-in_err-drawn-clause-not_begun : goal.returns-in_err-drawn-clause-not_begun
+returns-in_err-drawn-clause-not_begun g c = λ none. refl
+
+pub returns-in_err-drawn-clause-prover_rules : goal.returns-in_err-drawn-clause-prover_rules
+returns-in_err-drawn-clause-prover_rules g c = c.in_err-drawn.ensures.rules
+
+pub returns-in_err-drawn-clause-verifier_rules : goal.returns-in_err-drawn-clause-verifier_rules
+returns-in_err-drawn-clause-verifier_rules g c = refl
+
+pub returns-in_err-drawn-clause-order : goal.returns-in_err-drawn-clause-order
+returns-in_err-drawn-clause-order g c = c.in_err-drawn.ensures.order
+
+-- the verifier's refusal: the prover has played
+pub returns-in_err-replayed-clause-challenges : goal.returns-in_err-replayed-clause-challenges
+returns-in_err-replayed-clause-challenges g c = IfOk-from_err _ _ c.from_residual-in_err-replayed.ensures.0
+
+pub returns-in_err-replayed-clause-claims : goal.returns-in_err-replayed-clause-claims
+returns-in_err-replayed-clause-claims g c = IfOk-from_err _ _ c.from_residual-in_err-replayed.ensures.0
+
+pub returns-in_err-replayed-clause-batch : goal.returns-in_err-replayed-clause-batch
+returns-in_err-replayed-clause-batch g c = IfOk-from_err _ _ c.from_residual-in_err-replayed.ensures.0
+
+pub returns-in_err-replayed-clause-histories : goal.returns-in_err-replayed-clause-histories
+returns-in_err-replayed-clause-histories g c = no_success _ _ c.from_residual-in_err-replayed.ensures.0
+
+pub returns-in_err-replayed-clause-fewer : goal.returns-in_err-replayed-clause-fewer
+returns-in_err-replayed-clause-fewer g c = no_success _ _ c.from_residual-in_err-replayed.ensures.0
+
+pub returns-in_err-replayed-clause-prover_rules : goal.returns-in_err-replayed-clause-prover_rules
+returns-in_err-replayed-clause-prover_rules g c = c.in_ok-drawn.ensures.rules
+
+pub returns-in_err-replayed-clause-verifier_rules : goal.returns-in_err-replayed-clause-verifier_rules
+returns-in_err-replayed-clause-verifier_rules g c = c.in_err-replayed.ensures.rules
+
+pub returns-in_err-replayed-clause-order : goal.returns-in_err-replayed-clause-order
+returns-in_err-replayed-clause-order g c = c.in_ok-drawn.ensures.order
+
+-- what the two calls say
+pub returns-clause-batch : goal.returns-clause-batch
+returns-clause-batch g c = c.in_ok-drawn.ensures.batch
+
+pub returns-clause-prover_rules : goal.returns-clause-prover_rules
+returns-clause-prover_rules g c = c.in_ok-drawn.ensures.rules
+
+pub returns-clause-verifier_rules : goal.returns-clause-verifier_rules
+returns-clause-verifier_rules g c = c.in_ok-replayed.ensures.rules
+
+pub returns-clause-order : goal.returns-clause-order
+returns-clause-order g c = c.in_ok-drawn.ensures.order
+
+pub returns-clause-fewer : goal.returns-clause-fewer
+returns-clause-fewer g c = c.in_ok-drawn.ensures.fewer
+
+-- a success is no want of a witness
+pub returns-clause-not_begun : goal.returns-clause-not_begun
+returns-clause-not_begun g c = λ none. absurd none

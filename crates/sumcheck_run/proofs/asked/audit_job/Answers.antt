@@ -1,4 +1,5 @@
 use Rattle.std.proofs.Common.{ap, ◌∙◌, refl}
+use Rattle.std.proofs.lemmas.Result.{IfOk-from_err}
 use Rattle.sumcheck_jobs.specs.Statements.{all_claims}
 use Rattle.sumcheck_run.proofs.ReportLaws.{asked-case}
 use Rattle.sumcheck_run.proofs.asked.audit_job.Goals as goal
@@ -8,3 +9,13 @@ returns g c =
     asked-case g.EF.Algebra.embedding g.F.Field.number _ _ _ _ _ _ _ c.args.job.now (c.in_ok-elements.ensures ∙ c.as_slice.ensures) refl c.in_ok-constraint_of.ensures.arity
     (c.in_ok-constraint_of.ensures.statements ∙ ap (all_claims g.EF.Algebra.embedding) c.as_slice-2.ensures)
     (c.in_ok-constraint_of.ensures.challenge ∙ c.element-batching.ensures) c.in_ok-constraint_of.ensures.power c.in_ok-audit_mode.ensures
+
+-- a refusal tells nothing of an answer
+pub returns-in_err-elements : goal.returns-in_err-elements
+returns-in_err-elements g c = IfOk-from_err c.from_residual.result _ c.from_residual.ensures.0
+
+pub returns-in_err-constraint_of : goal.returns-in_err-constraint_of
+returns-in_err-constraint_of g c = IfOk-from_err c.from_residual-in_err-constraint_of.result _ c.from_residual-in_err-constraint_of.ensures.0
+
+pub returns-in_err-audit_mode : goal.returns-in_err-audit_mode
+returns-in_err-audit_mode g c = IfOk-from_err c.from_residual-in_err-audit_mode.result _ c.from_residual-in_err-audit_mode.ensures.0

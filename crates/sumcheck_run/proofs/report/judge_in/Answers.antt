@@ -1,5 +1,5 @@
 use Rattle.std.proofs.Common.{sym, ◌∙◌, ap}
-use Rattle.std.proofs.lemmas.Result.{IfOk-weaker}
+use Rattle.std.proofs.lemmas.Result.{IfOk-weaker, IfOk-from_err}
 use Rattle.sumcheck_run.specs.Report.{Fields, rules_by}
 use Rattle.sumcheck_run.proofs.ReportLaws.{judged}
 use Rattle.sumcheck_run.proofs.report.judge_in.Goals as goal
@@ -18,3 +18,7 @@ returns g c =
     IfOk-weaker c.answer_of-in-Hash.result _ _
     (λ a e. e ∙ judged k c.args.job _ _ _ (c.new-challenger.ensures.rules ∙ ap (rules_by g.F.Field.ops.size) (sym c.in-Hash.is ∙ c.challenger_in.ensures)) c.new-challenger.ensures.history c.in_ok-asked.ensures)
     c.answer_of-in-Hash.ensures
+
+-- a refusal tells nothing of an answer
+pub returns-in_err-asked : goal.returns-in_err-asked
+returns-in_err-asked g c = IfOk-from_err c.from_residual.result _ c.from_residual.ensures.0

@@ -1,4 +1,5 @@
 use Rattle.std.proofs.Common.{◌≡◌, ◌++◌, [], ◌∷◌, ◌+◌, ◌<◌, length, map, take, sym, ◌∙◌, ap, append_assoc, string_bytes, arith}
+use Rattle.std.proofs.lemmas.Result.{IfOk-from_err}
 use Rattle.std.specs.List.{slice_get}
 use Rattle.sc_transcript.specs.Data.{pair_of}
 use Rattle.sumcheck_run.specs.Lines.{round_line, round_lines}
@@ -34,3 +35,7 @@ returns g c =
     c.loop-i.invariant
     ∙ ap (λ t. string_bytes c.args.text.now ++ t)
     (round_lines-all (pair_of number) number 0 c.loop-i.i (map base c.args.witnesses.now) c.args.messages.now c.args.challenges.now (omega (arith, c.loop-i-test.false, c.min-i-end.ensures)))
+
+-- a refusal tells nothing of an answer
+pub returns-in_err-push_round : goal.returns-in_err-push_round
+returns-in_err-push_round g c = IfOk-from_err c.from_residual.result _ c.from_residual.ensures.0

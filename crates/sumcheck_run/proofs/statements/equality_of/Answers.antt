@@ -1,4 +1,5 @@
 use Rattle.std.proofs.Common.{◌≡◌, ◌<◌, All, length, map, ap, sym, subst, ◌∙◌, arith}
+use Rattle.std.proofs.lemmas.Result.{IfOk-from_err}
 use Rattle.sc_definitions.specs.Statements.{claims, equality}
 use Rattle.sumcheck_jobs.specs.Statements.{equality_statement, EqualityFits}
 use Rattle.sumcheck_run.proofs.GroupLaws.{pushed, read_has, as_long}
@@ -32,3 +33,16 @@ loop-claim-init g c = record {
   shown = c.initialize-statement.ensures.none;
   arity = c.initialize-statement.ensures.arity;
 }
+
+-- a refusal tells nothing of an answer
+pub returns-in_err-coords-clause-statements : goal.returns-in_err-coords-clause-statements
+returns-in_err-coords-clause-statements g c = IfOk-from_err c.from_residual.result _ c.from_residual.ensures.0
+
+pub returns-in_err-coords-clause-arity : goal.returns-in_err-coords-clause-arity
+returns-in_err-coords-clause-arity g c = IfOk-from_err c.from_residual.result _ c.from_residual.ensures.0
+
+pub returns-in_err-add_evaluated_constraint-clause-statements : goal.returns-in_err-add_evaluated_constraint-clause-statements
+returns-in_err-add_evaluated_constraint-clause-statements g c = IfOk-from_err c.from_residual-in_err-add_evaluated_constraint.result _ c.from_residual-in_err-add_evaluated_constraint.ensures.0
+
+pub returns-in_err-add_evaluated_constraint-clause-arity : goal.returns-in_err-add_evaluated_constraint-clause-arity
+returns-in_err-add_evaluated_constraint-clause-arity g c = IfOk-from_err c.from_residual-in_err-add_evaluated_constraint.result _ c.from_residual-in_err-add_evaluated_constraint.ensures.0

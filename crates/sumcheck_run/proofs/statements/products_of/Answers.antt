@@ -1,4 +1,5 @@
 use Rattle.std.proofs.Common.{◌≡◌, ◌<◌, All, length, map, ap, sym, subst, ◌∙◌, arith}
+use Rattle.std.proofs.lemmas.Result.{IfOk-from_err}
 use Rattle.sc_definitions.specs.Statements.{claims, products}
 use Rattle.sumcheck_jobs.specs.Statements.{product_statement, ProductFits}
 use Rattle.sumcheck_run.proofs.GroupLaws.{embedded_numbers, pushed, read_has, as_long}
@@ -39,3 +40,16 @@ loop-claim-init g c = record {
   arity = c.initialize-statement.ensures.arity;
   kind = c.initialize-statement.ensures.no_scalars;
 }
+
+-- a refusal tells nothing of an answer
+pub returns-in_err-elements-clause-statements : goal.returns-in_err-elements-clause-statements
+returns-in_err-elements-clause-statements g c = IfOk-from_err c.from_residual.result _ c.from_residual.ensures.0
+
+pub returns-in_err-elements-clause-arity : goal.returns-in_err-elements-clause-arity
+returns-in_err-elements-clause-arity g c = IfOk-from_err c.from_residual.result _ c.from_residual.ensures.0
+
+pub returns-in_err-add_point_constraint-clause-statements : goal.returns-in_err-add_point_constraint-clause-statements
+returns-in_err-add_point_constraint-clause-statements g c = IfOk-from_err c.from_residual-in_err-add_point_constraint.result _ c.from_residual-in_err-add_point_constraint.ensures.0
+
+pub returns-in_err-add_point_constraint-clause-arity : goal.returns-in_err-add_point_constraint-clause-arity
+returns-in_err-add_point_constraint-clause-arity g c = IfOk-from_err c.from_residual-in_err-add_point_constraint.result _ c.from_residual-in_err-add_point_constraint.ensures.0

@@ -1,4 +1,5 @@
 use Rattle.std.proofs.Common.{get_or, ap, ◌∙◌, arith}
+use Rattle.std.proofs.lemmas.Result.{IfOk-from_err}
 use Rattle.std.proofs.lemmas.List.Elements.{All-get_or}
 use Rattle.sc_definitions.specs.Statements.{claims, powers}
 use Rattle.sumcheck_jobs.specs.declared.job.ScalarClaim.{ScalarClaim}
@@ -36,3 +37,10 @@ loop-claim-init g c = record {
   arity = c.initialize-statement.ensures.arity;
   kind = c.initialize-statement.ensures.no_points;
 }
+
+-- a refusal tells nothing of an answer
+pub returns-in_err-add_constraint-clause-statements : goal.returns-in_err-add_constraint-clause-statements
+returns-in_err-add_constraint-clause-statements g c = IfOk-from_err c.from_residual.result _ c.from_residual.ensures.0
+
+pub returns-in_err-add_constraint-clause-arity : goal.returns-in_err-add_constraint-clause-arity
+returns-in_err-add_constraint-clause-arity g c = IfOk-from_err c.from_residual.result _ c.from_residual.ensures.0

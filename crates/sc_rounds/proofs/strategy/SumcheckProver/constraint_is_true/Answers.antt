@@ -1,4 +1,5 @@
 use Rattle.std.proofs.Common.{◌≡◌, ap, ◌∙◌, sym}
+use Rattle.std.proofs.lemmas.Result.{IfOk-from_err}
 use Rattle.sc_definitions.specs.Tables.{inner}
 use Rattle.sc_definitions.specs.Statements.{batched_weight, batched_claim}
 use Rattle.sc_statements.specs.Constraints.{constraint_arity, constraint_challenge, constraint_power, constraint_statements}
@@ -35,3 +36,13 @@ returns-clause-told g c =
       },
       λ true_one. c.sum_is_true.ensures.1 (sum_taken o ring _ _ _ _ _ _ _ _ _ begun (there ∙ true_one.claim) added ∙ sym moved),
     )
+
+-- a refusal tells nothing of an answer
+pub returns-in_err-evals-clause-told : goal.returns-in_err-evals-clause-told
+returns-in_err-evals-clause-told g c = IfOk-from_err c.from_residual.result _ c.from_residual.ensures.0
+
+pub returns-in_err-weights-clause-told : goal.returns-in_err-weights-clause-told
+returns-in_err-weights-clause-told g c = IfOk-from_err c.from_residual-in_err-weights.result _ c.from_residual-in_err-weights.ensures.0
+
+pub returns-in_err-combine-clause-told : goal.returns-in_err-combine-clause-told
+returns-in_err-combine-clause-told g c = IfOk-from_err c.from_residual-in_err-combine.result _ c.from_residual-in_err-combine.ensures.0

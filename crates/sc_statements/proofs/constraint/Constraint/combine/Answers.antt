@@ -1,7 +1,10 @@
-use Rattle.std.proofs.Common.{refl, ◌∙◌}
-use Rattle.sc_statements.specs.Groups.{group_arity, group_statements}
+use Rattle.std.proofs.Common.{refl, sym, subst, ◌∙◌}
+use Rattle.std.proofs.lemmas.List.{take_all}
+use Rattle.sc_statements.specs.Groups.{group_arity, group_statements, all_statements}
+use Rattle.sc_statements.specs.Batches.{AddsBatch}
+use Rattle.sc_table.specs.Polys.{table_of}
 use Rattle.sc_table.proofs.EntryLaws.{entry-below}
-use Rattle.sc_statements.proofs.GroupSteps.{IsCombined-none, IsCombined-more}
+use Rattle.sc_statements.proofs.GroupSteps.{arity-of, IsCombined-none, IsCombined-more}
 use Rattle.sc_statements.proofs.constraint.Constraint.combine.Goals as goal
 
 pub loop-group-init : goal.loop-group-init
@@ -23,3 +26,27 @@ loop-group-preserved g c =
           _ _ _ _ _ _ _ _ c.loop-group.invariant.combined c.args.self.now.fits c.deref-group-items.ensures.value c.loop-group-test.true c.group-item.is
           c.in_ok-coefficient.ensures.added c.in_ok-coefficient.ensures.next;
     }
+
+-- the table keeps its number of variables, which all groups have
+pub add_batch-requires : goal.add_batch-requires
+add_batch-requires g c =
+    c.loop-group.invariant.variables ∙ c.requires
+    ∙ sym (arity-of group_arity c.args.self.now.num_variables c.deref-group-items.result.now c.args.self.now.statements.items c.loop-group.group-index c.group-item.result
+    c.args.self.now.fits c.deref-group-items.ensures.value c.loop-group-test.true c.group-item.is)
+
+-- at the end the groups taken are all of them
+pub returns-clause-ok : goal.returns-clause-ok
+returns-clause-ok g c =
+    let f = g.EF.Field in
+    let self = c.args.self.now in
+    subst (λ l. AddsBatch f.ops self.num_variables (f.number self.challenge) self.initial_power (all_statements (λ x. g.EF.Algebra.embedding (g.F.Field.number x)) f.number l)
+    (table_of f.number c.args.combined.now) (table_of f.number c.loop-group.combined) (f.number c.args.eval.now) (f.number c.loop-group.eval))
+    (take_all c.loop-group.group-index c.deref-group-items.result.now c.loop-group-test.false ∙ c.deref-group-items.ensures.value) c.loop-group.invariant.combined.added
+
+-- each step keeps the number of variables
+pub returns-clause-variables : goal.returns-clause-variables
+returns-clause-variables g c = c.loop-group.invariant.variables
+
+-- the step before the refusal kept it too
+pub returns-in_err-coefficient-clause-variables : goal.returns-in_err-coefficient-clause-variables
+returns-in_err-coefficient-clause-variables g c = c.in_err-coefficient.ensures.variables ∙ c.loop-group.invariant.variables

@@ -1,4 +1,5 @@
 use Rattle.std.proofs.Common.{◌≡◌, ℕ, ◌+◌, ◌*◌, ◌%◌, ◌^◌, ◌<◌, ◌≤◌, ◌++◌, [], ◌∷◌, length, sym, ◌∙◌, ap, refl, subst, arith}
+use Rattle.std.proofs.lemmas.Result.{IfOk-from_err}
 use Rattle.std.proofs.Math.Nat.{mod-eq_of_lt}
 use Rattle.std.proofs.lemmas.Nat.{pow_below}
 use Rattle.sc_definitions.proofs.RingLaws.{element-small}
@@ -65,3 +66,10 @@ returns-clause-table g c =
     let rest = c.loop-z_i.z_i-iterator.iter.rest.now in
     let all = weighted-all a.number a.ops (a.number c.args.scale) c.args.z.now rest c.loop-z_i.evals.items c.in-None.ensures.steps.0 c.loop-z_i.invariant.weighted in
     all.1
+
+-- a refusal tells nothing of an answer
+pub returns-in_err-evals-clause-variables : goal.returns-in_err-evals-clause-variables
+returns-in_err-evals-clause-variables g c = IfOk-from_err c.from_residual.result _ c.from_residual.ensures.0
+
+pub returns-in_err-evals-clause-table : goal.returns-in_err-evals-clause-table
+returns-in_err-evals-clause-table g c = IfOk-from_err c.from_residual.result _ c.from_residual.ensures.0

@@ -1,4 +1,5 @@
 use Rattle.std.proofs.Common.{◌≡◌, ℕ, ◌^◌, ◌<◌, length, map, sym, ◌∙◌, ap, subst}
+use Rattle.std.proofs.lemmas.Result.{IfOk-from_err}
 use Rattle.std.proofs.lemmas.List.{length-map}
 use Rattle.sc_definitions.specs.Ring.{times}
 use Rattle.sc_definitions.specs.Tables.{weight}
@@ -26,3 +27,10 @@ returns-clause-table g c = λ b low.
     ap (λ f. f b) (c.as_mut_slice.ensures.written c.move_rows_up.new.rows (c.move_rows_up.auto.rows ∙ c.as_mut_slice.ensures.size))
     ∙ c.move_rows_up.ensures b (subst (λ k. b < k) (sym size) low)
     ∙ successor-moved a.ops ring a.number rows (table_of a.number c.in_ok-table.table) zs n arity c.as_mut_slice.ensures.numbers size weights b low
+
+-- a refusal tells nothing of an answer
+pub returns-in_err-table-clause-variables : goal.returns-in_err-table-clause-variables
+returns-in_err-table-clause-variables g c = IfOk-from_err c.from_residual.result _ c.from_residual.ensures.0
+
+pub returns-in_err-table-clause-table : goal.returns-in_err-table-clause-table
+returns-in_err-table-clause-table g c = IfOk-from_err c.from_residual.result _ c.from_residual.ensures.0

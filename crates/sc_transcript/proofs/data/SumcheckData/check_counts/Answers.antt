@@ -1,4 +1,4 @@
-use Rattle.std.proofs.Common.{rules, inr, refl}
+use Rattle.std.proofs.Common.{rules, inr}
 use Rattle.sc_transcript.proofs.data.SumcheckData.check_counts.Goals as goal
 
 -- the rounds are as many as wanted, and the witnesses are not

@@ -1,4 +1,5 @@
 use Rattle.std.proofs.Common.{◌≡◌, ◌∙◌, ap, sym}
+use Rattle.std.proofs.lemmas.Result.{IfOk-from_err}
 use Rattle.sc_definitions.specs.Tables.{inner}
 use Rattle.sc_table.specs.Polys.{variables_of}
 use Rattle.sc_rounds.specs.Products.{variables_in, evals_in, weights_in}
@@ -37,3 +38,19 @@ invariant_of-result g c =
           c.requires.sum c.from_element.ensures
           ∙ ap (λ k. inner r k (evals_in N poly) (weights_in N poly)) (sym size);
     }
+
+-- a refusal tells nothing of an answer
+pub returns-in_err-evals-clause-variables : goal.returns-in_err-evals-clause-variables
+returns-in_err-evals-clause-variables g c = IfOk-from_err c.from_residual.result _ c.from_residual.ensures.0
+
+pub returns-in_err-evals-clause-order : goal.returns-in_err-evals-clause-order
+returns-in_err-evals-clause-order g c = IfOk-from_err c.from_residual.result _ c.from_residual.ensures.0
+
+pub returns-in_err-evals-clause-evals : goal.returns-in_err-evals-clause-evals
+returns-in_err-evals-clause-evals g c = IfOk-from_err c.from_residual.result _ c.from_residual.ensures.0
+
+pub returns-in_err-evals-clause-weights : goal.returns-in_err-evals-clause-weights
+returns-in_err-evals-clause-weights g c = IfOk-from_err c.from_residual.result _ c.from_residual.ensures.0
+
+pub returns-in_err-evals-clause-claim : goal.returns-in_err-evals-clause-claim
+returns-in_err-evals-clause-claim g c = IfOk-from_err c.from_residual.result _ c.from_residual.ensures.0

@@ -1,4 +1,4 @@
-use Rattle.std.proofs.Common.{◌≡◌, ℕ, ◌^◌, ◌<◌, Bool, true, false, not, refl, ◌∙◌, ap, arith, eqb-true}
+use Rattle.std.proofs.Common.{rules, ◌≡◌, ℕ, ◌^◌, ◌<◌, Bool, true, false, not, refl, ◌∙◌, ap, arith, eqb-true}
 use Rattle.sc_table.specs.Polys.{table_of}
 use Rattle.sc_table.proofs.EntryLaws.{entry-below}
 use Rattle.sc_statements.proofs.BatchSteps.{AddsBatch-none, WritesBatch-cleared}
@@ -25,3 +25,7 @@ returns-clause-overwritten g c = λ off _.
       | else-not-this w ↦ absurd (w.if-not-this.false (eqb-true _ _ (true_from_not _ off)))
     ] in
     WritesBatch-cleared f.ops g.met.EF.Field.is_field.ring _ _ _ _ (table_of f.number c.if-not-this.acc_weights) _ _ _ cleared (c.add_batch-next.ensures.added c.args.shift c.exp_u64-first.ensures)
+
+-- some statement is no empty list
+pub returns-clause-empty : goal.returns-clause-empty
+returns-clause-empty g c = search rules

@@ -1,0 +1,9 @@
+use Rattle.std.proofs.lemmas.Result.{IfOk-from_err}
+use Rattle.sc_challenger.proofs.separator.push_length_prefixed.Goals as goal
+
+-- a refusal tells nothing of an answer
+pub returns-in_err-push_number : goal.returns-in_err-push_number
+returns-in_err-push_number c = IfOk-from_err c.from_residual.result _ c.from_residual.ensures.0
+
+pub returns-in_err-extend_from_slice : goal.returns-in_err-extend_from_slice
+returns-in_err-extend_from_slice c = IfOk-from_err c.from_residual-in_err-extend_from_slice.result _ c.from_residual-in_err-extend_from_slice.ensures.0
