@@ -28,9 +28,13 @@ not_both r x e ok err = cc
 pub same_error : {T E : Type 0} (r : Result T E) (a b : E) → r ≡ Err a → r ≡ Err b → a ≡ b
 same_error r a b one other = cc
 
+-- in no rounds there is no round
+no_round : {T : Type 0} {x : T} → ◌≡◌ {A = Option T} None (Some x) → ⊥
+no_round is = cc
+
 -- nothing is no error
 pub no_error : (e : AuditError) → ◌≡◌ {A = Option AuditError} None (Some e) → ⊥
-no_error e is = cc
+no_error e is = no_round is
 
 -- want of memory is no want of a witness, which is told of one round
 pub unlike : (i : ℕ) → NoMemory ≡ NoWitness i → ⊥
@@ -75,9 +79,6 @@ module _ (first : Option AuditError) (o : Ops) (R : Rules) (E : Extension) (size
 -- a proof of no rounds
 abbrev nothing : Given
 nothing = record { messages = []; witnesses = [] }
-
-no_round : {T : Type 0} {x : T} → ◌≡◌ {A = Option T} None (Some x) → ⊥
-no_round is = cc
 
 no_count : (bits : ℕ) → count_refusal 0 bits nothing ≡ None
 no_count bits = search rules

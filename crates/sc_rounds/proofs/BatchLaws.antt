@@ -1,5 +1,5 @@
 -- A batch of rounds, one round after the other.
-use Rattle.std.proofs.Common.{◌≡◌, ℕ, zero, suc, ◌+◌, ◌^◌, ◌<◌, List, [], ◌∷◌, ◌++◌, refl, ap, sym, ◌∙◌, ◌⊎◌, inl, inr, subst, arith, append_assoc, Result, Ok, Err, IfOk, OnOk, IsErr, IsErrAnd, ◌≤◌}
+use Rattle.std.proofs.Common.{◌≡◌, ℕ, zero, suc, ◌+◌, ◌^◌, ◌<◌, List, [], ◌∷◌, ◌++◌, refl, ap, sym, ◌∙◌, ◌⊎◌, inl, inr, subst, arith, append_assoc, Result, Ok, Err, IfOk, OnOk, IsErrAnd, ◌≤◌}
 use Rattle.std.proofs.lemmas.List.{append-nil, map-append}
 use Rattle.sc_definitions.specs.declared.events.Event.{Event}
 use Rattle.sc_definitions.specs.Ring.{Ops, IsRing}
@@ -151,11 +151,6 @@ no_refusal x e is = cc
 -- two numbers that are one more than the same are the same
 pub one_less : (a b m n : ℕ) → a ≡ m + 1 → b ≡ n + 1 → a ≡ b → n ≡ m
 one_less a b m n first second same = omega arith
-
--- a refusal says nothing of a success
-pub no_success : {T E : Type 0} (r : Result T E) (P : Type 0) → IsErr r → OnOk r P
-no_success (Ok x) P is = absurd cc
-no_success (Err e) P is = tt
 
 -- the want of memory is no want of a witness
 pub not_found : {T : Type 0} (r : Result T SumcheckError) (i : ℕ) → IsErrAnd r (λ e. e ≡ NoMemory) → r ≡ Err (NoWitness i) → ⊥

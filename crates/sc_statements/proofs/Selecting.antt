@@ -1,5 +1,5 @@
 -- Selecting statements: scalars and direct points with their claimed values.
-use Rattle.std.proofs.Common.{◌≡◌, ℕ, zero, suc, ◌+◌, ◌-◌, ◌<◌, ◌≤◌, List, [], ◌∷◌, ◌++◌, length, get_or, map, slice_index, Bool, true, false, not, IsTrue, Result, Ok, Err, IsErr, OnOk, OnErr, ◌↔◌, ◌==◌, sym, ◌∙◌, ap, refl, arith, eq-eqb, eqb-true}
+use Rattle.std.proofs.Common.{◌≡◌, ℕ, zero, suc, ◌+◌, ◌-◌, ◌<◌, ◌≤◌, List, [], ◌∷◌, ◌++◌, length, get_or, map, slice_index, Bool, true, false, not, IsTrue, Result, Ok, Err, OnErr, ◌↔◌, ◌==◌, sym, ◌∙◌, ap, refl, arith, eq-eqb, eqb-true}
 use Rattle.std.proofs.lemmas.List.{length-map, length-append, map-append, append-nil}
 use Rattle.std.proofs.Common.{append_assoc}
 use Rattle.std.specs.Borrow.{Bor}
@@ -13,11 +13,6 @@ use Rattle.sc_statements.specs.SelectStatements.{claims_of, select_kinds, select
 use Rattle.sc_statements.proofs.Places.{read-at}
 
 -- ---- refusals
-
--- an error asks nothing of a success
-pub no-success : {T E : Type 0} (r : Result T E) (P : Type 0) → IsErr r → OnOk r P
-no-success (Ok x) P refused = cc
-no-success (Err e) P refused = tt
 
 -- what holds anyway holds on an error
 pub on-refusal : {T E : Type 0} (r : Result T E) (P : Type 0) → P → OnErr r P

@@ -4,3 +4,4 @@ pub mod WitnessReads
 pub mod SeedLaws
 pub mod ReplayedLaws
 pub mod RoundRoom
+pub mod Lent

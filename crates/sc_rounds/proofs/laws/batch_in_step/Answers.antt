@@ -5,7 +5,6 @@ use Rattle.sc_definitions.specs.Tables.{evaluation}
 use Rattle.sc_definitions.specs.Events.{words}
 use Rattle.sc_definitions.specs.Seeds.{quadratic_seed}
 use Rattle.sc_transcript.specs.declared.error.SumcheckError.TheVariants.{NoMemory}
-use Rattle.sc_rounds.proofs.BatchLaws.{no_success}
 use Rattle.sc_rounds.proofs.TakenLaws.{claim_begun}
 use Rattle.sc_rounds.proofs.InStep.{out_of_memory, invalid_is, message_count, found_count, same_challenges, same_histories, same_claims, none_invalid}
 use Rattle.sc_rounds.proofs.laws.batch_in_step.Goals as goal
@@ -74,10 +73,10 @@ pub returns-in_err-drawn-clause-batch : goal.returns-in_err-drawn-clause-batch
 returns-in_err-drawn-clause-batch g c = IfOk-from_err _ _ c.from_residual.ensures.0
 
 pub returns-in_err-drawn-clause-histories : goal.returns-in_err-drawn-clause-histories
-returns-in_err-drawn-clause-histories g c = no_success _ _ c.from_residual.ensures.0
+returns-in_err-drawn-clause-histories g c = IfOk-from_err _ _ c.from_residual.ensures.0
 
 pub returns-in_err-drawn-clause-fewer : goal.returns-in_err-drawn-clause-fewer
-returns-in_err-drawn-clause-fewer g c = no_success _ _ c.from_residual.ensures.0
+returns-in_err-drawn-clause-fewer g c = IfOk-from_err _ _ c.from_residual.ensures.0
 
 pub returns-in_err-drawn-clause-not_begun : goal.returns-in_err-drawn-clause-not_begun
 returns-in_err-drawn-clause-not_begun g c = λ none. refl
@@ -102,10 +101,10 @@ pub returns-in_err-replayed-clause-batch : goal.returns-in_err-replayed-clause-b
 returns-in_err-replayed-clause-batch g c = IfOk-from_err _ _ c.from_residual-in_err-replayed.ensures.0
 
 pub returns-in_err-replayed-clause-histories : goal.returns-in_err-replayed-clause-histories
-returns-in_err-replayed-clause-histories g c = no_success _ _ c.from_residual-in_err-replayed.ensures.0
+returns-in_err-replayed-clause-histories g c = IfOk-from_err _ _ c.from_residual-in_err-replayed.ensures.0
 
 pub returns-in_err-replayed-clause-fewer : goal.returns-in_err-replayed-clause-fewer
-returns-in_err-replayed-clause-fewer g c = no_success _ _ c.from_residual-in_err-replayed.ensures.0
+returns-in_err-replayed-clause-fewer g c = IfOk-from_err _ _ c.from_residual-in_err-replayed.ensures.0
 
 pub returns-in_err-replayed-clause-prover_rules : goal.returns-in_err-replayed-clause-prover_rules
 returns-in_err-replayed-clause-prover_rules g c = c.in_ok-drawn.ensures.rules

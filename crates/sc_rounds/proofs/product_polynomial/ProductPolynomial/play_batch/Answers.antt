@@ -5,12 +5,9 @@ use Rattle.std.specs.Result.{result_err}
 use Rattle.sc_transcript.specs.declared.error.SumcheckError.TheVariants.{NoMemory, NoWitness}
 use Rattle.sc_transcript.specs.declared.transcript.SumcheckShape.{SumcheckShape}
 use Rattle.sc_rounds.proofs.InStep.{out_of_memory}
-use Rattle.sc_rounds.proofs.BatchLaws.{no_refusal, no_success, not_found, caused, bound_at_most, as_many, no_more, stopped_at, sum_at, batch_from, stops_from, fails_from, told_at}
+use Rattle.sc_rounds.proofs.BatchLaws.{no_refusal, not_found, caused, bound_at_most, as_many, no_more, stopped_at, sum_at, batch_from, stops_from, fails_from, told_at}
+use Rattle.sc_transcript.proofs.Lent.{returned}
 use Rattle.sc_rounds.proofs.product_polynomial.ProductPolynomial.play_batch.Goals as goal
-
--- the challenger that was lent is handed back as the transcript leaves it
-returned : {A N : Type 0} (lent held begun : N) (final left now : A) → (lent ≡ held → final ≡ left) → held ≡ begun → begun ≡ lent → left ≡ now → final ≡ now
-returned lent held begun final left now back same is kept = back (sym (same ∙ is)) ∙ kept
 
 pub returns-in-Ok-clause-played : goal.returns-in-Ok-clause-played
 returns-in-Ok-clause-played g c = λ f w p q.
@@ -51,7 +48,7 @@ returns-in_err-challenges g c =
       rules = refl;
       order = refl;
       sum = c.requires.sum;
-      fewer = no_success _ _ refused;
+      fewer = IfOk-from_err _ _ refused;
       left = no_more _ _;
       played = IfOk-from_err _ _ refused;
       causes = out_of_memory _ memory;
@@ -69,7 +66,7 @@ returns-in_err-seed g c =
       rules = c.in_err-seed.ensures.rules;
       order = refl;
       sum = c.requires.sum;
-      fewer = no_success _ _ refused;
+      fewer = IfOk-from_err _ _ refused;
       left = no_more _ _;
       played = IfOk-from_err _ _ refused;
       causes = out_of_memory _ memory;

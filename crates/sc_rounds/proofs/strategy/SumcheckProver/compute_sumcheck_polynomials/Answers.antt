@@ -6,7 +6,7 @@ use Rattle.sc_transcript.specs.Data.{messages_in, witnesses_in}
 use Rattle.sc_transcript.specs.declared.transcript.SumcheckShape.{SumcheckShape}
 use Rattle.sc_rounds.specs.Products.{variables_in, evals_in, weights_in}
 use Rattle.sc_rounds.proofs.InStep.{out_of_memory}
-use Rattle.sc_rounds.proofs.BatchLaws.{fits, fewer_at, less_at, no_success, not_found, no_more, ok_batch, failed_batch, stopped_batch}
+use Rattle.sc_rounds.proofs.BatchLaws.{fits, fewer_at, less_at, not_found, no_more, ok_batch, failed_batch, stopped_batch}
 use Rattle.sc_rounds.proofs.strategy.SumcheckProver.compute_sumcheck_polynomials.Goals as goal
 
 pub returns-clause-batch : goal.returns-clause-batch
@@ -90,7 +90,7 @@ pub returns-in_err-take_in_if_some-clause-order : goal.returns-in_err-take_in_if
 returns-in_err-take_in_if_some-clause-order g c = c.in_err-take_in_if_some.ensures.order
 
 pub returns-in_err-take_in_if_some-clause-fewer : goal.returns-in_err-take_in_if_some-clause-fewer
-returns-in_err-take_in_if_some-clause-fewer g c = no_success _ _ c.from_residual.ensures.0
+returns-in_err-take_in_if_some-clause-fewer g c = IfOk-from_err _ _ c.from_residual.ensures.0
 
 pub returns-in_err-take_in_if_some-clause-batch : goal.returns-in_err-take_in_if_some-clause-batch
 returns-in_err-take_in_if_some-clause-batch g c = IfOk-from_err _ _ c.from_residual.ensures.0

@@ -1,4 +1,4 @@
-use Rattle.std.proofs.Common.{◌≡◌, refl, ap, sym, ◌+◌, ◌∙◌, map, length, rules}
+use Rattle.std.proofs.Common.{refl, ap, sym, ◌+◌, ◌∙◌, map, length, rules}
 use Rattle.std.specs.Option.{option_map_or}
 use Rattle.std.proofs.lemmas.List.{length-map}
 use Rattle.sc_definitions.specs.Rounds.{next_claim}
@@ -7,11 +7,8 @@ use Rattle.sc_transcript.specs.Shapes.{pair_round}
 use Rattle.sc_transcript.specs.Data.{rounds_in}
 use Rattle.sc_definitions.proofs.ReplayLaws.{length-given_rounds}
 use Rattle.sc_transcript.proofs.ReplayedLaws.{replays_begin, replays_step, replays_end, counted_whole, same_count, room_left, leaves_refused}
+use Rattle.sc_transcript.proofs.Lent.{returned}
 use Rattle.sc_transcript.proofs.data.SumcheckData.replay.Goals as goal
-
--- the reference that was lent is handed back as its holder leaves it
-returned : {A N : Type 0} (lent held begun : N) (final left now : A) → (lent ≡ held → final ≡ left) → held ≡ begun → begun ≡ lent → left ≡ now → final ≡ now
-returned lent held begun final left now back same is kept = back (sym (same ∙ is)) ∙ kept
 
 pub rounds-init : goal.rounds-init
 rounds-init g c = record {

@@ -1,7 +1,8 @@
 use Rattle.std.proofs.Common.{◌≡◌, ℕ, ◌+◌, ◌*◌, length, vec_len, ◌∷◌, [], ◌++◌, map, sym, subst, ◌∙◌, ap, arith}
+use Rattle.std.proofs.lemmas.Result.{IfOk-from_err}
 use Rattle.sc_definitions.specs.Statements.{powers, products}
 use Rattle.sc_statements.specs.SelectStatements.{claims_of}
-use Rattle.sc_statements.proofs.Selecting.{no-success, on-refusal, selects-scalar}
+use Rattle.sc_statements.proofs.Selecting.{on-refusal, selects-scalar}
 use Rattle.sc_statements.proofs.statement.select.SelectStatement.add_constraint.Goals as goal
 
 -- any number of times nothing is nothing
@@ -53,10 +54,10 @@ invariant_of-self-2 g c =
 
 -- a refusal leaves the statements as they were
 pub returns-in_err-reserve-clause-ok : goal.returns-in_err-reserve-clause-ok
-returns-in_err-reserve-clause-ok g c = no-success c.from_residual.result _ c.from_residual.ensures.0
+returns-in_err-reserve-clause-ok g c = IfOk-from_err c.from_residual.result _ c.from_residual.ensures.0
 
 pub returns-in_err-reserve-clause-scalars : goal.returns-in_err-reserve-clause-scalars
-returns-in_err-reserve-clause-scalars g c = no-success c.from_residual.result _ c.from_residual.ensures.0
+returns-in_err-reserve-clause-scalars g c = IfOk-from_err c.from_residual.result _ c.from_residual.ensures.0
 
 pub returns-in_err-reserve-clause-no_points : goal.returns-in_err-reserve-clause-no_points
 returns-in_err-reserve-clause-no_points g c = c.requires
@@ -72,10 +73,10 @@ pub returns-in_err-reserve-clause-refused_scalars : goal.returns-in_err-reserve-
 returns-in_err-reserve-clause-refused_scalars g c = on-refusal c.from_residual.result _ c.in_err-reserve.ensures.items
 
 pub returns-in_err-reserve-2-clause-ok : goal.returns-in_err-reserve-2-clause-ok
-returns-in_err-reserve-2-clause-ok g c = no-success c.from_residual-in_err-reserve-2.result _ c.from_residual-in_err-reserve-2.ensures.0
+returns-in_err-reserve-2-clause-ok g c = IfOk-from_err c.from_residual-in_err-reserve-2.result _ c.from_residual-in_err-reserve-2.ensures.0
 
 pub returns-in_err-reserve-2-clause-scalars : goal.returns-in_err-reserve-2-clause-scalars
-returns-in_err-reserve-2-clause-scalars g c = no-success c.from_residual-in_err-reserve-2.result _ c.from_residual-in_err-reserve-2.ensures.0
+returns-in_err-reserve-2-clause-scalars g c = IfOk-from_err c.from_residual-in_err-reserve-2.result _ c.from_residual-in_err-reserve-2.ensures.0
 
 pub returns-in_err-reserve-2-clause-no_points : goal.returns-in_err-reserve-2-clause-no_points
 returns-in_err-reserve-2-clause-no_points g c = c.requires

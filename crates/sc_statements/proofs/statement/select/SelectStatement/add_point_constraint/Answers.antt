@@ -1,8 +1,9 @@
 use Rattle.std.proofs.Common.{◌≡◌, ℕ, ◌+◌, ◌*◌, All, length, vec_len, List, ◌∷◌, [], ◌++◌, map, sym, subst, ◌∙◌, ap, arith}
+use Rattle.std.proofs.lemmas.Result.{IfOk-from_err}
 use Rattle.std.proofs.lemmas.List.Elements.{All-push}
 use Rattle.sc_definitions.specs.Statements.{powers, products}
 use Rattle.sc_statements.specs.SelectStatements.{claims_of}
-use Rattle.sc_statements.proofs.Selecting.{no-success, on-refusal, selects-point}
+use Rattle.sc_statements.proofs.Selecting.{on-refusal, selects-point}
 use Rattle.sc_statements.proofs.statement.select.SelectStatement.add_point_constraint.Goals as goal
 
 -- no times anything is nothing
@@ -56,10 +57,10 @@ invariant_of-self-2 g c =
 
 -- a refusal leaves the statements as they were
 pub returns-in_err-reserve-clause-ok : goal.returns-in_err-reserve-clause-ok
-returns-in_err-reserve-clause-ok g c = no-success c.from_residual.result _ c.from_residual.ensures.0
+returns-in_err-reserve-clause-ok g c = IfOk-from_err c.from_residual.result _ c.from_residual.ensures.0
 
 pub returns-in_err-reserve-clause-points : goal.returns-in_err-reserve-clause-points
-returns-in_err-reserve-clause-points g c = no-success c.from_residual.result _ c.from_residual.ensures.0
+returns-in_err-reserve-clause-points g c = IfOk-from_err c.from_residual.result _ c.from_residual.ensures.0
 
 pub returns-in_err-reserve-clause-no_scalars : goal.returns-in_err-reserve-clause-no_scalars
 returns-in_err-reserve-clause-no_scalars g c = c.requires.kind
@@ -75,10 +76,10 @@ pub returns-in_err-reserve-clause-refused_points : goal.returns-in_err-reserve-c
 returns-in_err-reserve-clause-refused_points g c = on-refusal c.from_residual.result _ c.in_err-reserve.ensures.items
 
 pub returns-in_err-reserve-2-clause-ok : goal.returns-in_err-reserve-2-clause-ok
-returns-in_err-reserve-2-clause-ok g c = no-success c.from_residual-in_err-reserve-2.result _ c.from_residual-in_err-reserve-2.ensures.0
+returns-in_err-reserve-2-clause-ok g c = IfOk-from_err c.from_residual-in_err-reserve-2.result _ c.from_residual-in_err-reserve-2.ensures.0
 
 pub returns-in_err-reserve-2-clause-points : goal.returns-in_err-reserve-2-clause-points
-returns-in_err-reserve-2-clause-points g c = no-success c.from_residual-in_err-reserve-2.result _ c.from_residual-in_err-reserve-2.ensures.0
+returns-in_err-reserve-2-clause-points g c = IfOk-from_err c.from_residual-in_err-reserve-2.result _ c.from_residual-in_err-reserve-2.ensures.0
 
 pub returns-in_err-reserve-2-clause-no_scalars : goal.returns-in_err-reserve-2-clause-no_scalars
 returns-in_err-reserve-2-clause-no_scalars g c = c.requires.kind
