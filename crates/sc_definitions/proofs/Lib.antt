@@ -21,3 +21,4 @@ pub mod WorkedRounds
 pub mod WorkedSeeds
 pub mod ReplayLaws
 pub mod Lengths
+pub mod StandingLaws

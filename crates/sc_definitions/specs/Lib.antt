@@ -15,3 +15,5 @@ pub mod Played
 pub mod Problem
 pub mod Seeds
 pub mod Replays
+pub mod Channels
+pub mod Standings

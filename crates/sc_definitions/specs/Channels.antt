@@ -1,0 +1,73 @@
+-- Rounds of any protocol over a channel: what a round leaves of a history, and what is left where it is refused.
+use Rattle.std.specs.Prelude.{◌≡◌, ℕ, zero, suc, ◌<◌, true, false, List, [], ◌++◌, map}
+use Rattle.sc_definitions.specs.declared.events.Event.{Event}
+use Rattle.sc_definitions.specs.Events.{Rules, Extension, NonePasses}
+use Rattle.sc_definitions.specs.Transcript.{Round, messages_of, sent, before_draw, round_events, challenge, HasFirstWitness}
+use Rattle.sc_definitions.specs.Replays.{round_passes, Replays, ReplaysSome, IsInvalidAt}
+
+-- What stays in a transcript: how its challenger answers, the parts of its elements, the size of the field of its words, and the difficulty.
+pub record Channel : Type 0 where
+  pub rules : Rules
+  pub extension : Extension
+  pub base_size : ℕ
+  pub bits : ℕ
+
+-- ---- one round, from a history to the next
+
+-- A round was played at h: its witness is the first that passes, r is its challenge, and h' the history after it.
+pub record IsSent (c : Channel) (h : List Event) (round : Round) (r : ℕ) (h' : List Event) : Type 0 where
+  pub witness : HasFirstWitness c.rules c.extension c.bits h round
+  pub drawn : r ≡ challenge c.rules c.extension c.bits h round
+  pub history : h' ≡ h ++ round_events c.extension c.bits round
+
+-- A round was replayed at h: its witness passes, r is its challenge, and h' the history after it.
+pub record IsTaken (c : Channel) (h : List Event) (round : Round) (r : ℕ) (h' : List Event) : Type 0 where
+  pub passes : round_passes c.rules c.extension c.bits h round ≡ true
+  pub drawn : r ≡ challenge c.rules c.extension c.bits h round
+  pub history : h' ≡ h ++ round_events c.extension c.bits round
+
+-- No witness was found for values at h: the difficulty is positive, the history ends with them, and no element passes there.
+pub record NoWitnessFound (c : Channel) (h : List Event) (values : List ℕ) (h' : List Event) : Type 0 where
+  pub positive : 0 < c.bits
+  pub history : h' ≡ h ++ sent c.extension values
+  pub none_passes : NonePasses c.rules h' c.bits c.base_size
+
+-- The witness of a round at h fails: the history ends with its test.
+pub record WitnessFails (c : Channel) (h : List Event) (round : Round) (h' : List Event) : Type 0 where
+  pub fails : round_passes c.rules c.extension c.bits h round ≡ false
+  pub history : h' ≡ h ++ before_draw c.extension c.bits round
+
+-- ---- what rounds have put on the wire
+
+-- the messages of rounds, and at a positive difficulty their witnesses
+pub record Wire : Type 0 where
+  pub messages : List (List ℕ)
+  pub witnesses : List ℕ
+
+-- the witnesses of rounds at a difficulty
+abbrev pub witnesses_of : ℕ → List Round → List ℕ
+witnesses_of zero rounds = []
+witnesses_of (suc bits) rounds = map (λ r. r.witness) rounds
+
+-- the wire with rounds put behind it, at a difficulty
+abbrev pub with_rounds : ℕ → Wire → List Round → Wire
+with_rounds bits w rounds = record { messages = w.messages ++ messages_of rounds; witnesses = w.witnesses ++ witnesses_of bits rounds }
+
+-- ---- rounds that are replayed
+
+-- Where a replay stands: at a history, under a claim.
+pub record Footing : Type 0 where
+  pub history : List Event
+  pub claim : ℕ
+
+-- the rounds take it from one footing to the next, with these challenges; `next` is the claim after one round
+abbrev pub IsReplayed : (ℕ → List ℕ → ℕ → ℕ) → Channel → Footing → Footing → List Round → List ℕ → Type 0
+IsReplayed next c before after rounds rs = Replays next c.rules c.extension c.bits before.history before.claim rounds after.history rs after.claim
+
+-- some of the rounds do, from the first on
+abbrev pub IsReplayedInPart : (ℕ → List ℕ → ℕ → ℕ) → Channel → Footing → Footing → List Round → Type 0
+IsReplayedInPart next c before after rounds = ReplaysSome next c.rules c.extension c.bits before.history before.claim rounds after.history after.claim
+
+-- the rounds before round i do, and then the test of that round's witness, which is the first that fails
+abbrev pub FailsAt : (ℕ → List ℕ → ℕ → ℕ) → Channel → Footing → Footing → List Round → ℕ → Type 0
+FailsAt next c before after rounds i = IsInvalidAt next c.rules c.extension c.bits before.history before.claim rounds i after.history after.claim
