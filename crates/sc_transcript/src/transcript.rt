@@ -2,7 +2,7 @@
 //!
 //! A batch begins with a seed, which tells its protocol, its number of rounds, its difficulty and its basis from others. Each round then absorbs the
 //! two values that it sends, at a positive difficulty a witness with its test, and draws a challenge. A batch of no rounds absorbs and draws nothing.
-ghost use Rattle.std.specs.Prelude.{◌≡◌, ◌≢◌, ◌⊎◌, ◌+◌, ◌-◌, ◌*◌, ◌<◌, ◌≤◌, [], ◌∷◌, ◌++◌, Err, None, length, IfOk, OnOk, OnErr, IsOk, IsErrOf, IsSome, true, false};
+ghost use Rattle.std.specs.Prelude.{◌≡◌, ◌≢◌, ◌⊎◌, ◌+◌, ◌-◌, ◌*◌, ◌<◌, ◌≤◌, [], ◌∷◌, ◌++◌, Err, None, length, IfOk, IfErr, OnOk, OnErr, IsOk, IsErrOf, IsSome, true, false};
 ghost use Rattle.std.specs.Option.{option_map_or};
 ghost use Rattle.sc_definitions.specs.Events.{words, IsFirstWitness, NonePasses};
 ghost use Rattle.sc_definitions.specs.Transcript.{sent, ground, before_draw, round_events, challenge};
@@ -246,17 +246,14 @@ pub struct ProverTranscript<'a, C: Challenger<F>, F: Field, EF> {
 }
 
 impl<'a, C: Challenger<F>, F: Field, EF: ExtensionField<F>> ProverTranscript<'a, C, F, EF> {
+    ghost use Rattle.sc_transcript.specs.Drivers.{driver_in, challenger_in, unbegun, Continues, IsLent, IsFresh, IsSeeded, HasRoundLeft, IsDone, IsDue, PlaysRound, RefusesRound, HasRoom, TakesRoom};
+
     /// Begins a batch: the seed's words are observed, or nothing for no rounds. No more of the challenger's room is taken than they need.
     ///
     /// The difficulty is at most the challenger's [`Challenger::max_bits`].
     pub fn new(alloc: Global, challenger: &'a mut C, shape: SumcheckShape) -> Result<Self, NoMemory>
         requires { shape.pow_bits ≤ (C.rules challenger.old).max_bits }
-        ensures same_reference { IfOk result (λ t. t.challenger.ghost_name ≡ challenger.entry.ghost_name) }
-        ensures rules { IfOk result (λ t. C.rules t.challenger.now ≡ C.rules challenger.old) }
-        ensures history { IfOk result (λ t. C.history t.challenger.now ≡ C.history challenger.old ++ words (seed_of EF.DEGREE shape)) }
-        ensures shape { IfOk result (λ t. t.shape ≡ shape) }
-        ensures played { IfOk result (λ t. t.played ≡ 0) }
-        ensures spare { IfOk result (λ t. C.spare challenger.old ≤ C.spare t.challenger.now + length (seed_of EF.DEGREE shape)) }
+        ensures { IfOk result (λ t. IsSeeded EF.DEGREE (unbegun t challenger.entry shape) (driver_in t)) }
     {
         shape.seed::<F, EF, C>(alloc, challenger)?;
         Ok(ProverTranscript::over(challenger, shape))
@@ -266,10 +263,8 @@ impl<'a, C: Challenger<F>, F: Field, EF: ExtensionField<F>> ProverTranscript<'a,
     /// seed leaves calls the two one after the other.
     pub fn over(challenger: &'a mut C, shape: SumcheckShape) -> Self
         requires { shape.pow_bits ≤ (C.rules challenger.old).max_bits }
-        ensures same_reference { result.challenger.ghost_name ≡ challenger.entry.ghost_name }
-        ensures same { result.challenger.now ≡ challenger.old }
-        ensures shape { result.shape ≡ shape }
-        ensures played { result.played ≡ 0 }
+        ensures lent { IsLent challenger.entry (challenger_in result) }
+        ensures fresh { IsFresh shape (driver_in result) }
     {
         ProverTranscript {
             challenger,
@@ -284,24 +279,14 @@ impl<'a, C: Challenger<F>, F: Field, EF: ExtensionField<F>> ProverTranscript<'a,
     /// `NoWitness` comes exactly where the difficulty is positive and no element of the base field passes; the history then ends with the two values.
     /// After `NoMemory` the history is as it was. After either the round is still to be played, and the driver is spent by [`ProverTranscript::abort`].
     pub fn round(&mut self, c_a: EF, c_inf: EF) -> Result<(EF, Option<F>), SumcheckError>
-        requires { self.old.played < self.old.shape.num_rounds }
-        ensures same_reference { self.new.challenger.ghost_name ≡ self.old.challenger.ghost_name }
-        ensures rules { C.rules self.new.challenger.now ≡ C.rules self.old.challenger.now }
-        ensures shape { self.new.shape ≡ self.old.shape }
-        ensures played { OnOk result (self.new.played ≡ self.old.played + 1) }
-        ensures not_played { OnErr result (self.new.played ≡ self.old.played) }
-        ensures sent { IfOk result (λ x. IsSent (C.rules self.old.challenger.now) EF.extension self.old.shape.pow_bits (C.history self.old.challenger.now)
-            (pair_round (EF.number c_a) (EF.number c_inf) (option_map_or F.number x.1 0)) (EF.number x.0) (C.history self.new.challenger.now)) }
-        ensures ground { IfOk result (λ x. 0 < self.old.shape.pow_bits → IsSome x.1) }
-        ensures not_ground { IfOk result (λ x. self.old.shape.pow_bits ≡ 0 → x.1 ≡ None) }
-        ensures causes { OnErr result ((result ≡ Err SumcheckError.NoMemory) ⊎ (result ≡ Err (SumcheckError.NoWitness self.old.played))) }
-        ensures none_passes { result ≡ Err (SumcheckError.NoWitness self.old.played) → (0 < self.old.shape.pow_bits)
-            × NonePasses (C.rules self.old.challenger.now) (C.history self.old.challenger.now ++ sent EF.extension (EF.number c_a ∷ EF.number c_inf ∷ [])) self.old.shape.pow_bits F.ops.size }
-        ensures no_witness { result ≡ Err (SumcheckError.NoWitness self.old.played) → C.history self.new.challenger.now
-            ≡ C.history self.old.challenger.now ++ sent EF.extension (EF.number c_a ∷ EF.number c_inf ∷ []) }
-        ensures no_memory { result ≡ Err SumcheckError.NoMemory → C.history self.new.challenger.now ≡ C.history self.old.challenger.now }
-        ensures has_room { events_of EF.DEGREE self.old.shape.pow_bits ≤ C.spare self.old.challenger.now → result ≢ Err SumcheckError.NoMemory }
-        ensures spare { OnOk result (C.spare self.old.challenger.now ≤ C.spare self.new.challenger.now + events_of EF.DEGREE self.old.shape.pow_bits) }
+        requires { HasRoundLeft (driver_in self.old) }
+        ensures continues { Continues (driver_in self.old) (driver_in self.new) }
+        ensures plays { IfOk result (λ x. PlaysRound EF.extension (driver_in self.old) (driver_in self.new)
+            (pair_round (EF.number c_a) (EF.number c_inf) (option_map_or F.number x.1 0)) (EF.number x.0)) }
+        ensures due { IfOk result (λ x. IsDue (driver_in self.old) x.1) }
+        ensures refused { IfErr result (RefusesRound EF.extension (driver_in self.old) (driver_in self.new) (EF.number c_a ∷ EF.number c_inf ∷ [])) }
+        ensures has_room { HasRoom EF.DEGREE (driver_in self.old) → result ≢ Err SumcheckError.NoMemory }
+        ensures takes_room { OnOk result (TakesRoom EF.DEGREE (driver_in self.old) (driver_in self.new)) }
     {
         prove!(self.played < self.shape.num_rounds);
         let pow_bits = self.shape.pow_bits;
@@ -318,22 +303,22 @@ impl<'a, C: Challenger<F>, F: Field, EF: ExtensionField<F>> ProverTranscript<'a,
 
     /// The numbers that the batch was begun with.
     pub fn shape(&self) -> SumcheckShape
-        ensures { result ≡ self.now.shape }
+        ensures { result ≡ (driver_in self.now).shape }
     {
         self.shape
     }
 
     /// How many rounds are still to be played.
     pub fn rounds_left(&self) -> usize
-        ensures { result ≡ self.now.shape.num_rounds - self.now.played }
+        ensures { result ≡ (driver_in self.now).shape.num_rounds - (driver_in self.now).played }
     {
         self.shape.num_rounds - self.played
     }
 
     /// Ends a batch of which every round was played. The challenger stays as it is.
     pub fn finish(self)
-        requires { self.played ≡ self.shape.num_rounds }
-        ensures { self.exit.0.now ≡ self.entry.challenger.now }
+        requires { IsDone (driver_in self) }
+        ensures { self.exit.0.now ≡ (challenger_in self.entry).now }
     {
         let ProverTranscript {
             challenger: _,
@@ -345,7 +330,7 @@ impl<'a, C: Challenger<F>, F: Field, EF: ExtensionField<F>> ProverTranscript<'a,
 
     /// Ends a batch that is broken off. The challenger stays as it is.
     pub fn abort(self)
-        ensures { self.exit.0.now ≡ self.entry.challenger.now }
+        ensures { self.exit.0.now ≡ (challenger_in self.entry).now }
     {
         let ProverTranscript {
             challenger: _,
@@ -369,17 +354,14 @@ pub struct VerifierTranscript<'a, C: Challenger<F>, F: Field, EF> {
 }
 
 impl<'a, C: Challenger<F>, F: Field, EF: ExtensionField<F>> VerifierTranscript<'a, C, F, EF> {
+    ghost use Rattle.sc_transcript.specs.Drivers.{replayer_in, lent_to_replayer, unbegun_replayer, Continues, IsLent, IsFresh, IsSeeded, HasRoundLeft, IsDone, TakesRound, RejectsRound, HasRoom, TakesRoom};
+
     /// Begins a batch: the seed's words are observed, or nothing for no rounds. No more of the challenger's room is taken than they need.
     ///
     /// The difficulty is at most the challenger's [`Challenger::max_bits`].
     pub fn new(alloc: Global, challenger: &'a mut C, shape: SumcheckShape) -> Result<Self, NoMemory>
         requires { shape.pow_bits ≤ (C.rules challenger.old).max_bits }
-        ensures same_reference { IfOk result (λ t. t.challenger.ghost_name ≡ challenger.entry.ghost_name) }
-        ensures rules { IfOk result (λ t. C.rules t.challenger.now ≡ C.rules challenger.old) }
-        ensures history { IfOk result (λ t. C.history t.challenger.now ≡ C.history challenger.old ++ words (seed_of EF.DEGREE shape)) }
-        ensures shape { IfOk result (λ t. t.shape ≡ shape) }
-        ensures played { IfOk result (λ t. t.played ≡ 0) }
-        ensures spare { IfOk result (λ t. C.spare challenger.old ≤ C.spare t.challenger.now + length (seed_of EF.DEGREE shape)) }
+        ensures { IfOk result (λ t. IsSeeded EF.DEGREE (unbegun_replayer t challenger.entry shape) (replayer_in t)) }
     {
         shape.seed::<F, EF, C>(alloc, challenger)?;
         Ok(VerifierTranscript::over(challenger, shape))
@@ -389,10 +371,8 @@ impl<'a, C: Challenger<F>, F: Field, EF: ExtensionField<F>> VerifierTranscript<'
     /// seed leaves calls the two one after the other.
     pub fn over(challenger: &'a mut C, shape: SumcheckShape) -> Self
         requires { shape.pow_bits ≤ (C.rules challenger.old).max_bits }
-        ensures same_reference { result.challenger.ghost_name ≡ challenger.entry.ghost_name }
-        ensures same { result.challenger.now ≡ challenger.old }
-        ensures shape { result.shape ≡ shape }
-        ensures played { result.played ≡ 0 }
+        ensures lent { IsLent challenger.entry (lent_to_replayer result) }
+        ensures fresh { IsFresh shape (replayer_in result) }
     {
         VerifierTranscript {
             challenger,
@@ -408,31 +388,15 @@ impl<'a, C: Challenger<F>, F: Field, EF: ExtensionField<F>> VerifierTranscript<'
     /// `InvalidPowWitness` comes exactly where the witness fails; the history then ends with its word and its test. After `NoMemory` the history is as
     /// it was. After each of them the round is still to be played, and the driver is spent by [`VerifierTranscript::abort`].
     pub fn round(&mut self, c_a: EF, c_inf: EF, witness: Option<F>) -> Result<EF, SumcheckError>
-        requires { self.old.played < self.old.shape.num_rounds }
-        ensures same_reference { self.new.challenger.ghost_name ≡ self.old.challenger.ghost_name }
-        ensures rules { C.rules self.new.challenger.now ≡ C.rules self.old.challenger.now }
-        ensures shape { self.new.shape ≡ self.old.shape }
-        ensures played { OnOk result (self.new.played ≡ self.old.played + 1) }
-        ensures not_played { OnErr result (self.new.played ≡ self.old.played) }
-        ensures history { OnOk result (C.history self.new.challenger.now ≡ C.history self.old.challenger.now
-            ++ round_events EF.extension self.old.shape.pow_bits (pair_round (EF.number c_a) (EF.number c_inf) (option_map_or F.number witness 0))) }
-        ensures drawn { IfOk result (λ x. EF.number x ≡ challenge (C.rules self.old.challenger.now) EF.extension self.old.shape.pow_bits
-            (C.history self.old.challenger.now) (pair_round (EF.number c_a) (EF.number c_inf) (option_map_or F.number witness 0))) }
-        ensures passes { OnOk result (round_passes (C.rules self.old.challenger.now) EF.extension self.old.shape.pow_bits
-            (C.history self.old.challenger.now) (pair_round (EF.number c_a) (EF.number c_inf) (option_map_or F.number witness 0)) ≡ true) }
-        ensures given { OnOk result (0 < self.old.shape.pow_bits → IsSome witness) }
-        ensures causes { OnErr result ((result ≡ Err SumcheckError.NoMemory) ⊎ (result ≡ Err (SumcheckError.MissingPowWitness self.old.played self.old.shape.pow_bits))
-            ⊎ (result ≡ Err (SumcheckError.InvalidPowWitness self.old.played self.old.shape.pow_bits))) }
-        ensures missing { result ≡ Err (SumcheckError.MissingPowWitness self.old.played self.old.shape.pow_bits) → (0 < self.old.shape.pow_bits) × (witness ≡ None)
-            × (C.history self.new.challenger.now ≡ C.history self.old.challenger.now ++ sent EF.extension (EF.number c_a ∷ EF.number c_inf ∷ [])) }
-        ensures fails { result ≡ Err (SumcheckError.InvalidPowWitness self.old.played self.old.shape.pow_bits) → IsSome witness
-            × (round_passes (C.rules self.old.challenger.now) EF.extension self.old.shape.pow_bits
-            (C.history self.old.challenger.now) (pair_round (EF.number c_a) (EF.number c_inf) (option_map_or F.number witness 0)) ≡ false) }
-        ensures invalid { result ≡ Err (SumcheckError.InvalidPowWitness self.old.played self.old.shape.pow_bits) → C.history self.new.challenger.now
-            ≡ C.history self.old.challenger.now ++ before_draw EF.extension self.old.shape.pow_bits (pair_round (EF.number c_a) (EF.number c_inf) (option_map_or F.number witness 0)) }
-        ensures no_memory { result ≡ Err SumcheckError.NoMemory → C.history self.new.challenger.now ≡ C.history self.old.challenger.now }
-        ensures has_room { events_of EF.DEGREE self.old.shape.pow_bits ≤ C.spare self.old.challenger.now → result ≢ Err SumcheckError.NoMemory }
-        ensures spare { OnOk result (C.spare self.old.challenger.now ≤ C.spare self.new.challenger.now + events_of EF.DEGREE self.old.shape.pow_bits) }
+        requires { HasRoundLeft (replayer_in self.old) }
+        ensures continues { Continues (replayer_in self.old) (replayer_in self.new) }
+        ensures takes { IfOk result (λ x. TakesRound EF.extension (replayer_in self.old) (replayer_in self.new)
+            (pair_round (EF.number c_a) (EF.number c_inf) (option_map_or F.number witness 0)) (EF.number x)) }
+        ensures given { OnOk result (0 < (replayer_in self.old).shape.pow_bits → IsSome witness) }
+        ensures rejected { IfErr result (RejectsRound EF.extension (replayer_in self.old) (replayer_in self.new)
+            (pair_round (EF.number c_a) (EF.number c_inf) (option_map_or F.number witness 0)) witness) }
+        ensures has_room { HasRoom EF.DEGREE (replayer_in self.old) → result ≢ Err SumcheckError.NoMemory }
+        ensures takes_room { OnOk result (TakesRoom EF.DEGREE (replayer_in self.old) (replayer_in self.new)) }
     {
         prove!(self.played < self.shape.num_rounds);
         let round = self.played;
@@ -452,22 +416,22 @@ impl<'a, C: Challenger<F>, F: Field, EF: ExtensionField<F>> VerifierTranscript<'
 
     /// The numbers that the batch was begun with.
     pub fn shape(&self) -> SumcheckShape
-        ensures { result ≡ self.now.shape }
+        ensures { result ≡ (replayer_in self.now).shape }
     {
         self.shape
     }
 
     /// How many rounds are still to be played.
     pub fn rounds_left(&self) -> usize
-        ensures { result ≡ self.now.shape.num_rounds - self.now.played }
+        ensures { result ≡ (replayer_in self.now).shape.num_rounds - (replayer_in self.now).played }
     {
         self.shape.num_rounds - self.played
     }
 
     /// Ends a batch of which every round was played. The challenger stays as it is.
     pub fn finish(self)
-        requires { self.played ≡ self.shape.num_rounds }
-        ensures { self.exit.0.now ≡ self.entry.challenger.now }
+        requires { IsDone (replayer_in self) }
+        ensures { self.exit.0.now ≡ (lent_to_replayer self.entry).now }
     {
         let VerifierTranscript {
             challenger: _,
@@ -479,7 +443,7 @@ impl<'a, C: Challenger<F>, F: Field, EF: ExtensionField<F>> VerifierTranscript<'
 
     /// Ends a batch that is broken off. The challenger stays as it is.
     pub fn abort(self)
-        ensures { self.exit.0.now ≡ self.entry.challenger.now }
+        ensures { self.exit.0.now ≡ (lent_to_replayer self.entry).now }
     {
         let VerifierTranscript {
             challenger: _,
