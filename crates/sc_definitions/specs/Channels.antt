@@ -12,6 +12,10 @@ pub record Channel : Type 0 where
   pub base_size : ℕ
   pub bits : ℕ
 
+-- the channel of these
+abbrev pub channel : Rules → Extension → ℕ → ℕ → Channel
+channel R E size bits = record { rules = R; extension = E; base_size = size; bits = bits }
+
 -- ---- one round, from a history to the next
 
 -- A round was played at h: its witness is the first that passes, r is its challenge, and h' the history after it.
@@ -44,6 +48,10 @@ pub record Wire : Type 0 where
   pub messages : List (List ℕ)
   pub witnesses : List ℕ
 
+-- nothing yet
+abbrev pub empty_wire : Wire
+empty_wire = record { messages = []; witnesses = [] }
+
 -- the witnesses of rounds at a difficulty
 abbrev pub witnesses_of : ℕ → List Round → List ℕ
 witnesses_of zero rounds = []
@@ -59,6 +67,10 @@ with_rounds bits w rounds = record { messages = w.messages ++ messages_of rounds
 pub record Footing : Type 0 where
   pub history : List Event
   pub claim : ℕ
+
+-- the footing of these
+abbrev pub footing : List Event → ℕ → Footing
+footing h claim = record { history = h; claim = claim }
 
 -- the rounds take it from one footing to the next, with these challenges; `next` is the claim after one round
 abbrev pub IsReplayed : (ℕ → List ℕ → ℕ → ℕ) → Channel → Footing → Footing → List Round → List ℕ → Type 0

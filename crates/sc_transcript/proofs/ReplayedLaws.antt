@@ -1,39 +1,45 @@
 -- What a replay leaves, round after round and by its result.
-use Rattle.std.proofs.Common.{◌≡◌, ◌≢◌, ◌⊎◌, ◌↔◌, ℕ, ◌+◌, ◌<◌, ◌≤◌, false, true, List, [], ◌∷◌, ◌++◌, take, length, map, refl, ap, sym, ◌∙◌, inl, inr, Option, Some, None, Result, Ok, Err, IsSome, IfOk, OnErr, arith}
+use Rattle.std.proofs.Common.{◌≡◌, ◌≢◌, ◌⊎◌, ◌↔◌, ℕ, ◌+◌, ◌<◌, ◌≤◌, List, [], ◌∷◌, ◌++◌, take, length, map, refl, ap, subst, ◌∙◌, inl, inr, Option, Some, None, Result, Ok, Err, IsSome, IfOk, OnErr, arith}
 use Rattle.std.specs.List.{slice_get}
 use Rattle.std.proofs.lemmas.Bool.Decides.{nat_tests}
 use Rattle.std.proofs.lemmas.List.{map-append}
 use Rattle.std.proofs.lemmas.Option.{get_or_from_slice_get, slice_get_within}
 use Rattle.sc_definitions.specs.declared.events.Event.{Event}
 use Rattle.sc_definitions.specs.Events.{Rules, Extension}
-use Rattle.sc_definitions.specs.Transcript.{Round, before_draw, round_events, challenge}
-use Rattle.sc_definitions.specs.Replays.{round_passes, Replays, ReplaysSome, IsInvalidAt}
-use Rattle.sc_definitions.proofs.ReplayLaws.{Replays-none, Replays-more, take_whole, Invalid-from}
+use Rattle.sc_definitions.specs.Transcript.{Round}
+use Rattle.sc_definitions.specs.Channels.{Channel, channel, Footing, footing, IsTaken, WitnessFails, IsReplayed, IsReplayedInPart, FailsAt}
+use Rattle.sc_definitions.proofs.ReplayLaws.{Replays-none, Replays-more, take_whole}
 use Rattle.sc_transcript.specs.declared.error.SumcheckError.{SumcheckError}
 use Rattle.sc_transcript.specs.declared.error.SumcheckError.TheVariants.{InvalidPowWitness, MissingPowWitness, RoundCountMismatch, PowWitnessCountMismatch, NoMemory}
 use Rattle.sc_transcript.specs.Data.{witness_count}
+use Rattle.sc_transcript.specs.Drivers.{Driver, channel_of, RejectsRound}
 use Rattle.sc_transcript.specs.Invalid.{IsInvalid}
 use Rattle.sc_transcript.specs.Replayed.{Leaves}
 
 -- ---- the loop over the rounds
 
-pub replays_begin : (next : ℕ → List ℕ → ℕ → ℕ) (R : Rules) (E : Extension) (bits : ℕ) (h₀ h : List Event) (c₀ : ℕ) (out : List ℕ) →
-    h ≡ h₀ → out ≡ [] → Replays next R E bits h₀ c₀ [] h out c₀
-replays_begin next R E bits h₀ h c₀ out eh eo = rw (eh, eo) (Replays-none next R E bits h₀ c₀)
+-- the same rules at the same difficulty are the same channel
+pub same_channel : (R R' : Rules) (E : Extension) (size bits bits' : ℕ) → R ≡ R' → bits ≡ bits' → channel R E size bits ≡ channel R' E size bits'
+same_channel R R' E size bits bits' er eb = rw (er, eb) refl
 
-pub replays_step : {X : Type 0} (number : X → ℕ) (next : ℕ → List ℕ → ℕ → ℕ) (R R₁ : Rules) (E : Extension) (bits bits₁ : ℕ) (h₀ : List Event) (c₀ : ℕ) (rs : List Round) (i : ℕ) (r : Round) (h h₁ : List Event)
-    (out out₁ : List X) (c c₁ : ℕ) (x : X) →
-    slice_get rs i ≡ Some r → R₁ ≡ R → bits₁ ≡ bits → Replays next R E bits h₀ c₀ (take i rs) h (map number out) c →
-    h₁ ≡ h ++ round_events E bits₁ r → number x ≡ challenge R₁ E bits₁ h r → c₁ ≡ next c r.values (number x) → round_passes R₁ E bits₁ h r ≡ true → out₁ ≡ out ++ x ∷ [] →
-    Replays next R E bits h₀ c₀ (take (i + 1) rs) h₁ (map number out₁) c₁
-replays_step number next R R₁ E bits bits₁ h₀ c₀ rs i r h h₁ out out₁ c c₁ x is er eb p eh ex ec pass eo =
-    Replays-more next R R₁ E bits bits₁ h₀ c₀ rs i r h h₁ (map number out) (map number out₁) c c₁ (number x) (slice_get_within rs i r is) (get_or_from_slice_get rs i r r is) er eb p
-    eh ex ec pass (ap (map number) eo ∙ map-append number out (x ∷ []))
+pub replays_begin : (next : ℕ → List ℕ → ℕ → ℕ) (c : Channel) (h₀ h : List Event) (claim : ℕ) (out : List ℕ) → h ≡ h₀ → out ≡ [] →
+    IsReplayed next c (footing h₀ claim) (footing h claim) [] out
+replays_begin next c h₀ h claim out eh eo = rw (eh, eo) (Replays-none next c.rules c.extension c.bits h₀ claim)
 
-pub replays_end : (next : ℕ → List ℕ → ℕ → ℕ) (R : Rules) (E : Extension) (bits : ℕ) (h₀ : List Event) (c₀ : ℕ) (rs : List Round) (i : ℕ) (h h' : List Event) (out out' : List ℕ) (c : ℕ) →
-    i ≡ length rs → h' ≡ h → out' ≡ out → Replays next R E bits h₀ c₀ (take i rs) h out c → Replays next R E bits h₀ c₀ rs h' out' c
-replays_end next R E bits h₀ c₀ rs i h h' out out' c e eh eo p =
-    let p' : Replays next R E bits h₀ c₀ rs h out c = rw (take_whole rs i e) at p in
+pub replays_step : {X : Type 0} (number : X → ℕ) (next : ℕ → List ℕ → ℕ → ℕ) (c c₁ : Channel) (before at after : Footing) (rs : List Round) (i : ℕ) (r : Round) (out out₁ : List X) (x : X) →
+    slice_get rs i ≡ Some r → c₁ ≡ c → IsReplayed next c before at (take i rs) (map number out) →
+    IsTaken c₁ at.history r (number x) after.history → after.claim ≡ next at.claim r.values (number x) → out₁ ≡ out ++ x ∷ [] →
+    IsReplayed next c before after (take (i + 1) rs) (map number out₁)
+replays_step number next c c₁ before at after rs i r out out₁ x is same p q ec eo =
+    let taken = subst (λ k. IsTaken k at.history r (number x) after.history) same q in
+    Replays-more next c.rules c.rules c.extension c.bits c.bits before.history before.claim rs i r at.history after.history (map number out) (map number out₁) at.claim after.claim (number x)
+    (slice_get_within rs i r is) (get_or_from_slice_get rs i r r is) refl refl p
+    taken.history taken.drawn ec taken.passes (ap (map number) eo ∙ map-append number out (x ∷ []))
+
+pub replays_end : (next : ℕ → List ℕ → ℕ → ℕ) (c : Channel) (before : Footing) (rs : List Round) (i : ℕ) (h h' : List Event) (claim : ℕ) (out out' : List ℕ) →
+    i ≡ length rs → h' ≡ h → out' ≡ out → IsReplayed next c before (footing h claim) (take i rs) out → IsReplayed next c before (footing h' claim) rs out'
+replays_end next c before rs i h h' claim out out' e eh eo p =
+    let p' : IsReplayed next c before (footing h claim) rs out = rw (take_whole rs i e) at p in
     rw (eh, eo) p'
 
 -- a loop over all of them has ended
@@ -61,123 +67,103 @@ Is Y e e' = ◌≡◌ {A = Result Y SumcheckError} (Err e) (Err e')
 error_is : (Y : Type 0) (e e' : SumcheckError) → Is Y e e' → e ≡ e'
 error_is Y e e' p = cc
 
--- a round is refused
-pub leaves_refused : {X W : Type 0} (Y : Type 0) (M S : Type 0) (number : X → ℕ) (next : ℕ → List ℕ → ℕ → ℕ) (R R₁ : Rules) (E : Extension) (bits bits₁ : ℕ) (h₀ : List Event) (c₀ : ℕ) (rs : List Round)
-    (i n k played : ℕ) (r : Round) (h h₁ h₂ : List Event) (out : List ℕ) (c : ℕ) (error : SumcheckError) (w : Option W) →
-    R₁ ≡ R → bits₁ ≡ bits → played ≡ i → Replays next R E bits h₀ c₀ (take i rs) h out c → slice_get rs i ≡ Some r →
-    (i < k → IsSome w) → k ≡ witness_count bits n → i < n →
-    (Is Y error NoMemory ⊎ (Is Y error (MissingPowWitness played bits₁) ⊎ Is Y error (InvalidPowWitness played bits₁))) →
-    (Is Y error (MissingPowWitness played bits₁) → (0 < bits₁) × (w ≡ None) × M) →
-    (Is Y error (InvalidPowWitness played bits₁) → S × (round_passes R₁ E bits₁ h r ≡ false)) →
-    (Is Y error (InvalidPowWitness played bits₁) → h₁ ≡ h ++ before_draw E bits₁ r) →
-    (Is Y error NoMemory → h₁ ≡ h) → h₂ ≡ h₁ →
-    Leaves number next R E bits h₀ c₀ rs (Err error) h₂ c
-leaves_refused Y M S number next R R₁ E bits bits₁ h₀ c₀ rs i n k played r h h₁ h₂ out c error w er eb ei p is some count lt cause missing fails history kept e₂ =
-    elim cause [
-      | inl e ↦ inl (error_is Y _ _ e, record { count = i; out = out; replays = rw (e₂ ∙ kept e) p })
-      | inr y ↦ elim y [
-        | inl e ↦
-            let m = missing e in
-            let positive : 0 < bits = rw eb at m.0 in
-            absurd (some_is_some w (some (witness_due bits n i k positive count lt)) m.1)
-        | inr e ↦ inr (
-          played,
-          error_is Y _ _ e ∙ ap (InvalidPowWitness played) eb,
-          Invalid-from next R R R₁ E bits bits₁ h₀ h₀ c₀ rs played i r h h₁ h₂ out c refl refl er eb (sym ei) p is (fails e).1 (history e) e₂,
-        )
-      ]
-    ]
+-- a round is rejected
+pub leaves_rejected : {X W : Type 0} (number : X → ℕ) (next : ℕ → List ℕ → ℕ → ℕ) (E : Extension) (d d' : Driver) (c : Channel) (before : Footing) (rs : List Round) (i n k : ℕ) (r : Round)
+    (claim : ℕ) (out : List ℕ) (error : SumcheckError) (came : Option W) (h : List Event) →
+    channel_of E d ≡ c → d.played ≡ i → IsReplayed next c before (footing d.history claim) (take i rs) out → slice_get rs i ≡ Some r →
+    (i < k → IsSome came) → k ≡ witness_count c.bits n → i < n → RejectsRound E d d' r came error → h ≡ d'.history →
+    Leaves number next c before rs (Err error) (footing h claim)
+leaves_rejected number next E d d' c before rs i n k r claim out NoMemory came h same ei p is some count lt told left =
+    inl (refl, record { count = i; out = out; replays = rw (left ∙ told.why) p })
+leaves_rejected number next E d d' c before rs i n k r claim out (MissingPowWitness j b) came h same ei p is some count lt told left =
+    let positive : 0 < c.bits = subst (λ t. 0 < t) (ap (λ (ch : Channel). ch.bits) same) told.why.2 in
+    absurd (some_is_some came (some (witness_due c.bits n i k positive count lt)) told.why.3)
+leaves_rejected number next E d d' c before rs i n k r claim out (InvalidPowWitness j b) came h same ei p is some count lt told left =
+    let place : j ≡ i = told.why.0 ∙ ei in
+    let fails = subst (λ ch. WitnessFails ch d.history r d'.history) same told.why.3 in
+    inr (
+      j,
+      ap (InvalidPowWitness j) (told.why.1 ∙ ap (λ (ch : Channel). ch.bits) same),
+      record { out = out; before = d.history; replays = rw place p; round = r; is = rw place is; fails = fails.fails; history = left ∙ fails.history },
+    )
+leaves_rejected number next E d d' c before rs i n k r claim out error came h same ei p is some count lt told left = absurd told.why
 
 -- ---- by the result, where the replay may not have begun
 
-pub leaves_at : {X : Type 0} (number : X → ℕ) (next : ℕ → List ℕ → ℕ → ℕ) (R R' : Rules) (E : Extension) (bits : ℕ) (h₀ h₀' : List Event) (c₀ : ℕ) (rs : List Round)
-    (result : Result (List X) SumcheckError) (h : List Event) (c : ℕ) →
-    R ≡ R' → h₀ ≡ h₀' → Leaves number next R E bits h₀ c₀ rs result h c → Leaves number next R' E bits h₀' c₀ rs result h c
-leaves_at number next R R' E bits h₀ h₀' c₀ rs result h c er eh p = rw (← er, ← eh) p
+pub leaves_at : {X : Type 0} (number : X → ℕ) (next : ℕ → List ℕ → ℕ → ℕ) (c c' : Channel) (before before' after : Footing) (rs : List Round) (result : Result (List X) SumcheckError) →
+    c ≡ c' → before ≡ before' → Leaves number next c before rs result after → Leaves number next c' before' rs result after
+leaves_at number next c c' before before' after rs result ec eb p = rw (← ec, ← eb) p
 
-abbrev Begun : {X : Type 0} → Type 0 → Type 0 → (X → ℕ) → (ℕ → List ℕ → ℕ → ℕ) → Rules → Extension → ℕ → List Event → ℕ → List Round → Result (List X) SumcheckError → List Event → ℕ → Type 0
-Begun A B number next R E bits h₀ c₀ rs result h c = ((result ≡ Err NoMemory) × A × B) ⊎ Leaves number next R E bits h₀ c₀ rs result h c
+module _ {X : Type 0} (A B : Type 0) (number : X → ℕ) (next : ℕ → List ℕ → ℕ → ℕ) (c : Channel) (before after : Footing) (rs : List Round) where
+  abbrev Begun : Result (List X) SumcheckError → Type 0
+  Begun result = ((result ≡ Err NoMemory) × A × B) ⊎ Leaves number next c before rs result after
 
--- an error is `NoMemory`, or that of a witness
-pub begun_errors : {X : Type 0} (A B : Type 0) (number : X → ℕ) (next : ℕ → List ℕ → ℕ → ℕ) (R : Rules) (E : Extension) (bits : ℕ) (h₀ : List Event) (c₀ : ℕ) (rs : List Round)
-    (result : Result (List X) SumcheckError) (h : List Event) (c : ℕ) (e : SumcheckError) →
-    Begun A B number next R E bits h₀ c₀ rs result h c → result ≡ Err e → (e ≡ NoMemory) ⊎ ((i : ℕ) × (e ≡ InvalidPowWitness i bits))
-begun_errors A B number next R E bits h₀ c₀ rs (Ok out) h c e b is = cc
-begun_errors A B number next R E bits h₀ c₀ rs (Err x) h c e b is = elim b [
-  | inl y ↦ inl (let z = y.0 in cc)
-  | inr l ↦ elim l [
+  -- an error is `NoMemory`, or that of a witness
+  pub begun_errors : (result : Result (List X) SumcheckError) (e : SumcheckError) → Begun result → result ≡ Err e → (e ≡ NoMemory) ⊎ ((i : ℕ) × (e ≡ InvalidPowWitness i c.bits))
+  begun_errors (Ok out) e b is = cc
+  begun_errors (Err x) e b is = elim b [
     | inl y ↦ inl (let z = y.0 in cc)
-    | inr y ↦ inr (y.0, (let z = y.1 in cc))
+    | inr l ↦ elim l [
+      | inl y ↦ inl (let z = y.0 in cc)
+      | inr y ↦ inr (y.0, (let z = y.1 in cc))
+    ]
   ]
-]
 
-pub begun_ok : {X : Type 0} (A B : Type 0) (number : X → ℕ) (next : ℕ → List ℕ → ℕ → ℕ) (R : Rules) (E : Extension) (bits : ℕ) (h₀ : List Event) (c₀ : ℕ) (rs : List Round)
-    (result : Result (List X) SumcheckError) (h : List Event) (c : ℕ) →
-    Begun A B number next R E bits h₀ c₀ rs result h c → IfOk result (λ out. Replays next R E bits h₀ c₀ rs h (map number out) c)
-begun_ok A B number next R E bits h₀ c₀ rs (Ok out) h c b = elim b [
-  | inl y ↦ (let z = y.0 in absurd cc)
-  | inr l ↦ l
-]
-begun_ok A B number next R E bits h₀ c₀ rs (Err x) h c b = tt
-
-pub begun_invalid : {X : Type 0} (A B : Type 0) (number : X → ℕ) (next : ℕ → List ℕ → ℕ → ℕ) (R : Rules) (E : Extension) (bits : ℕ) (h₀ : List Event) (c₀ : ℕ) (rs : List Round)
-    (result : Result (List X) SumcheckError) (h : List Event) (c : ℕ) →
-    Begun A B number next R E bits h₀ c₀ rs result h c → (i b : ℕ) → result ≡ Err (InvalidPowWitness i b) → (b ≡ bits) × IsInvalidAt next R E bits h₀ c₀ rs i h c
-begun_invalid A B number next R E bits h₀ c₀ rs (Ok out) h c p i b is = absurd cc
-begun_invalid A B number next R E bits h₀ c₀ rs (Err x) h c p i b is = elim p [
-  | inl y ↦ (let z = y.0 in absurd cc)
-  | inr l ↦ elim l [
+  pub begun_ok : (result : Result (List X) SumcheckError) → Begun result → IfOk result (λ out. IsReplayed next c before after rs (map number out))
+  begun_ok (Ok out) b = elim b [
     | inl y ↦ (let z = y.0 in absurd cc)
-    | inr y ↦
-        let z : x ≡ InvalidPowWitness y.0 bits = y.1 in
-        let same : b ≡ bits = cc in
-        let place : i ≡ y.0 = cc in (same, rw place y.2)
+    | inr l ↦ l
   ]
-]
+  begun_ok (Err x) b = tt
 
-pub begun_no_memory : {X : Type 0} (A B : Type 0) (number : X → ℕ) (next : ℕ → List ℕ → ℕ → ℕ) (R : Rules) (E : Extension) (bits : ℕ) (h₀ : List Event) (c₀ : ℕ) (rs : List Round)
-    (result : Result (List X) SumcheckError) (h : List Event) (c : ℕ) →
-    Begun A B number next R E bits h₀ c₀ rs result h c → result ≡ Err NoMemory → (A × B) ⊎ ReplaysSome next R E bits h₀ c₀ rs h c
-begun_no_memory A B number next R E bits h₀ c₀ rs (Ok out) h c p is = absurd cc
-begun_no_memory A B number next R E bits h₀ c₀ rs (Err x) h c p is = elim p [
-  | inl y ↦ inl (y.1, y.2)
-  | inr l ↦ elim l [
-    | inl y ↦ inr y.1
-    | inr y ↦ (let z = y.1 in absurd cc)
+  pub begun_invalid : (result : Result (List X) SumcheckError) → Begun result → (i b : ℕ) → result ≡ Err (InvalidPowWitness i b) → (b ≡ c.bits) × FailsAt next c before after rs i
+  begun_invalid (Ok out) p i b is = absurd cc
+  begun_invalid (Err x) p i b is = elim p [
+    | inl y ↦ (let z = y.0 in absurd cc)
+    | inr l ↦ elim l [
+      | inl y ↦ (let z = y.0 in absurd cc)
+      | inr y ↦
+          let z : x ≡ InvalidPowWitness y.0 c.bits = y.1 in
+          let same : b ≡ c.bits = cc in
+          let place : i ≡ y.0 = cc in (same, rw place y.2)
+    ]
   ]
-]
 
-pub begun_causes : (P Q : Type 0) {X : Type 0} (A B : Type 0) (number : X → ℕ) (next : ℕ → List ℕ → ℕ → ℕ) (R : Rules) (E : Extension) (bits : ℕ) (h₀ : List Event) (c₀ : ℕ) (rs : List Round)
-    (result : Result (List X) SumcheckError) (h : List Event) (c : ℕ) →
-    Begun A B number next R E bits h₀ c₀ rs result h c → OnErr result (P ⊎ (Q ⊎ ((result ≡ Err NoMemory) ⊎ IsInvalid result)))
-begun_causes P Q A B number next R E bits h₀ c₀ rs (Ok out) h c p = tt
-begun_causes P Q A B number next R E bits h₀ c₀ rs (Err x) h c p = elim (begun_errors A B number next R E bits h₀ c₀ rs (Err x) h c x p refl) [
-  | inl e ↦ inr (inr (inl (ap Err e)))
-  | inr y ↦ inr (inr (inr (rw y.1 tt)))
-]
+  pub begun_no_memory : (result : Result (List X) SumcheckError) → Begun result → result ≡ Err NoMemory → (A × B) ⊎ IsReplayedInPart next c before after rs
+  begun_no_memory (Ok out) p is = absurd cc
+  begun_no_memory (Err x) p is = elim p [
+    | inl y ↦ inl (y.1, y.2)
+    | inr l ↦ elim l [
+      | inl y ↦ inr y.1
+      | inr y ↦ (let z = y.1 in absurd cc)
+    ]
+  ]
 
--- it is no error of a count
-pub begun_rounds : {X : Type 0} (A B : Type 0) (number : X → ℕ) (next : ℕ → List ℕ → ℕ → ℕ) (R : Rules) (E : Extension) (bits : ℕ) (h₀ : List Event) (c₀ : ℕ) (rs : List Round)
-    (result : Result (List X) SumcheckError) (h : List Event) (c : ℕ) (m n : ℕ) →
-    Begun A B number next R E bits h₀ c₀ rs result h c → m ≡ n → (result ≡ Err (RoundCountMismatch n m)) ↔ (m ≢ n)
-begun_rounds A B number next R E bits h₀ c₀ rs result h c m n p e = (
-  λ is. elim (begun_errors A B number next R E bits h₀ c₀ rs result h c (RoundCountMismatch n m) p is) [
-    | inl z ↦ absurd cc
-    | inr y ↦ (let z = y.1 in absurd cc)
-  ],
-  λ differs. absurd (differs e),
-)
+  pub begun_causes : (P Q : Type 0) (result : Result (List X) SumcheckError) → Begun result → OnErr result (P ⊎ (Q ⊎ ((result ≡ Err NoMemory) ⊎ IsInvalid result)))
+  begun_causes P Q (Ok out) p = tt
+  begun_causes P Q (Err x) p = elim (begun_errors (Err x) x p refl) [
+    | inl e ↦ inr (inr (inl (ap Err e)))
+    | inr y ↦ inr (inr (inr (rw y.1 tt)))
+  ]
 
-pub begun_witnesses : {X : Type 0} (A B : Type 0) (number : X → ℕ) (next : ℕ → List ℕ → ℕ → ℕ) (R : Rules) (E : Extension) (bits : ℕ) (h₀ : List Event) (c₀ : ℕ) (rs : List Round)
-    (result : Result (List X) SumcheckError) (h : List Event) (c : ℕ) (m n k w : ℕ) →
-    Begun A B number next R E bits h₀ c₀ rs result h c → k ≡ w → (result ≡ Err (PowWitnessCountMismatch w k)) ↔ ((m ≡ n) × (k ≢ w))
-begun_witnesses A B number next R E bits h₀ c₀ rs result h c m n k w p e = (
-  λ is. elim (begun_errors A B number next R E bits h₀ c₀ rs result h c (PowWitnessCountMismatch w k) p is) [
-    | inl z ↦ absurd cc
-    | inr y ↦ (let z = y.1 in absurd cc)
-  ],
-  λ differs. absurd (differs.1 e),
-)
+  -- it is no error of a count
+  pub begun_rounds : (m n : ℕ) (result : Result (List X) SumcheckError) → Begun result → m ≡ n → (result ≡ Err (RoundCountMismatch n m)) ↔ (m ≢ n)
+  begun_rounds m n result p e = (
+    λ is. elim (begun_errors result (RoundCountMismatch n m) p is) [
+      | inl z ↦ absurd cc
+      | inr y ↦ (let z = y.1 in absurd cc)
+    ],
+    λ differs. absurd (differs e),
+  )
+
+  pub begun_witnesses : (m n k w : ℕ) (result : Result (List X) SumcheckError) → Begun result → k ≡ w → (result ≡ Err (PowWitnessCountMismatch w k)) ↔ ((m ≡ n) × (k ≢ w))
+  begun_witnesses m n k w result p e = (
+    λ is. elim (begun_errors result (PowWitnessCountMismatch w k) p is) [
+      | inl z ↦ absurd cc
+      | inr y ↦ (let z = y.1 in absurd cc)
+    ],
+    λ differs. absurd (differs.1 e),
+  )
 
 -- the counts are right
 pub counts_right : {Z : Type 0} (m n k w : ℕ) → (m ≡ n) × (k ≡ w) → (m ≢ n) ⊎ (k ≢ w) → Z

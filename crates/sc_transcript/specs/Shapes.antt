@@ -1,8 +1,12 @@
 -- What a batch of rounds appends to a history, by its shape.
-use Rattle.std.specs.Prelude.{ℕ, zero, suc, ◌+◌, ◌*◌, List, [], ◌∷◌}
+use Rattle.std.specs.Prelude.{ℕ, zero, suc, ◌+◌, ◌*◌, List, [], ◌∷◌, ◌++◌}
+use Rattle.sc_definitions.specs.declared.events.Event.{Event}
+use Rattle.sc_definitions.specs.Events.{words}
 use Rattle.sc_definitions.specs.Transcript.{Round, round_of}
 use Rattle.sc_definitions.specs.Seeds.{quadratic_seed}
+use Rattle.sc_definitions.specs.Channels.{Footing, footing}
 use Rattle.sc_table.specs.Strategy.{basis_of}
+use Rattle.sc_table.specs.declared.strategy.Basis.{Basis}
 use Rattle.sc_transcript.specs.declared.transcript.SumcheckShape.{SumcheckShape}
 
 -- the words that a batch begins with, over an extension of a degree; none for no rounds
@@ -17,3 +21,11 @@ events_of degree (suc bits) = 3 * degree + 2
 -- the round of two values and a witness
 abbrev pub pair_round : ℕ → ℕ → ℕ → Round
 pair_round c_a c_inf witness = round_of (c_a ∷ c_inf ∷ []) witness
+
+-- the shape of so many rounds, at a difficulty, in a basis
+abbrev pub shape_of : ℕ → ℕ → Basis → SumcheckShape
+shape_of num_rounds pow_bits basis = record { num_rounds = num_rounds; pow_bits = pow_bits; basis = basis }
+
+-- where a batch stands behind its seed, from a history on and under a claim
+abbrev pub seeded : ℕ → SumcheckShape → List Event → ℕ → Footing
+seeded degree shape h claim = footing (h ++ words (seed_of degree shape)) claim

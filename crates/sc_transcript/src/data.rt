@@ -1,13 +1,11 @@
 //! The data of a proof, and the verifier's replay of it.
-ghost use Rattle.std.specs.Prelude.{◌≡◌, ◌≢◌, ◌⊎◌, ◌↔◌, ℕ, ◌+◌, ◌<◌, ◌≤◌, [], ◌∷◌, ◌++◌, Err, IfOk, OnOk, OnErr, IsOk, IsErrOf, IsSome, IsNone, IfSome, Some, length, map, vec_len, vec_capacity, slice_index_or, None};
+ghost use Rattle.std.specs.Prelude.{◌≡◌, ◌≢◌, ◌⊎◌, ◌↔◌, ℕ, ◌+◌, ◌<◌, ◌≤◌, [], ◌∷◌, ◌++◌, Err, IfOk, IfErr, OnOk, OnErr, IsOk, IsErrOf, IsSome, IsNone, IfSome, Some, length, map, vec_len, vec_capacity, slice_index_or, None};
 ghost use Rattle.std.specs.List.{slice_get};
 ghost use Rattle.std.specs.Option.{option_map_or};
-ghost use Rattle.sc_definitions.specs.Events.{words, NonePasses};
 ghost use Rattle.sc_definitions.specs.Rounds.{next_claim};
-ghost use Rattle.sc_definitions.specs.Transcript.{sent};
-ghost use Rattle.sc_definitions.specs.Replays.{Replays, ReplaysSome, IsInvalidAt};
+ghost use Rattle.sc_definitions.specs.Channels.{channel, footing, IsReplayed, IsReplayedInPart, FailsAt};
 ghost use Rattle.sc_table.specs.Strategy.{basis_of};
-ghost use Rattle.sc_transcript.specs.Shapes.{seed_of, events_of, pair_round};
+ghost use Rattle.sc_transcript.specs.Shapes.{shape_of, seeded, pair_round};
 ghost use Rattle.sc_transcript.specs.Data.{rounds_in, witness_count};
 ghost use Rattle.sc_transcript.specs.Invalid.{IsInvalid};
 ghost use Rattle.sc_transcript.specs.Replayed.{Leaves};
@@ -29,12 +27,13 @@ pub struct SumcheckData<F, EF> {
 }
 
 impl<F: Field, EF: ExtensionField<F>> SumcheckData<F, EF> {
-    ghost use Rattle.sc_transcript.specs.Data.{messages_in, witnesses_in, spare_in, IsAppended};
+    ghost use Rattle.sc_transcript.specs.Data.{wire_in, spare_in};
+    ghost use Rattle.sc_definitions.specs.Channels.{empty_wire};
+    ghost use Rattle.sc_transcript.specs.Drivers.{driver_in, Continues, HasRoundLeft, PutsRound, RefusesRound, HasRoom, TakesRoom};
 
     /// Data without rounds.
     pub fn new(alloc: Global) -> Self
-        ensures messages { messages_in EF.number result ≡ [] }
-        ensures witnesses { witnesses_in F.number result ≡ [] }
+        ensures { wire_in F.number EF.number result ≡ empty_wire }
     {
         SumcheckData {
             polynomial_evaluations: Vec::new(alloc),
@@ -58,8 +57,7 @@ impl<F: Field, EF: ExtensionField<F>> SumcheckData<F, EF> {
 
     /// Makes room for this many more rounds. Room that was there stays, and where it was enough the answer is `Ok`. The rounds stay.
     pub fn reserve(&mut self, rounds: usize) -> Result<(), NoMemory>
-        ensures messages { messages_in EF.number self.new ≡ messages_in EF.number self.old }
-        ensures witnesses { witnesses_in F.number self.new ≡ witnesses_in F.number self.old }
+        ensures kept { wire_in F.number EF.number self.new ≡ wire_in F.number EF.number self.old }
         ensures ok { OnOk result (rounds ≤ spare_in self.new) }
         ensures never_lowers { spare_in self.old ≤ spare_in self.new }
         ensures has_room { rounds ≤ spare_in self.old → IsOk result }
@@ -71,8 +69,7 @@ impl<F: Field, EF: ExtensionField<F>> SumcheckData<F, EF> {
 
     /// The same data, in memory of its own.
     pub fn copy(&self, alloc: Global) -> Result<Self, NoMemory>
-        ensures messages { IfOk result (λ d. messages_in EF.number d ≡ messages_in EF.number self.now) }
-        ensures witnesses { IfOk result (λ d. witnesses_in F.number d ≡ witnesses_in F.number self.now) }
+        ensures { IfOk result (λ d. wire_in F.number EF.number d ≡ wire_in F.number EF.number self.now) }
     {
         Ok(SumcheckData {
             polynomial_evaluations: Vec::from_slice(alloc, &self.polynomial_evaluations)?,
@@ -90,25 +87,14 @@ impl<F: Field, EF: ExtensionField<F>> SumcheckData<F, EF> {
         c_a: EF,
         c_inf: EF,
     ) -> Result<EF, SumcheckError>
-        requires { transcript.old.played < transcript.old.shape.num_rounds }
-        ensures same_reference { transcript.new.challenger.ghost_name ≡ transcript.old.challenger.ghost_name }
-        ensures rules { C.rules transcript.new.challenger.now ≡ C.rules transcript.old.challenger.now }
-        ensures shape { transcript.new.shape ≡ transcript.old.shape }
-        ensures played { OnOk result (transcript.new.played ≡ transcript.old.played + 1) }
-        ensures not_played { OnErr result (transcript.new.played ≡ transcript.old.played) }
-        ensures appended { IfOk result (λ r. IsAppended (C.rules transcript.old.challenger.now) EF.extension transcript.old.shape.pow_bits (C.history transcript.old.challenger.now)
-            (EF.number c_a ∷ EF.number c_inf ∷ []) (EF.number r) (C.history transcript.new.challenger.now)
-            (messages_in EF.number self.old) (witnesses_in F.number self.old) (messages_in EF.number self.new) (witnesses_in F.number self.new)) }
-        ensures messages { OnErr result (messages_in EF.number self.new ≡ messages_in EF.number self.old) }
-        ensures witnesses { OnErr result (witnesses_in F.number self.new ≡ witnesses_in F.number self.old) }
-        ensures causes { OnErr result ((result ≡ Err SumcheckError.NoMemory) ⊎ (result ≡ Err (SumcheckError.NoWitness transcript.old.played))) }
-        ensures none_passes { result ≡ Err (SumcheckError.NoWitness transcript.old.played) → (0 < transcript.old.shape.pow_bits)
-            × NonePasses (C.rules transcript.old.challenger.now) (C.history transcript.old.challenger.now ++ sent EF.extension (EF.number c_a ∷ EF.number c_inf ∷ [])) transcript.old.shape.pow_bits F.ops.size }
-        ensures no_witness { result ≡ Err (SumcheckError.NoWitness transcript.old.played) → C.history transcript.new.challenger.now
-            ≡ C.history transcript.old.challenger.now ++ sent EF.extension (EF.number c_a ∷ EF.number c_inf ∷ []) }
-        ensures no_memory { result ≡ Err SumcheckError.NoMemory → C.history transcript.new.challenger.now ≡ C.history transcript.old.challenger.now }
-        ensures has_room { 1 ≤ spare_in self.old → events_of EF.DEGREE transcript.old.shape.pow_bits ≤ C.spare transcript.old.challenger.now → result ≢ Err SumcheckError.NoMemory }
-        ensures spare { OnOk result (C.spare transcript.old.challenger.now ≤ C.spare transcript.new.challenger.now + events_of EF.DEGREE transcript.old.shape.pow_bits) }
+        requires { HasRoundLeft (driver_in transcript.old) }
+        ensures continues { Continues (driver_in transcript.old) (driver_in transcript.new) }
+        ensures puts { IfOk result (λ r. PutsRound EF.extension (driver_in transcript.old) (driver_in transcript.new) (EF.number c_a ∷ EF.number c_inf ∷ []) (EF.number r)
+            (wire_in F.number EF.number self.old) (wire_in F.number EF.number self.new)) }
+        ensures refused { IfErr result (RefusesRound EF.extension (driver_in transcript.old) (driver_in transcript.new) (EF.number c_a ∷ EF.number c_inf ∷ [])) }
+        ensures kept { OnErr result (wire_in F.number EF.number self.new ≡ wire_in F.number EF.number self.old) }
+        ensures has_room { 1 ≤ spare_in self.old → HasRoom EF.DEGREE (driver_in transcript.old) → result ≢ Err SumcheckError.NoMemory }
+        ensures takes_room { OnOk result (TakesRoom EF.DEGREE (driver_in transcript.old) (driver_in transcript.new)) }
         ensures room { OnOk result (spare_in self.old ≤ spare_in self.new + 1) }
         ensures room_kept { OnErr result (spare_in self.old ≤ spare_in self.new) }
     {
@@ -146,18 +132,16 @@ impl<F: Field, EF: ExtensionField<F>> SumcheckData<F, EF> {
             ↔ ((vec_len self.now.polynomial_evaluations ≡ expected_rounds) × (vec_len self.now.pow_witnesses ≢ witness_count pow_bits expected_rounds)) }
         ensures counted { ((vec_len self.now.polynomial_evaluations ≢ expected_rounds) ⊎ (vec_len self.now.pow_witnesses ≢ witness_count pow_bits expected_rounds))
             → (C.history challenger.new ≡ C.history challenger.old) × (claimed_sum.new ≡ claimed_sum.old) }
-        ensures ok { IfOk result (λ point. Replays (next_claim (basis_of basis) EF.ops) (C.rules challenger.old) EF.extension pow_bits
-            (C.history challenger.old ++ words (seed_of EF.DEGREE (record { num_rounds = expected_rounds; pow_bits = pow_bits; basis = basis }))) (EF.number claimed_sum.old)
-            (rounds_in F.number EF.number self.now) (C.history challenger.new) (map EF.number point) (EF.number claimed_sum.new)) }
-        ensures invalid { (i bits : ℕ) → result ≡ Err (SumcheckError.InvalidPowWitness i bits) → (bits ≡ pow_bits)
-            × IsInvalidAt (next_claim (basis_of basis) EF.ops) (C.rules challenger.old) EF.extension pow_bits
-            (C.history challenger.old ++ words (seed_of EF.DEGREE (record { num_rounds = expected_rounds; pow_bits = pow_bits; basis = basis }))) (EF.number claimed_sum.old)
-            (rounds_in F.number EF.number self.now) i (C.history challenger.new) (EF.number claimed_sum.new) }
-        ensures no_memory { result ≡ Err SumcheckError.NoMemory
-            → ((C.history challenger.new ≡ C.history challenger.old) × (claimed_sum.new ≡ claimed_sum.old))
-            ⊎ ReplaysSome (next_claim (basis_of basis) EF.ops) (C.rules challenger.old) EF.extension pow_bits
-            (C.history challenger.old ++ words (seed_of EF.DEGREE (record { num_rounds = expected_rounds; pow_bits = pow_bits; basis = basis }))) (EF.number claimed_sum.old)
-            (rounds_in F.number EF.number self.now) (C.history challenger.new) (EF.number claimed_sum.new) }
+        ensures ok { IfOk result (λ point. IsReplayed (next_claim (basis_of basis) EF.ops) (channel (C.rules challenger.old) EF.extension F.ops.size pow_bits)
+            (seeded EF.DEGREE (shape_of expected_rounds pow_bits basis) (C.history challenger.old) (EF.number claimed_sum.old))
+            (footing (C.history challenger.new) (EF.number claimed_sum.new)) (rounds_in F.number EF.number self.now) (map EF.number point)) }
+        ensures invalid { (i bits : ℕ) → result ≡ Err (SumcheckError.InvalidPowWitness i bits) → (bits ≡ pow_bits) × FailsAt (next_claim (basis_of basis) EF.ops) (channel (C.rules challenger.old) EF.extension F.ops.size pow_bits)
+            (seeded EF.DEGREE (shape_of expected_rounds pow_bits basis) (C.history challenger.old) (EF.number claimed_sum.old))
+            (footing (C.history challenger.new) (EF.number claimed_sum.new)) (rounds_in F.number EF.number self.now) i }
+        ensures no_memory { result ≡ Err SumcheckError.NoMemory → ((C.history challenger.new ≡ C.history challenger.old) × (claimed_sum.new ≡ claimed_sum.old))
+            ⊎ IsReplayedInPart (next_claim (basis_of basis) EF.ops) (channel (C.rules challenger.old) EF.extension F.ops.size pow_bits)
+            (seeded EF.DEGREE (shape_of expected_rounds pow_bits basis) (C.history challenger.old) (EF.number claimed_sum.old))
+            (footing (C.history challenger.new) (EF.number claimed_sum.new)) (rounds_in F.number EF.number self.now) }
         ensures causes { OnErr result ((vec_len self.now.polynomial_evaluations ≢ expected_rounds) ⊎ (vec_len self.now.pow_witnesses ≢ witness_count pow_bits expected_rounds)
             ⊎ (result ≡ Err SumcheckError.NoMemory) ⊎ IsInvalid result) }
     {
@@ -183,9 +167,9 @@ impl<F: Field, EF: ExtensionField<F>> SumcheckData<F, EF> {
         requires witnessed { vec_len self.now.pow_witnesses ≡ witness_count shape.pow_bits shape.num_rounds }
         ensures rules { C.rules challenger.new ≡ C.rules challenger.old }
         ensures leaves { ((result ≡ Err SumcheckError.NoMemory) × (C.history challenger.new ≡ C.history challenger.old) × (claimed_sum.new ≡ claimed_sum.old))
-            ⊎ Leaves EF.number (next_claim (basis_of shape.basis) EF.ops) (C.rules challenger.old) EF.extension shape.pow_bits
-            (C.history challenger.old ++ words (seed_of EF.DEGREE shape)) (EF.number claimed_sum.old)
-            (rounds_in F.number EF.number self.now) result (C.history challenger.new) (EF.number claimed_sum.new) }
+            ⊎ Leaves EF.number (next_claim (basis_of shape.basis) EF.ops) (channel (C.rules challenger.old) EF.extension F.ops.size shape.pow_bits)
+            (seeded EF.DEGREE shape (C.history challenger.old) (EF.number claimed_sum.old))
+            (rounds_in F.number EF.number self.now) result (footing (C.history challenger.new) (EF.number claimed_sum.new)) }
     {
         let challenges = with_room(alloc, shape.num_rounds)?;
         shape.seed::<F, EF, C>(alloc, challenger)?;
@@ -206,9 +190,9 @@ impl<F: Field, EF: ExtensionField<F>> SumcheckData<F, EF> {
         requires empty { challenges.items ≡ [] }
         requires room { shape.num_rounds ≤ vec_capacity challenges }
         ensures rules { C.rules challenger.new ≡ C.rules challenger.old }
-        ensures leaves { Leaves EF.number (next_claim (basis_of shape.basis) EF.ops) (C.rules challenger.old) EF.extension shape.pow_bits
-            (C.history challenger.old) (EF.number claimed_sum.old)
-            (rounds_in F.number EF.number self.now) result (C.history challenger.new) (EF.number claimed_sum.new) }
+        ensures leaves { Leaves EF.number (next_claim (basis_of shape.basis) EF.ops) (channel (C.rules challenger.old) EF.extension F.ops.size shape.pow_bits)
+            (footing (C.history challenger.old) (EF.number claimed_sum.old))
+            (rounds_in F.number EF.number self.now) result (footing (C.history challenger.new) (EF.number claimed_sum.new)) }
     {
         let basis = shape.basis;
         let mut transcript: VerifierTranscript<'_, C, F, EF> = VerifierTranscript::over(
@@ -285,9 +269,9 @@ pub fn verify_final_sumcheck_rounds<F: Field, EF: ExtensionField<F>, C: Challeng
     ensures none { rounds ≡ 0 → IfOk result (λ point. point ≡ []) × (C.history challenger.new ≡ C.history challenger.old) × (claimed_sum.new ≡ claimed_sum.old) × IsOk result }
     ensures missing { result ≡ Err (SumcheckError.MissingSumcheckData rounds) ↔ ((0 < rounds) × IsNone final_sumcheck.entry) }
     ensures untouched { IsNone final_sumcheck.entry → (C.history challenger.new ≡ C.history challenger.old) × (claimed_sum.new ≡ claimed_sum.old) }
-    ensures replayed { IfSome final_sumcheck.entry (λ data_in. 0 < rounds → IfOk result (λ point. Replays (next_claim (basis_of basis) EF.ops) (C.rules challenger.old) EF.extension pow_bits
-        (C.history challenger.old ++ words (seed_of EF.DEGREE (record { num_rounds = rounds; pow_bits = pow_bits; basis = basis }))) (EF.number claimed_sum.old)
-        (rounds_in F.number EF.number data_in.now) (C.history challenger.new) (map EF.number point) (EF.number claimed_sum.new))) }
+    ensures replayed { IfSome final_sumcheck.entry (λ data_in. 0 < rounds → IfOk result (λ point. IsReplayed (next_claim (basis_of basis) EF.ops) (channel (C.rules challenger.old) EF.extension F.ops.size pow_bits)
+        (seeded EF.DEGREE (shape_of rounds pow_bits basis) (C.history challenger.old) (EF.number claimed_sum.old))
+        (footing (C.history challenger.new) (EF.number claimed_sum.new)) (rounds_in F.number EF.number data_in.now) (map EF.number point))) }
     ensures counted { IfSome final_sumcheck.entry (λ data_in. 0 < rounds → (result ≡ Err (SumcheckError.RoundCountMismatch rounds (vec_len data_in.now.polynomial_evaluations))
         ↔ (vec_len data_in.now.polynomial_evaluations ≢ rounds))) }
     ensures witnesses { IfSome final_sumcheck.entry (λ data_in. 0 < rounds
@@ -296,15 +280,13 @@ pub fn verify_final_sumcheck_rounds<F: Field, EF: ExtensionField<F>, C: Challeng
     ensures uncounted { IfSome final_sumcheck.entry (λ data_in. 0 < rounds
         → ((vec_len data_in.now.polynomial_evaluations ≢ rounds) ⊎ (vec_len data_in.now.pow_witnesses ≢ witness_count pow_bits rounds))
         → (C.history challenger.new ≡ C.history challenger.old) × (claimed_sum.new ≡ claimed_sum.old)) }
-    ensures invalid { IfSome final_sumcheck.entry (λ data_in. 0 < rounds → (i bits : ℕ) → result ≡ Err (SumcheckError.InvalidPowWitness i bits) → (bits ≡ pow_bits)
-        × IsInvalidAt (next_claim (basis_of basis) EF.ops) (C.rules challenger.old) EF.extension pow_bits
-        (C.history challenger.old ++ words (seed_of EF.DEGREE (record { num_rounds = rounds; pow_bits = pow_bits; basis = basis }))) (EF.number claimed_sum.old)
-        (rounds_in F.number EF.number data_in.now) i (C.history challenger.new) (EF.number claimed_sum.new)) }
+    ensures invalid { IfSome final_sumcheck.entry (λ data_in. 0 < rounds → (i bits : ℕ) → result ≡ Err (SumcheckError.InvalidPowWitness i bits) → (bits ≡ pow_bits) × FailsAt (next_claim (basis_of basis) EF.ops) (channel (C.rules challenger.old) EF.extension F.ops.size pow_bits)
+        (seeded EF.DEGREE (shape_of rounds pow_bits basis) (C.history challenger.old) (EF.number claimed_sum.old))
+        (footing (C.history challenger.new) (EF.number claimed_sum.new)) (rounds_in F.number EF.number data_in.now) i) }
     ensures no_memory { IfSome final_sumcheck.entry (λ data_in. 0 < rounds → result ≡ Err SumcheckError.NoMemory
-        → ((C.history challenger.new ≡ C.history challenger.old) × (claimed_sum.new ≡ claimed_sum.old))
-        ⊎ ReplaysSome (next_claim (basis_of basis) EF.ops) (C.rules challenger.old) EF.extension pow_bits
-        (C.history challenger.old ++ words (seed_of EF.DEGREE (record { num_rounds = rounds; pow_bits = pow_bits; basis = basis }))) (EF.number claimed_sum.old)
-        (rounds_in F.number EF.number data_in.now) (C.history challenger.new) (EF.number claimed_sum.new)) }
+        → ((C.history challenger.new ≡ C.history challenger.old) × (claimed_sum.new ≡ claimed_sum.old)) ⊎ IsReplayedInPart (next_claim (basis_of basis) EF.ops) (channel (C.rules challenger.old) EF.extension F.ops.size pow_bits)
+        (seeded EF.DEGREE (shape_of rounds pow_bits basis) (C.history challenger.old) (EF.number claimed_sum.old))
+        (footing (C.history challenger.new) (EF.number claimed_sum.new)) (rounds_in F.number EF.number data_in.now)) }
     ensures causes { IfSome final_sumcheck.entry (λ data_in. 0 < rounds
         → OnErr result ((vec_len data_in.now.polynomial_evaluations ≢ rounds) ⊎ (vec_len data_in.now.pow_witnesses ≢ witness_count pow_bits rounds)
         ⊎ (result ≡ Err SumcheckError.NoMemory) ⊎ IsInvalid result)) }

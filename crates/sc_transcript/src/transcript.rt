@@ -10,7 +10,6 @@ ghost use Rattle.sc_definitions.specs.Replays.{round_passes};
 ghost use Rattle.sc_definitions.specs.Seeds.{basis_byte, quadratic_separator, rounds_steps, round_steps};
 ghost use Rattle.sc_table.specs.Strategy.{basis_of};
 ghost use Rattle.sc_transcript.specs.Shapes.{seed_of, events_of, pair_round};
-ghost use Rattle.sc_transcript.specs.Data.{IsSent};
 
 use crate::error::SumcheckError;
 use sc_challenger::{

@@ -1,5 +1,7 @@
-use Rattle.std.proofs.Common.{refl, ◌∙◌, inl, inr, rules}
-use Rattle.sc_transcript.proofs.ReplayedLaws.{leaves_at}
+use Rattle.std.proofs.Common.{refl, ap, ◌∙◌, inl, inr, rules}
+use Rattle.sc_definitions.specs.Channels.{footing}
+use Rattle.sc_transcript.specs.Data.{rounds_in}
+use Rattle.sc_transcript.proofs.ReplayedLaws.{same_channel, leaves_at}
 use Rattle.sc_transcript.proofs.data.SumcheckData.seed_and_replay.Goals as goal
 
 pub replay-requires : goal.replay-requires
@@ -20,5 +22,5 @@ returns-in_err-seed g c = record { rules = c.in_err-seed.ensures.rules; leaves =
 pub returns : goal.returns
 returns g c = record {
   rules = c.replay.ensures.rules ∙ c.in_ok-seed.ensures.rules;
-  leaves = inr (leaves_at _ _ _ _ _ _ _ _ _ _ _ _ _ c.in_ok-seed.ensures.rules c.in_ok-seed.ensures.ok c.replay.ensures.leaves);
+  leaves = inr (leaves_at g.EF.Field.number _ _ _ _ _ _ (rounds_in g.F.Field.number g.EF.Field.number c.args.self.now) _ (same_channel _ _ _ g.F.Field.ops.size _ _ c.in_ok-seed.ensures.rules refl) (ap (λ h. footing h (g.EF.Field.number c.args.claimed_sum.now)) c.in_ok-seed.ensures.ok) c.replay.ensures.leaves);
 }
