@@ -30,7 +30,7 @@ use Rattle.sc_audit.specs.Figures.{holds, finding_by, false_claim_of, is_matched
 use Rattle.sc_audit.specs.Audits.{begun, IsAudited, IsBrokenOff, FindsNone}
 use Rattle.sc_audit.specs.Built.{IsBuiltCase}
 use Rattle.sc_audit.proofs.FigureLaws.{stated, figures-are}
-use Rattle.sc_audit.proofs.SameTables.{Agree, played-same}
+use Rattle.sc_definitions.proofs.SameTables.{Agree, played-same}
 
 -- a batch that was appended to empty data, by the names of the case
 pub played-case : (order order₁ : Order) (o : Ops) → IsRing o → (R R₁ : Rules) (E : Extension) (bits n n₁ : ℕ) (f f₁ w w₁ : ℕ → ℕ) (claim claim₁ : ℕ) (h h₁ : List Event)

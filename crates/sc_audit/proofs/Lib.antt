@@ -1,5 +1,4 @@
 pub mod ShapeLaws
-pub mod SameTables
 pub mod FigureLaws
 pub mod Embedded
 pub mod BuiltReports

@@ -22,3 +22,4 @@ pub mod WorkedSeeds
 pub mod ReplayLaws
 pub mod Lengths
 pub mod StandingLaws
+pub mod SameTables

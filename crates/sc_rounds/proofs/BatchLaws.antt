@@ -1,146 +1,55 @@
 -- A batch of rounds, one round after the other.
 use Rattle.std.proofs.Common.{◌≡◌, ℕ, zero, suc, ◌+◌, ◌^◌, ◌<◌, List, [], ◌∷◌, ◌++◌, refl, ap, sym, ◌∙◌, ◌⊎◌, inl, inr, subst, arith, append_assoc, Result, Ok, Err, IfOk, OnOk, IsErrAnd, ◌≤◌}
 use Rattle.std.proofs.lemmas.List.{append-nil, map-append}
-use Rattle.sc_definitions.specs.declared.events.Event.{Event}
 use Rattle.sc_definitions.specs.Ring.{Ops, IsRing}
-use Rattle.sc_definitions.specs.Tables.{evaluation, Order}
-use Rattle.sc_definitions.specs.Messages.{message_of}
-use Rattle.sc_definitions.specs.Events.{Rules, Extension}
-use Rattle.sc_definitions.specs.Transcript.{Round, round_of, messages_of}
-use Rattle.sc_definitions.specs.Played.{IsPlayed}
-use Rattle.sc_definitions.proofs.BuiltLaws.{messages-append}
-use Rattle.sc_definitions.proofs.PlayedLaws.{IsPlayed-none, IsPlayed-more}
+use Rattle.sc_definitions.specs.Tables.{evaluation, Order, IsOffered}
+use Rattle.sc_definitions.specs.Channels.{Channel}
+use Rattle.sc_definitions.specs.Standings.{Setting, Standing, IsRound, IsPlayed, IsRoundWithoutWitness}
+use Rattle.sc_definitions.proofs.StandingLaws.{played_more}
 use Rattle.sc_transcript.specs.declared.error.SumcheckError.{SumcheckError}
 use Rattle.sc_transcript.specs.declared.error.SumcheckError.TheVariants.{NoMemory, NoWitness}
-use Rattle.sc_transcript.specs.Data.{witnesses_of}
 use Rattle.sc_transcript.specs.Invalid.{FindsNone}
-use Rattle.sc_rounds.specs.Products.{PlaysRound, EndsRound}
-use Rattle.sc_rounds.specs.Batches.{PlaysBatch, StopsBatch, FailsBatch}
+use Rattle.sc_rounds.specs.Standings.{IsHalted, IsStopped, IsBatchStopped}
 
-witnesses-append : (bits : ℕ) (rounds : List Round) (q : Round) → witnesses_of bits (rounds ++ q ∷ []) ≡ witnesses_of bits rounds ++ witnesses_of bits (q ∷ [])
-witnesses-append zero rounds q = refl
-witnesses-append (suc bits) rounds q = map-append (λ r. r.witness) rounds (q ∷ [])
+-- ---- rounds, by other names of what they move
 
--- no round yet
-pub batch_none : (order : Order) (o : Ops) (R : Rules) (E : Extension) (bits n : ℕ) (f w f' w' : ℕ → ℕ) (claim : ℕ) (h : List Event) (rs : List ℕ) (ms : List (List ℕ)) (ws : List ℕ) →
-    rs ≡ [] → ((b : ℕ) → b < 2 ^ n → f' b ≡ f b) → ((b : ℕ) → b < 2 ^ n → w' b ≡ w b) →
-    PlaysBatch order o R E bits n f w claim h rs n f' w' claim h ms ws ms ws
-batch_none order o R E bits n f w f' w' claim h rs ms ws none p q =
-    let P : List ℕ → Type 0 = λ t. IsPlayed evaluation order o R E bits n f w claim h [] t n f' w' claim h in
-    record {
-      rounds = [];
-      played = subst P (sym none) (IsPlayed-none evaluation order o R E bits n f w f' w' claim h p q);
-      appended = sym (append-nil ms);
-      found = found bits;
-    }
-  where
-    found : (b : ℕ) → ws ≡ ws ++ witnesses_of b []
-    found zero = sym (append-nil ws)
-    found (suc b) = sym (append-nil ws)
+pub same_setting : (c c' : Channel) (o : Ops) (order order' : Order) → c ≡ c' → order ≡ order' →
+    ◌≡◌ {A = Setting} (record { channel = c; ops = o; basis = evaluation; order = order }) (record { channel = c'; ops = o; basis = evaluation; order = order' })
+same_setting c c' o order order' ec eo = rw (ec, eo) refl
 
--- one round more
-pub batch_more : (o : Ops) → IsRing o → (order order₁ : Order) (R R₁ : Rules) (E : Extension) (bits bits₁ n : ℕ) (f w : ℕ → ℕ) (claim : ℕ) (h : List Event)
-    (rs rs' : List ℕ) (v m : ℕ) (f₁ w₁ : ℕ → ℕ) (claim₁ : ℕ) (h₁ : List Event) (r : ℕ) (f₂ w₂ : ℕ → ℕ) (claim₂ : ℕ) (h₂ : List Event)
-    (ms : List (List ℕ)) (ws : List ℕ) (ms₁ : List (List ℕ)) (ws₁ : List ℕ) (ms₂ : List (List ℕ)) (ws₂ : List ℕ) →
-    order₁ ≡ order → R₁ ≡ R → bits₁ ≡ bits → v ≡ m + 1 → rs' ≡ rs ++ r ∷ [] →
-    PlaysBatch order o R E bits n f w claim h rs v f₁ w₁ claim₁ h₁ ms ws ms₁ ws₁ →
-    PlaysRound order₁ o R₁ E bits₁ m f₁ w₁ claim₁ h₁ r f₂ w₂ claim₂ h₂ ms₁ ws₁ ms₂ ws₂ →
-    PlaysBatch order o R E bits n f w claim h rs' m f₂ w₂ claim₂ h₂ ms ws ms₂ ws₂
-batch_more o ring order order₁ R R₁ E bits bits₁ n f w claim h rs rs' v m f₁ w₁ claim₁ h₁ r f₂ w₂ claim₂ h₂ ms ws ms₁ ws₁ ms₂ ws₂ same_order same_rules same_bits fewer drawn p q =
-    let next : v ≡ suc m = omega arith in
-    let A : Order → Type 0 = λ t. PlaysRound t o R₁ E bits₁ m f₁ w₁ claim₁ h₁ r f₂ w₂ claim₂ h₂ ms₁ ws₁ ms₂ ws₂ in
-    let B : Rules → Type 0 = λ t. PlaysRound order o t E bits₁ m f₁ w₁ claim₁ h₁ r f₂ w₂ claim₂ h₂ ms₁ ws₁ ms₂ ws₂ in
-    let C : ℕ → Type 0 = λ t. PlaysRound order o R E t m f₁ w₁ claim₁ h₁ r f₂ w₂ claim₂ h₂ ms₁ ws₁ ms₂ ws₂ in
-    let last = subst C same_bits (subst B same_rules (subst A same_order q)) in
-    let sent : Round = round_of (message_of evaluation order o (2 ^ m) f₁ w₁) last.witness in
-    let D : ℕ → Type 0 = λ k. IsPlayed evaluation order o R E bits n f w claim h p.rounds rs k f₁ w₁ claim₁ h₁ in
-    let whole = IsPlayed-more evaluation order o ring tt R E bits n f w claim h p.rounds rs m f₁ w₁ claim₁ h₁ sent r f₂ w₂ claim₂ h₂ (subst D next p.played) last.round in
-    let G : List ℕ → Type 0 = λ t. IsPlayed evaluation order o R E bits n f w claim h (p.rounds ++ sent ∷ []) t m f₂ w₂ claim₂ h₂ in
-    record {
-      rounds = p.rounds ++ sent ∷ [];
-      played = subst G (sym drawn) whole;
-      appended = last.message ∙ ap (λ t. t ++ sent.values ∷ []) p.appended ∙ append_assoc ms (messages_of p.rounds) (sent.values ∷ [])
-          ∙ ap (λ t. ms ++ t) (sym (messages-append p.rounds sent));
-      found = last.found ∙ ap (λ t. t ++ witnesses_of bits (sent ∷ [])) p.found ∙ append_assoc ws (witnesses_of bits p.rounds) (witnesses_of bits (sent ∷ []))
-          ∙ ap (λ t. ws ++ t) (sym (witnesses-append bits p.rounds sent));
-    }
+pub played_at : (s s' : Setting) (t t' u u' : Standing) (rs rs' : List ℕ) → s ≡ s' → t ≡ t' → u ≡ u' → rs ≡ rs' → IsPlayed s t u rs → IsPlayed s' t' u' rs'
+played_at s s' t t' u u' rs rs' es et eu er p = rw (← es, ← et, ← eu, ← er) p
 
--- the same batch, by other names of what it left
-pub batch_at : (order : Order) (o : Ops) (R : Rules) (E : Extension) (bits n : ℕ) (f w : ℕ → ℕ) (claim : ℕ) (h : List Event) (rs : List ℕ)
-    (v v' : ℕ) (f₁ f' w₁ w' : ℕ → ℕ) (c₁ c' : ℕ) (h₁ h' : List Event) (ms : List (List ℕ)) (ws : List ℕ) (ms₁ ms' : List (List ℕ)) (ws₁ ws' : List ℕ) →
-    v' ≡ v → f' ≡ f₁ → w' ≡ w₁ → c' ≡ c₁ → h' ≡ h₁ → ms' ≡ ms₁ → ws' ≡ ws₁ →
-    PlaysBatch order o R E bits n f w claim h rs v f₁ w₁ c₁ h₁ ms ws ms₁ ws₁ → PlaysBatch order o R E bits n f w claim h rs v' f' w' c' h' ms ws ms' ws'
-batch_at order o R E bits n f w claim h rs v v' f₁ f' w₁ w' c₁ c' h₁ h' ms ws ms₁ ms' ws₁ ws' ev ef ew ec eh em es p = rw (ev, ef, ew, ec, eh, em, es) p
+-- no challenge yet, by another name
+pub as_none : (s : Setting) (t : Standing) (rs : List ℕ) → rs ≡ [] → IsPlayed s t t [] → IsPlayed s t t rs
+as_none s t rs none p = rw none p
 
--- the same last round, by other names of where it began
-pub ends_at : (order order₁ : Order) (o : Ops) (R R₁ : Rules) (E : Extension) (bits bits₁ m size : ℕ) (f₁ f' w₁ w' : ℕ → ℕ) (h₁ h' : List Event) →
-    order₁ ≡ order → R₁ ≡ R → bits₁ ≡ bits → f' ≡ f₁ → w' ≡ w₁ → EndsRound order₁ o R₁ E bits₁ m size f₁ w₁ h₁ h' → EndsRound order o R E bits m size f' w' h₁ h'
-ends_at order order₁ o R R₁ E bits bits₁ m size f₁ f' w₁ w' h₁ h' eo er eb ef ew p = rw (← eo, ← er, ← eb, ef, ew) p
+-- one round more, in a setting by another name
+pub one_round_more : (s s₁ : Setting) → IsRing s.ops → IsOffered s.basis s.order → (t u v : Standing) (rs rs' : List ℕ) (r : ℕ) →
+    s₁ ≡ s → rs' ≡ rs ++ r ∷ [] → IsPlayed s t u rs → IsRound s₁ u v r → IsPlayed s t v rs'
+one_round_more s s₁ ring offered t u v rs rs' r same drawn p q =
+    rw drawn (played_more s ring offered t u v rs r p (subst (λ k. IsRound k u v r) same q))
 
--- the same batch, by other names of where it began and of the challenges and the history that it left
-pub batch_from : (order : Order) (o : Ops) (R R₁ : Rules) (E : Extension) (bits bits₁ n : ℕ) (f w : ℕ → ℕ) (claim : ℕ) (h h₁ : List Event) (rs rs₁ : List ℕ)
-    (v : ℕ) (f' w' : ℕ → ℕ) (claim' : ℕ) (h' h₂ : List Event) (ms : List (List ℕ)) (ws : List ℕ) (ms' : List (List ℕ)) (ws' : List ℕ) →
-    R₁ ≡ R → bits₁ ≡ bits → h₁ ≡ h → rs₁ ≡ rs → h₂ ≡ h' → PlaysBatch order o R₁ E bits₁ n f w claim h₁ rs₁ v f' w' claim' h₂ ms ws ms' ws' →
-    PlaysBatch order o R E bits n f w claim h rs v f' w' claim' h' ms ws ms' ws'
-batch_from order o R R₁ E bits bits₁ n f w claim h h₁ rs rs₁ v f' w' claim' h' h₂ ms ws ms' ws' er eb eh es ee p =
-    rw (← er, ← eb, ← eh, ← es, ← ee) p
+-- a round that is refused stops the rounds
+pub stops : (s s₁ : Setting) (t u v : Standing) (rs : List ℕ) (i j : ℕ) (e : SumcheckError) → s₁ ≡ s → i ≡ j → IsPlayed s t u rs → IsHalted s₁ u v i e → IsStopped s t v j e
+stops s s₁ t u v rs i j NoMemory same place p why = record { rs = rs; played = rw why p }
+stops s s₁ t u v rs i j (NoWitness k) same place p why =
+    (why.0 ∙ place, record { rs = rs; last = u; played = p; ends = subst (λ k. IsRoundWithoutWitness k u v) same why.1 })
+stops s s₁ t u v rs i j e same place p why = absurd why
 
--- the same batch that stopped
-pub stops_from : (order : Order) (o : Ops) (R R₁ : Rules) (E : Extension) (bits bits₁ n : ℕ) (f w : ℕ → ℕ) (claim : ℕ) (h h₁ : List Event)
-    (v : ℕ) (f' w' : ℕ → ℕ) (claim' : ℕ) (h' h₂ : List Event) (ms : List (List ℕ)) (ws : List ℕ) (ms' : List (List ℕ)) (ws' : List ℕ) →
-    R₁ ≡ R → bits₁ ≡ bits → h₁ ≡ h → h₂ ≡ h' → StopsBatch order o R₁ E bits₁ n f w claim h₁ v f' w' claim' h₂ ms ws ms' ws' →
-    StopsBatch order o R E bits n f w claim h v f' w' claim' h' ms ws ms' ws'
-stops_from order o R R₁ E bits bits₁ n f w claim h h₁ v f' w' claim' h' h₂ ms ws ms' ws' er eb eh ee p =
-    rw (← er, ← eb, ← eh, ← ee) p
-
--- the same batch of which a round found no witness
-pub fails_from : (order : Order) (o : Ops) (R R₁ : Rules) (E : Extension) (bits bits₁ n : ℕ) (f w : ℕ → ℕ) (claim : ℕ) (h h₁ : List Event) (size m : ℕ)
-    (f' w' : ℕ → ℕ) (claim' : ℕ) (h' h₂ : List Event) (ms : List (List ℕ)) (ws : List ℕ) (ms' : List (List ℕ)) (ws' : List ℕ) →
-    R₁ ≡ R → bits₁ ≡ bits → h₁ ≡ h → h₂ ≡ h' → FailsBatch order o R₁ E bits₁ n f w claim h₁ size m f' w' claim' h₂ ms ws ms' ws' →
-    FailsBatch order o R E bits n f w claim h size m f' w' claim' h' ms ws ms' ws'
-fails_from order o R R₁ E bits bits₁ n f w claim h h₁ size m f' w' claim' h' h₂ ms ws ms' ws' er eb eh ee p =
-    rw (← er, ← eb, ← eh, ← ee) p
+-- rounds that stop, as a batch of so many that was begun
+pub stops_batch : (unbegun : Type 0) (s s' : Setting) (t t' u u' : Standing) (i n m : ℕ) (e : SumcheckError) → s ≡ s' → t ≡ t' → u ≡ u' →
+    u'.variables + i ≡ t'.variables → i < n → n ≡ m → IsStopped s t u i e → IsBatchStopped unbegun s' t' u' m e
+stops_batch unbegun s s' t t' u u' i n m NoMemory es et eu left less size why = inr (rw (← es, ← et, ← eu) why)
+stops_batch unbegun s s' t t' u u' i n m (NoWitness k) es et eu left less size why =
+    let place : k ≡ i = why.0 in (omega arith, omega arith, rw (← es, ← et, ← eu) why.1)
+stops_batch unbegun s s' t t' u u' i n m e es et eu left less size why = absurd why
 
 -- a refusal for a witness, by the round that its causes name
 pub told_at : {T : Type 0} (r : Result T SumcheckError) (e : SumcheckError) (i k : ℕ) → r ≡ Err e → e ≡ NoWitness i →
     (r ≡ Err NoMemory) ⊎ (r ≡ Err (NoWitness k)) → r ≡ Err (NoWitness k)
 told_at r e i k is told (inl none) = absurd cc
 told_at r e i k is told (inr found) = found
-
--- A batch that a result tells of, by what is known of where it began: f₁ and w₁ are the tables as they stood, f and w the same tables by other names.
-module _ (order order₁ : Order) (o : Ops) (R : Rules) (E : Extension) (bits bits₁ n n₁ : ℕ) (f w f₁ w₁ : ℕ → ℕ) (claim claim₁ : ℕ) (h h₁ : List Event)
-    (same_order : order₁ ≡ order) (same_bits : bits₁ ≡ bits) (same_size : n₁ ≡ n) (same_claim : claim₁ ≡ claim) (same_history : h₁ ≡ h)
-    (same_evals : (b : ℕ) → b < 2 ^ n → f₁ b ≡ f b) (same_weights : (b : ℕ) → b < 2 ^ n → w₁ b ≡ w b) where
-  evals_at : (b : ℕ) → b < 2 ^ n₁ → f₁ b ≡ f b
-  evals_at b low = same_evals b (subst (λ k. b < 2 ^ k) same_size low)
-
-  weights_at : (b : ℕ) → b < 2 ^ n₁ → w₁ b ≡ w b
-  weights_at b low = same_weights b (subst (λ k. b < 2 ^ k) same_size low)
-
-  pub ok_batch : {T : Type 0} (r : Result T SumcheckError) (points : T → List ℕ) (v : ℕ) (f' w' : ℕ → ℕ) (claim' : ℕ) (h' : List Event)
-      (ms : List (List ℕ)) (ws : List ℕ) (ms' : List (List ℕ)) (ws' : List ℕ) →
-      IfOk r (λ point. (f w : ℕ → ℕ) → ((b : ℕ) → b < 2 ^ n₁ → f₁ b ≡ f b) → ((b : ℕ) → b < 2 ^ n₁ → w₁ b ≡ w b) →
-      PlaysBatch order₁ o R E bits₁ n₁ f w claim₁ h₁ (points point) v f' w' claim' h' ms ws ms' ws') →
-      IfOk r (λ point. PlaysBatch order o R E bits n f w claim h (points point) v f' w' claim' h' ms ws ms' ws')
-  ok_batch (Ok x) points v f' w' claim' h' ms ws ms' ws' p =
-      rw (← same_order, ← same_bits, ← same_size, ← same_claim, ← same_history) (p f w evals_at weights_at)
-  ok_batch (Err e) points v f' w' claim' h' ms ws ms' ws' p = tt
-
-  pub failed_batch : (size m : ℕ) (f' w' : ℕ → ℕ) (claim' : ℕ) (h' : List Event)
-      (ms : List (List ℕ)) (ws : List ℕ) (ms' : List (List ℕ)) (ws' : List ℕ) →
-      ((f w : ℕ → ℕ) → ((b : ℕ) → b < 2 ^ n₁ → f₁ b ≡ f b) → ((b : ℕ) → b < 2 ^ n₁ → w₁ b ≡ w b) →
-      FailsBatch order₁ o R E bits₁ n₁ f w claim₁ h₁ size m f' w' claim' h' ms ws ms' ws') →
-      FailsBatch order o R E bits n f w claim h size m f' w' claim' h' ms ws ms' ws'
-  failed_batch size m f' w' claim' h' ms ws ms' ws' p =
-      rw (← same_order, ← same_bits, ← same_size, ← same_claim, ← same_history) (p f w evals_at weights_at)
-
-  pub stopped_batch : (v : ℕ) (f' w' : ℕ → ℕ) (claim' : ℕ) (h' : List Event)
-      (ms : List (List ℕ)) (ws : List ℕ) (ms' : List (List ℕ)) (ws' : List ℕ) →
-      ((f w : ℕ → ℕ) → ((b : ℕ) → b < 2 ^ n₁ → f₁ b ≡ f b) → ((b : ℕ) → b < 2 ^ n₁ → w₁ b ≡ w b) →
-      StopsBatch order₁ o R E bits₁ n₁ f w claim₁ h₁ v f' w' claim' h' ms ws ms' ws') →
-      StopsBatch order o R E bits n f w claim h v f' w' claim' h' ms ws ms' ws'
-  stopped_batch v f' w' claim' h' ms ws ms' ws' p =
-      rw (← same_order, ← same_bits, ← same_size, ← same_claim, ← same_history) (p f w evals_at weights_at)
 
 -- ---- results
 
@@ -221,5 +130,5 @@ pub fits : (a k v w : ℕ) → a ≡ k → v ≡ w → k ≤ w → a ≤ v
 fits a k v w same size low = omega arith
 
 -- one variable less, one round more
-pub less_by_one : (v v₀ p s : ℕ) → v₀ ≡ v + 1 → v₀ + p ≡ s → v + (p + 1) ≡ s
+pub less_by_one : (v v₀ p s : ℕ) → v₀ ≡ suc v → v₀ + p ≡ s → v + (p + 1) ≡ s
 less_by_one v v₀ p s fewer is = omega arith

@@ -6,3 +6,4 @@ pub mod TakenLaws
 pub mod ConstraintPoints
 pub mod InStep
 pub mod AddedEntries
+pub mod PositionalBatches

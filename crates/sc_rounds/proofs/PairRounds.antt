@@ -1,17 +1,21 @@
 -- One round on a pair of tables, from what its calls answer.
-use Rattle.std.proofs.Common.{◌≡◌, ℕ, suc, ◌+◌, ◌-◌, ◌*◌, ◌/◌, ◌%◌, ◌^◌, ◌<◌, List, [], ◌∷◌, ◌++◌, refl, ap, sym, ◌∙◌, subst, arith}
+use Rattle.std.proofs.Common.{◌≡◌, ℕ, zero, suc, ◌+◌, ◌-◌, ◌*◌, ◌/◌, ◌%◌, ◌^◌, ◌<◌, List, [], ◌∷◌, length, map, refl, ap, sym, ◌∙◌, subst, arith}
 use Rattle.std.proofs.Math.Nat.{pow-suc}
-use Rattle.sc_definitions.specs.declared.events.Event.{Event}
+use Rattle.std.proofs.lemmas.List.{length-map}
 use Rattle.sc_definitions.specs.Ring.{Ops, IsRing, times}
-use Rattle.sc_definitions.specs.Tables.{evaluation, Order, sum_below, inner, bound_in}
+use Rattle.sc_definitions.specs.Tables.{evaluation, Order, rows_of, sum_below, inner, bound_in}
 use Rattle.sc_definitions.specs.Messages.{message_first, message_leading, message_of}
 use Rattle.sc_definitions.specs.Rounds.{next_claim}
-use Rattle.sc_definitions.specs.Events.{Rules, Extension, NonePasses}
-use Rattle.sc_definitions.specs.Transcript.{sent}
+use Rattle.sc_definitions.specs.Transcript.{round_of}
+use Rattle.sc_definitions.specs.Channels.{IsSent, NoWitnessFound, with_rounds}
+use Rattle.sc_definitions.specs.Standings.{Setting, Standing, half_rows, message_in, IsRound}
 use Rattle.sc_definitions.proofs.Sums.{sum-same}
 use Rattle.sc_definitions.proofs.MessageLaws.{inner-bound_in}
-use Rattle.sc_transcript.specs.Data.{IsAppended}
-use Rattle.sc_rounds.specs.Products.{PlaysRound, EndsRound}
+use Rattle.sc_definitions.proofs.StandingLaws.{IsSized, entries-is}
+use Rattle.sc_transcript.specs.declared.error.SumcheckError.{SumcheckError}
+use Rattle.sc_transcript.specs.declared.error.SumcheckError.TheVariants.{NoMemory, NoWitness}
+use Rattle.sc_transcript.specs.Drivers.{IsRefused}
+use Rattle.sc_rounds.specs.Standings.{IsHalted}
 
 -- a power of two with a variable left is even
 pub even_power : (n v : ℕ) → 0 < v → n ≡ 2 ^ v → n % 2 ≡ 0
@@ -19,6 +23,22 @@ even_power n v positive size =
     let less : v ≡ suc (v - 1) = omega arith in
     let twice : 2 ^ v ≡ 2 ^ (v - 1) * 2 = ap (λ k. 2 ^ k) less ∙ pow-suc 2 (v - 1) in
     omega (arith, size, twice)
+
+-- a number above zero is one more than another
+pub one_more : (n : ℕ) → 0 < n → (m : ℕ) × (n ≡ m + 1)
+one_more zero positive = absurd (omega (arith, positive))
+one_more (suc m) positive = (m, omega arith)
+
+-- a message of tables by how many rows their parts have
+pub halved : (order : Order) (o : Ops) (n : ℕ) (f w : ℕ → ℕ) (values : List ℕ) (more : (m : ℕ) × (n ≡ m + 1)) → values ≡ message_of evaluation order o (2 ^ more.0) f w →
+    values ≡ message_of evaluation order o (half_rows n) f w
+halved order o n f w values more message =
+    let next : n ≡ suc more.0 = omega (arith, more.1) in
+    message ∙ ap (λ k. message_of evaluation order o (half_rows k) f w) (sym next)
+
+-- the list of a table has as many numbers as rows
+pub sized : {X : Type 0} (number : X → ℕ) (xs : List X) (n size : ℕ) → n ≡ length xs → n ≡ 2 ^ size → length (map number xs) ≡ 2 ^ size
+sized number xs n size len is = length-map xs number ∙ sym len ∙ is
 
 -- the message of tables of m + 1 variables
 pub message_halves : (order : Order) (o : Ops) (n v m : ℕ) (f w F W : ℕ → ℕ) (a b : ℕ) → n ≡ 2 ^ v → v ≡ m + 1 → F ≡ f → W ≡ w →
@@ -39,29 +59,33 @@ dot_sum o d L n F W f w is size same_f same_w =
     ∙ ap (λ g. sum_below o (2 ^ n) (λ b. times o (f b) (g b))) same_w
 
 -- the round
-pub plays : (order : Order) (o : Ops) (R : Rules) (E : Extension) (bits m : ℕ) (f w : ℕ → ℕ) (claim : ℕ) (h : List Event) (values : List ℕ)
-    (r : ℕ) (f' w' : ℕ → ℕ) (claim' : ℕ) (h' : List Event) (ms : List (List ℕ)) (ws : List ℕ) (ms' : List (List ℕ)) (ws' : List ℕ) →
-    IsAppended R E bits h values r h' ms ws ms' ws' → values ≡ message_of evaluation order o (2 ^ m) f w →
-    ((b : ℕ) → b < 2 ^ m → f' b ≡ bound_in evaluation order o m r f b) → ((b : ℕ) → b < 2 ^ m → w' b ≡ bound_in evaluation order o m r w b) →
-    claim' ≡ next_claim evaluation o claim values r →
-    PlaysRound order o R E bits m f w claim h r f' w' claim' h' ms ws ms' ws'
-plays order o R E bits m f w claim h values r f' w' claim' h' ms ws ms' ws' appended message evals weights next =
-    let P : List ℕ → Type 0 = λ vs. IsAppended R E bits h vs r h' ms ws ms' ws' in
-    let there = subst P message appended in
+pub moves : (s : Setting) (t u : Standing) (values : List ℕ) (witness r : ℕ) →
+    IsSent s.channel t.history (round_of values witness) r u.history → u.wire ≡ with_rounds s.channel.bits t.wire (round_of values witness ∷ []) →
+    t.variables ≡ u.variables + 1 → IsSized u →
+    values ≡ message_of s.basis s.order s.ops (2 ^ u.variables) (rows_of t.evals) (rows_of t.weights) →
+    ((b : ℕ) → b < 2 ^ u.variables → rows_of u.evals b ≡ bound_in s.basis s.order s.ops u.variables r (rows_of t.evals) b) →
+    ((b : ℕ) → b < 2 ^ u.variables → rows_of u.weights b ≡ bound_in s.basis s.order s.ops u.variables r (rows_of t.weights) b) →
+    u.claim ≡ next_claim s.basis s.ops t.claim values r → IsRound s t u r
+moves s t u values witness r sent wire less sized message evals weights claim =
+    let fewer : t.variables ≡ suc u.variables = omega (arith, less) in
     record {
-      witness = there.witness;
-      round = record {
-        message = refl;
-        witness = there.sent.witness;
-        drawn = there.sent.drawn;
-        history = there.sent.history;
-        evals = evals;
-        weights = weights;
-        next = next ∙ ap (λ vs. next_claim evaluation o claim vs r) message;
-      };
-      message = there.message;
-      found = there.found;
+      round = round_of values witness;
+      fewer = fewer;
+      message = message ∙ ap (λ n. message_of s.basis s.order s.ops (half_rows n) (rows_of t.evals) (rows_of t.weights)) (sym fewer);
+      sent = sent;
+      wire = wire;
+      evals = entries-is u.variables u.evals _ sized.evals evals;
+      weights = entries-is u.variables u.weights _ sized.weights weights;
+      claim = claim;
     }
+
+-- a round that is refused leaves all but the history
+pub halts : (s : Setting) (t u : Standing) (i : ℕ) (values : List ℕ) (e : SumcheckError) →
+    IsRefused s.channel i t.history values u.history e → values ≡ message_in s t → u ≡ record t { history = u.history } → IsHalted s t u i e
+halts s t u i values NoMemory why message kept = kept ∙ ap (λ h. record t { history = h }) why
+halts s t u i values (NoWitness j) why message kept =
+    (why.0, record { none = subst (λ vs. NoWitnessFound s.channel t.history vs u.history) message why.1; kept = kept })
+halts s t u i values e why message kept = absurd why
 
 -- the sum of the bound tables
 pub sum_after : (order : Order) (o : Ops) → IsRing o → (n m : ℕ) (f w : ℕ → ℕ) (claim : ℕ) (values : List ℕ) (r : ℕ) (f' w' : ℕ → ℕ) (claim' : ℕ) →
@@ -75,15 +99,3 @@ sum_after order o ring n m f w claim values r f' w' claim' more true_sum message
     ∙ ap (λ c. next_claim evaluation o c (message_of evaluation order o (2 ^ m) f w) r) (true_sum ∙ ap (λ k. inner o k f w) size)
     ∙ sym (inner-bound_in o ring evaluation order tt m f w r)
     ∙ sym (sum-same o (2 ^ m) _ _ (λ b low. ap (λ x. times o x (w' b)) (evals b low) ∙ ap (λ x. times o (bound_in evaluation order o m r f b) x) (weights b low)))
-
--- a round for which no witness was found
-pub ends : (order : Order) (o : Ops) (R : Rules) (E : Extension) (bits m k size : ℕ) (f w : ℕ → ℕ) (h h' : List Event) (values : List ℕ) →
-    (0 < bits) × NonePasses R (h ++ sent E values) bits size → h' ≡ h ++ sent E values → k ≡ m → values ≡ message_of evaluation order o (2 ^ k) f w →
-    EndsRound order o R E bits m size f w h h'
-ends order o R E bits m k size f w h h' values none grown same message =
-    let P : List Event → Type 0 = λ t. NonePasses R t bits size in
-    record {
-      positive = none.0;
-      ends = grown ∙ ap (λ vs. h ++ sent E vs) (message ∙ ap (λ n. message_of evaluation order o (2 ^ n) f w) same);
-      none_passes = subst P (sym grown) none.1;
-    }

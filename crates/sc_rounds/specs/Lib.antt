@@ -1,4 +1,5 @@
 pub mod Products
+pub mod Standings
 pub mod Batches
 pub mod Provers
 pub mod Represented

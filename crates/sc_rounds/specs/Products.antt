@@ -5,11 +5,9 @@ use Rattle.sc_definitions.specs.Ring.{Ops}
 use Rattle.sc_definitions.specs.Tables.{evaluation, Order, inner}
 use Rattle.sc_definitions.specs.Messages.{message_of}
 use Rattle.sc_definitions.specs.Events.{Rules, Extension, NonePasses}
-use Rattle.sc_definitions.specs.Transcript.{round_of, sent}
-use Rattle.sc_definitions.specs.Played.{IsRound}
+use Rattle.sc_definitions.specs.Transcript.{sent}
 use Rattle.sc_table.specs.Polys.{variables_of, table_of}
 use Rattle.sc_table.specs.Strategy.{order_of}
-use Rattle.sc_transcript.specs.Data.{witnesses_of}
 use Rattle.sc_rounds.specs.declared.product_polynomial.ProductPolynomial.{ProductPolynomial}
 
 -- how many variables both tables have
@@ -31,15 +29,6 @@ weights_in number p = table_of number p.weights
 -- the sum over all rows of the product of the two
 abbrev pub sum_in : {F EF : Type 0} → Ops → (EF → ℕ) → ProductPolynomial F EF → ℕ
 sum_in o number p = inner o (variables_in p) (evals_in number p) (weights_in number p)
-
--- A round on tables f and w of m + 1 variables and a claim at h: it sends their message, and it is appended to data.
-pub record PlaysRound (order : Order) (o : Ops) (R : Rules) (E : Extension) (bits m : ℕ) (f w : ℕ → ℕ) (claim : ℕ) (h : List Event)
-    (r : ℕ) (f' w' : ℕ → ℕ) (claim' : ℕ) (h' : List Event)
-    (messages : List (List ℕ)) (witnesses : List ℕ) (messages' : List (List ℕ)) (witnesses' : List ℕ) : Type 0 where
-  pub witness : ℕ
-  pub round : IsRound evaluation order o R E bits m f w claim h (round_of (message_of evaluation order o (2 ^ m) f w) witness) r f' w' claim' h'
-  pub message : messages' ≡ messages ++ message_of evaluation order o (2 ^ m) f w ∷ []
-  pub found : witnesses' ≡ witnesses ++ witnesses_of bits (round_of (message_of evaluation order o (2 ^ m) f w) witness ∷ [])
 
 -- A round on tables f and w of m + 1 variables for which no witness was found at h: the difficulty is positive, the history ends with their message,
 -- and no element passes there.

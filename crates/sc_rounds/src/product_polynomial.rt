@@ -1,12 +1,12 @@
 //! A table and its weights, on which rounds are played.
-ghost use Rattle.std.specs.Prelude.{◌≡◌, ◌≢◌, ◌⊎◌, ℕ, Err, suc, ◌+◌, ◌<◌, ◌≤◌, ◌^◌, [], ◌∷◌, ◌++◌, IfOk, OnOk, OnErr, length, map, vec_capacity};
+ghost use Rattle.std.specs.Prelude.{◌≡◌, ◌≢◌, ◌⊎◌, ℕ, Err, suc, ◌+◌, ◌<◌, ◌≤◌, ◌^◌, [], ◌∷◌, ◌++◌, IfOk, IfErr, OnOk, OnErr, length, map, vec_capacity};
 ghost use Rattle.sc_definitions.specs.Ring.{plus, times};
 ghost use Rattle.sc_definitions.specs.Tables.{entries, value, sum_below, inner};
 ghost use Rattle.sc_table.specs.Polys.{variables_of, table_of};
 ghost use Rattle.sc_table.specs.Strategy.{order_of};
 ghost use Rattle.sc_statements.specs.Constraints.{constraint_arity, constraint_challenge, constraint_power, constraint_statements};
 ghost use Rattle.sc_statements.specs.Batches.{AddsBatch};
-ghost use Rattle.sc_transcript.specs.Shapes.{events_of, seed_of};
+ghost use Rattle.sc_transcript.specs.Shapes.{seed_of};
 ghost use Rattle.sc_definitions.specs.Events.{words};
 
 use sc_challenger::Challenger;
@@ -28,10 +28,13 @@ pub struct ProductPolynomial<F, EF> {
 }
 
 impl<F: Field, EF: ExtensionField<F>> ProductPolynomial<F, EF> {
-    ghost use Rattle.sc_transcript.specs.Data.{messages_in, witnesses_in, spare_in};
-    ghost use Rattle.sc_rounds.specs.Products.{variables_in, order_in, evals_in, weights_in, sum_in, PlaysRound, EndsRound};
-    ghost use Rattle.sc_rounds.specs.Batches.{PlaysBatch, StopsBatch, FailsBatch, IsUnbegun};
-    ghost use Rattle.sc_transcript.specs.Invalid.{FindsNone};
+    ghost use Rattle.sc_definitions.specs.Channels.{channel};
+    ghost use Rattle.sc_definitions.specs.Standings.{IsRound, IsPlayed};
+    ghost use Rattle.sc_transcript.specs.Data.{wire_in, spare_in};
+    ghost use Rattle.sc_transcript.specs.Drivers.{driver_in, channel_of, Continues, HasRoundLeft, IsDone, HasRoom, TakesRoom};
+    ghost use Rattle.sc_rounds.specs.Products.{variables_in, order_in, evals_in, weights_in, sum_in};
+    ghost use Rattle.sc_rounds.specs.Standings.{setting_in, standing_in, IsHalted, IsStopped, IsBatchStopped};
+    ghost use Rattle.sc_rounds.specs.Batches.{IsUnbegun};
 
     /// The pair of these tables, which have as many variables.
     pub fn new_unpacked(order: VariableOrder, evals: Poly<EF>, weights: Poly<EF>) -> Self
@@ -178,31 +181,22 @@ impl<F: Field, EF: ExtensionField<F>> ProductPolynomial<F, EF> {
         sum: &mut EF,
     ) -> Result<EF, SumcheckError>
         requires variables { 0 < variables_in self.old }
-        requires left { transcript.old.played < transcript.old.shape.num_rounds }
+        requires left { HasRoundLeft (driver_in transcript.old) }
         requires sum { EF.number sum.old ≡ sum_in EF.ops EF.number self.old }
-        ensures same_reference { transcript.new.challenger.ghost_name ≡ transcript.old.challenger.ghost_name }
-        ensures rules { C.rules transcript.new.challenger.now ≡ C.rules transcript.old.challenger.now }
-        ensures shape { transcript.new.shape ≡ transcript.old.shape }
-        ensures played { OnOk result (transcript.new.played ≡ transcript.old.played + 1) }
-        ensures not_played { OnErr result (transcript.new.played ≡ transcript.old.played) }
-        ensures fewer { OnOk result (variables_in self.old ≡ variables_in self.new + 1) }
+        ensures continues { Continues (driver_in transcript.old) (driver_in transcript.new) }
         ensures order { order_in self.new ≡ order_in self.old }
-        ensures round { IfOk result (λ r. PlaysRound (order_in self.old) EF.ops (C.rules transcript.old.challenger.now) EF.extension transcript.old.shape.pow_bits (variables_in self.new)
-            (evals_in EF.number self.old) (weights_in EF.number self.old) (EF.number sum.old) (C.history transcript.old.challenger.now)
-            (EF.number r) (evals_in EF.number self.new) (weights_in EF.number self.new) (EF.number sum.new) (C.history transcript.new.challenger.now)
-            (messages_in EF.number sumcheck_data.old) (witnesses_in F.number sumcheck_data.old) (messages_in EF.number sumcheck_data.new) (witnesses_in F.number sumcheck_data.new)) }
-        ensures true_sum { OnOk result (EF.number sum.new ≡ sum_in EF.ops EF.number self.new) }
-        ensures refused { OnErr result (self.new ≡ self.old) }
-        ensures refused_sum { OnErr result (sum.new ≡ sum.old) }
-        ensures refused_messages { OnErr result (messages_in EF.number sumcheck_data.new ≡ messages_in EF.number sumcheck_data.old) }
-        ensures refused_witnesses { OnErr result (witnesses_in F.number sumcheck_data.new ≡ witnesses_in F.number sumcheck_data.old) }
-        ensures causes { OnErr result ((result ≡ Err SumcheckError.NoMemory) ⊎ (result ≡ Err (SumcheckError.NoWitness transcript.old.played))) }
-        ensures no_witness { (m : ℕ) → variables_in self.old ≡ suc m → result ≡ Err (SumcheckError.NoWitness transcript.old.played)
-            → EndsRound (order_in self.old) EF.ops (C.rules transcript.old.challenger.now) EF.extension transcript.old.shape.pow_bits m F.ops.size
-            (evals_in EF.number self.old) (weights_in EF.number self.old) (C.history transcript.old.challenger.now) (C.history transcript.new.challenger.now) }
-        ensures no_memory { result ≡ Err SumcheckError.NoMemory → C.history transcript.new.challenger.now ≡ C.history transcript.old.challenger.now }
-        ensures has_room { 1 ≤ spare_in sumcheck_data.old → events_of EF.DEGREE transcript.old.shape.pow_bits ≤ C.spare transcript.old.challenger.now → result ≢ Err SumcheckError.NoMemory }
-        ensures spare { OnOk result (C.spare transcript.old.challenger.now ≤ C.spare transcript.new.challenger.now + events_of EF.DEGREE transcript.old.shape.pow_bits) }
+        ensures sum { EF.number sum.new ≡ sum_in EF.ops EF.number self.new }
+        ensures played { OnOk result ((driver_in transcript.new).played ≡ (driver_in transcript.old).played + 1) }
+        ensures round { IfOk result (λ r. IsRound (setting_in (channel_of EF.extension (driver_in transcript.old)) EF.ops self.old)
+            (standing_in EF.number self.old sum.old (driver_in transcript.old).history (wire_in F.number EF.number sumcheck_data.old))
+            (standing_in EF.number self.new sum.new (driver_in transcript.new).history (wire_in F.number EF.number sumcheck_data.new)) (EF.number r)) }
+        ensures refused { IfErr result (IsHalted (setting_in (channel_of EF.extension (driver_in transcript.old)) EF.ops self.old)
+            (standing_in EF.number self.old sum.old (driver_in transcript.old).history (wire_in F.number EF.number sumcheck_data.old))
+            (standing_in EF.number self.new sum.new (driver_in transcript.new).history (wire_in F.number EF.number sumcheck_data.new)) (driver_in transcript.old).played) }
+        ensures not_played { OnErr result ((driver_in transcript.new).played ≡ (driver_in transcript.old).played) }
+        ensures kept { OnErr result ((self.new ≡ self.old) × (sum.new ≡ sum.old)) }
+        ensures has_room { 1 ≤ spare_in sumcheck_data.old → HasRoom EF.DEGREE (driver_in transcript.old) → result ≢ Err SumcheckError.NoMemory }
+        ensures takes_room { OnOk result (TakesRoom EF.DEGREE (driver_in transcript.old) (driver_in transcript.new)) }
         ensures room { OnOk result (spare_in sumcheck_data.old ≤ spare_in sumcheck_data.new + 1) }
         ensures room_kept { OnErr result (spare_in sumcheck_data.old ≤ spare_in sumcheck_data.new) }
     {
@@ -219,31 +213,22 @@ impl<F: Field, EF: ExtensionField<F>> ProductPolynomial<F, EF> {
     where
         EF: IntoTranscriptField<EG>,
         requires variables { 0 < variables_in self.old }
-        requires left { transcript.old.played < transcript.old.shape.num_rounds }
+        requires left { HasRoundLeft (driver_in transcript.old) }
         requires sum { EF.number sum.old ≡ sum_in EF.ops EF.number self.old }
-        ensures same_reference { transcript.new.challenger.ghost_name ≡ transcript.old.challenger.ghost_name }
-        ensures rules { C.rules transcript.new.challenger.now ≡ C.rules transcript.old.challenger.now }
-        ensures shape { transcript.new.shape ≡ transcript.old.shape }
-        ensures played { OnOk result (transcript.new.played ≡ transcript.old.played + 1) }
-        ensures not_played { OnErr result (transcript.new.played ≡ transcript.old.played) }
-        ensures fewer { OnOk result (variables_in self.old ≡ variables_in self.new + 1) }
+        ensures continues { Continues (driver_in transcript.old) (driver_in transcript.new) }
         ensures order { order_in self.new ≡ order_in self.old }
-        ensures round { IfOk result (λ r. PlaysRound (order_in self.old) EG.ops (C.rules transcript.old.challenger.now) EG.extension transcript.old.shape.pow_bits (variables_in self.new)
-            (evals_in (λ x. EF.to_number (EF.number x)) self.old) (weights_in (λ x. EF.to_number (EF.number x)) self.old) (EF.to_number (EF.number sum.old)) (C.history transcript.old.challenger.now)
-            (EG.number r) (evals_in (λ x. EF.to_number (EF.number x)) self.new) (weights_in (λ x. EF.to_number (EF.number x)) self.new) (EF.to_number (EF.number sum.new)) (C.history transcript.new.challenger.now)
-            (messages_in EG.number sumcheck_data.old) (witnesses_in G.number sumcheck_data.old) (messages_in EG.number sumcheck_data.new) (witnesses_in G.number sumcheck_data.new)) }
-        ensures true_sum { OnOk result (EF.number sum.new ≡ sum_in EF.ops EF.number self.new) }
-        ensures refused { OnErr result (self.new ≡ self.old) }
-        ensures refused_sum { OnErr result (sum.new ≡ sum.old) }
-        ensures refused_messages { OnErr result (messages_in EG.number sumcheck_data.new ≡ messages_in EG.number sumcheck_data.old) }
-        ensures refused_witnesses { OnErr result (witnesses_in G.number sumcheck_data.new ≡ witnesses_in G.number sumcheck_data.old) }
-        ensures causes { OnErr result ((result ≡ Err SumcheckError.NoMemory) ⊎ (result ≡ Err (SumcheckError.NoWitness transcript.old.played))) }
-        ensures no_witness { (m : ℕ) → variables_in self.old ≡ suc m → result ≡ Err (SumcheckError.NoWitness transcript.old.played)
-            → EndsRound (order_in self.old) EG.ops (C.rules transcript.old.challenger.now) EG.extension transcript.old.shape.pow_bits m G.ops.size
-            (evals_in (λ x. EF.to_number (EF.number x)) self.old) (weights_in (λ x. EF.to_number (EF.number x)) self.old) (C.history transcript.old.challenger.now) (C.history transcript.new.challenger.now) }
-        ensures no_memory { result ≡ Err SumcheckError.NoMemory → C.history transcript.new.challenger.now ≡ C.history transcript.old.challenger.now }
-        ensures has_room { 1 ≤ spare_in sumcheck_data.old → events_of EG.DEGREE transcript.old.shape.pow_bits ≤ C.spare transcript.old.challenger.now → result ≢ Err SumcheckError.NoMemory }
-        ensures spare { OnOk result (C.spare transcript.old.challenger.now ≤ C.spare transcript.new.challenger.now + events_of EG.DEGREE transcript.old.shape.pow_bits) }
+        ensures sum { EF.number sum.new ≡ sum_in EF.ops EF.number self.new }
+        ensures played { OnOk result ((driver_in transcript.new).played ≡ (driver_in transcript.old).played + 1) }
+        ensures round { IfOk result (λ r. IsRound (setting_in (channel_of EG.extension (driver_in transcript.old)) EG.ops self.old)
+            (standing_in (λ x. EF.to_number (EF.number x)) self.old sum.old (driver_in transcript.old).history (wire_in G.number EG.number sumcheck_data.old))
+            (standing_in (λ x. EF.to_number (EF.number x)) self.new sum.new (driver_in transcript.new).history (wire_in G.number EG.number sumcheck_data.new)) (EG.number r)) }
+        ensures refused { IfErr result (IsHalted (setting_in (channel_of EG.extension (driver_in transcript.old)) EG.ops self.old)
+            (standing_in (λ x. EF.to_number (EF.number x)) self.old sum.old (driver_in transcript.old).history (wire_in G.number EG.number sumcheck_data.old))
+            (standing_in (λ x. EF.to_number (EF.number x)) self.new sum.new (driver_in transcript.new).history (wire_in G.number EG.number sumcheck_data.new)) (driver_in transcript.old).played) }
+        ensures not_played { OnErr result ((driver_in transcript.new).played ≡ (driver_in transcript.old).played) }
+        ensures kept { OnErr result ((self.new ≡ self.old) × (sum.new ≡ sum.old)) }
+        ensures has_room { 1 ≤ spare_in sumcheck_data.old → HasRoom EG.DEGREE (driver_in transcript.old) → result ≢ Err SumcheckError.NoMemory }
+        ensures takes_room { OnOk result (TakesRoom EG.DEGREE (driver_in transcript.old) (driver_in transcript.new)) }
         ensures room { OnOk result (spare_in sumcheck_data.old ≤ spare_in sumcheck_data.new + 1) }
         ensures room_kept { OnErr result (spare_in sumcheck_data.old ≤ spare_in sumcheck_data.new) }
     {
@@ -274,41 +259,23 @@ impl<F: Field, EF: ExtensionField<F>> ProductPolynomial<F, EF> {
     ) -> Result<(), SumcheckError>
     where
         EF: IntoTranscriptField<EG>,
-        requires variables { transcript.old.shape.num_rounds ≤ variables_in self.old }
-        requires none_played { transcript.old.played ≡ 0 }
+        requires variables { (driver_in transcript.old).shape.num_rounds ≤ variables_in self.old }
+        requires none_played { (driver_in transcript.old).played ≡ 0 }
         requires sum { EF.number sum.old ≡ sum_in EF.ops EF.number self.old }
         requires empty { challenges.old.items ≡ [] }
-        requires room { transcript.old.shape.num_rounds ≤ vec_capacity challenges.old }
-        ensures same_reference { transcript.new.challenger.ghost_name ≡ transcript.old.challenger.ghost_name }
-        ensures rules { C.rules transcript.new.challenger.now ≡ C.rules transcript.old.challenger.now }
-        ensures shape { transcript.new.shape ≡ transcript.old.shape }
+        requires room { (driver_in transcript.old).shape.num_rounds ≤ vec_capacity challenges.old }
+        ensures continues { Continues (driver_in transcript.old) (driver_in transcript.new) }
         ensures order { order_in self.new ≡ order_in self.old }
         ensures sum { EF.number sum.new ≡ sum_in EF.ops EF.number self.new }
-        ensures all { OnOk result (transcript.new.played ≡ transcript.new.shape.num_rounds) }
-        ensures left { variables_in self.new + transcript.new.played ≡ variables_in self.old }
-        ensures played { OnOk result ((f w : ℕ → ℕ)
-            → ((b : ℕ) → b < 2 ^ variables_in self.old → evals_in (λ x. EF.to_number (EF.number x)) self.old b ≡ f b)
-            → ((b : ℕ) → b < 2 ^ variables_in self.old → weights_in (λ x. EF.to_number (EF.number x)) self.old b ≡ w b)
-            → PlaysBatch (order_in self.old) EG.ops (C.rules transcript.old.challenger.now) EG.extension transcript.old.shape.pow_bits (variables_in self.old)
-            f w (EF.to_number (EF.number sum.old)) (C.history transcript.old.challenger.now) (map EG.number challenges.new.items) (variables_in self.new)
-            (evals_in (λ x. EF.to_number (EF.number x)) self.new) (weights_in (λ x. EF.to_number (EF.number x)) self.new) (EF.to_number (EF.number sum.new)) (C.history transcript.new.challenger.now)
-            (messages_in EG.number sumcheck_data.old) (witnesses_in G.number sumcheck_data.old) (messages_in EG.number sumcheck_data.new) (witnesses_in G.number sumcheck_data.new)) }
-        ensures causes { OnErr result ((result ≡ Err SumcheckError.NoMemory) ⊎ (result ≡ Err (SumcheckError.NoWitness transcript.new.played))) }
-        ensures begun { OnErr result (transcript.new.played < transcript.new.shape.num_rounds) }
-        ensures no_memory { result ≡ Err SumcheckError.NoMemory → (f w : ℕ → ℕ)
-            → ((b : ℕ) → b < 2 ^ variables_in self.old → evals_in (λ x. EF.to_number (EF.number x)) self.old b ≡ f b)
-            → ((b : ℕ) → b < 2 ^ variables_in self.old → weights_in (λ x. EF.to_number (EF.number x)) self.old b ≡ w b)
-            → StopsBatch (order_in self.old) EG.ops (C.rules transcript.old.challenger.now) EG.extension transcript.old.shape.pow_bits (variables_in self.old)
-            f w (EF.to_number (EF.number sum.old)) (C.history transcript.old.challenger.now) (variables_in self.new)
-            (evals_in (λ x. EF.to_number (EF.number x)) self.new) (weights_in (λ x. EF.to_number (EF.number x)) self.new) (EF.to_number (EF.number sum.new)) (C.history transcript.new.challenger.now)
-            (messages_in EG.number sumcheck_data.old) (witnesses_in G.number sumcheck_data.old) (messages_in EG.number sumcheck_data.new) (witnesses_in G.number sumcheck_data.new) }
-        ensures no_witness { (m : ℕ) → variables_in self.new ≡ suc m → result ≡ Err (SumcheckError.NoWitness transcript.new.played) → (f w : ℕ → ℕ)
-            → ((b : ℕ) → b < 2 ^ variables_in self.old → evals_in (λ x. EF.to_number (EF.number x)) self.old b ≡ f b)
-            → ((b : ℕ) → b < 2 ^ variables_in self.old → weights_in (λ x. EF.to_number (EF.number x)) self.old b ≡ w b)
-            → FailsBatch (order_in self.old) EG.ops (C.rules transcript.old.challenger.now) EG.extension transcript.old.shape.pow_bits (variables_in self.old)
-            f w (EF.to_number (EF.number sum.old)) (C.history transcript.old.challenger.now) G.ops.size m
-            (evals_in (λ x. EF.to_number (EF.number x)) self.new) (weights_in (λ x. EF.to_number (EF.number x)) self.new) (EF.to_number (EF.number sum.new)) (C.history transcript.new.challenger.now)
-            (messages_in EG.number sumcheck_data.old) (witnesses_in G.number sumcheck_data.old) (messages_in EG.number sumcheck_data.new) (witnesses_in G.number sumcheck_data.new) }
+        ensures left { variables_in self.new + (driver_in transcript.new).played ≡ variables_in self.old }
+        ensures all { OnOk result (IsDone (driver_in transcript.new)) }
+        ensures played { OnOk result (IsPlayed (setting_in (channel_of EG.extension (driver_in transcript.old)) EG.ops self.old)
+            (standing_in (λ x. EF.to_number (EF.number x)) self.old sum.old (driver_in transcript.old).history (wire_in G.number EG.number sumcheck_data.old))
+            (standing_in (λ x. EF.to_number (EF.number x)) self.new sum.new (driver_in transcript.new).history (wire_in G.number EG.number sumcheck_data.new)) (map EG.number challenges.new.items)) }
+        ensures begun { OnErr result (HasRoundLeft (driver_in transcript.new)) }
+        ensures stopped { IfErr result (IsStopped (setting_in (channel_of EG.extension (driver_in transcript.old)) EG.ops self.old)
+            (standing_in (λ x. EF.to_number (EF.number x)) self.old sum.old (driver_in transcript.old).history (wire_in G.number EG.number sumcheck_data.old))
+            (standing_in (λ x. EF.to_number (EF.number x)) self.new sum.new (driver_in transcript.new).history (wire_in G.number EG.number sumcheck_data.new)) (driver_in transcript.new).played) }
     {
         for _round in 0..transcript.shape().num_rounds {
             match self.round_in::<G, EG, C>(sumcheck_data, transcript, sum) {
@@ -338,30 +305,13 @@ impl<F: Field, EF: ExtensionField<F>> ProductPolynomial<F, EF> {
         ensures sum { EF.number sum.new ≡ sum_in EF.ops EF.number self.new }
         ensures fewer { OnOk result (variables_in self.new + shape.num_rounds ≡ variables_in self.old) }
         ensures left { variables_in self.old ≤ variables_in self.new + shape.num_rounds }
-        ensures played { IfOk result (λ point. (f w : ℕ → ℕ)
-            → ((b : ℕ) → b < 2 ^ variables_in self.old → evals_in (λ x. EF.to_number (EF.number x)) self.old b ≡ f b)
-            → ((b : ℕ) → b < 2 ^ variables_in self.old → weights_in (λ x. EF.to_number (EF.number x)) self.old b ≡ w b)
-            → PlaysBatch (order_in self.old) EG.ops (C.rules challenger.old) EG.extension shape.pow_bits (variables_in self.old)
-            f w (EF.to_number (EF.number sum.old)) (C.history challenger.old ++ words (seed_of EG.DEGREE shape)) (map EG.number point) (variables_in self.new)
-            (evals_in (λ x. EF.to_number (EF.number x)) self.new) (weights_in (λ x. EF.to_number (EF.number x)) self.new) (EF.to_number (EF.number sum.new)) (C.history challenger.new)
-            (messages_in EG.number sumcheck_data.old) (witnesses_in G.number sumcheck_data.old) (messages_in EG.number sumcheck_data.new) (witnesses_in G.number sumcheck_data.new)) }
-        ensures causes { OnErr result ((result ≡ Err SumcheckError.NoMemory) ⊎ FindsNone result) }
-        ensures stopped { (i : ℕ) → result ≡ Err (SumcheckError.NoWitness i) → (i < shape.num_rounds) × (variables_in self.new + i ≡ variables_in self.old) }
-        ensures no_witness { (i m : ℕ) → result ≡ Err (SumcheckError.NoWitness i) → variables_in self.new ≡ suc m → (f w : ℕ → ℕ)
-            → ((b : ℕ) → b < 2 ^ variables_in self.old → evals_in (λ x. EF.to_number (EF.number x)) self.old b ≡ f b)
-            → ((b : ℕ) → b < 2 ^ variables_in self.old → weights_in (λ x. EF.to_number (EF.number x)) self.old b ≡ w b)
-            → FailsBatch (order_in self.old) EG.ops (C.rules challenger.old) EG.extension shape.pow_bits (variables_in self.old)
-            f w (EF.to_number (EF.number sum.old)) (C.history challenger.old ++ words (seed_of EG.DEGREE shape)) G.ops.size m
-            (evals_in (λ x. EF.to_number (EF.number x)) self.new) (weights_in (λ x. EF.to_number (EF.number x)) self.new) (EF.to_number (EF.number sum.new)) (C.history challenger.new)
-            (messages_in EG.number sumcheck_data.old) (witnesses_in G.number sumcheck_data.old) (messages_in EG.number sumcheck_data.new) (witnesses_in G.number sumcheck_data.new) }
-        ensures no_memory { result ≡ Err SumcheckError.NoMemory → IsUnbegun self.old self.new sum.old sum.new (C.history challenger.old) (C.history challenger.new) sumcheck_data.old sumcheck_data.new
-            ⊎ ((f w : ℕ → ℕ)
-            → ((b : ℕ) → b < 2 ^ variables_in self.old → evals_in (λ x. EF.to_number (EF.number x)) self.old b ≡ f b)
-            → ((b : ℕ) → b < 2 ^ variables_in self.old → weights_in (λ x. EF.to_number (EF.number x)) self.old b ≡ w b)
-            → StopsBatch (order_in self.old) EG.ops (C.rules challenger.old) EG.extension shape.pow_bits (variables_in self.old)
-            f w (EF.to_number (EF.number sum.old)) (C.history challenger.old ++ words (seed_of EG.DEGREE shape)) (variables_in self.new)
-            (evals_in (λ x. EF.to_number (EF.number x)) self.new) (weights_in (λ x. EF.to_number (EF.number x)) self.new) (EF.to_number (EF.number sum.new)) (C.history challenger.new)
-            (messages_in EG.number sumcheck_data.old) (witnesses_in G.number sumcheck_data.old) (messages_in EG.number sumcheck_data.new) (witnesses_in G.number sumcheck_data.new)) }
+        ensures played { IfOk result (λ point. IsPlayed (setting_in (channel (C.rules challenger.old) EG.extension G.ops.size shape.pow_bits) EG.ops self.old)
+            (standing_in (λ x. EF.to_number (EF.number x)) self.old sum.old (C.history challenger.old ++ words (seed_of EG.DEGREE shape)) (wire_in G.number EG.number sumcheck_data.old))
+            (standing_in (λ x. EF.to_number (EF.number x)) self.new sum.new (C.history challenger.new) (wire_in G.number EG.number sumcheck_data.new)) (map EG.number point)) }
+        ensures stopped { IfErr result (IsBatchStopped (IsUnbegun self.old self.new sum.old sum.new (C.history challenger.old) (C.history challenger.new) sumcheck_data.old sumcheck_data.new)
+            (setting_in (channel (C.rules challenger.old) EG.extension G.ops.size shape.pow_bits) EG.ops self.old)
+            (standing_in (λ x. EF.to_number (EF.number x)) self.old sum.old (C.history challenger.old ++ words (seed_of EG.DEGREE shape)) (wire_in G.number EG.number sumcheck_data.old))
+            (standing_in (λ x. EF.to_number (EF.number x)) self.new sum.new (C.history challenger.new) (wire_in G.number EG.number sumcheck_data.new)) shape.num_rounds) }
     {
         let mut challenges = with_room(alloc, shape.num_rounds)?;
         shape.seed::<G, EG, C>(alloc, challenger)?;

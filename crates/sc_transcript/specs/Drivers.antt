@@ -96,6 +96,10 @@ pub record IsSeeded (degree : ℕ) (before after : Driver) : Type 0 where
 abbrev pub HasRoundLeft : Driver → Type 0
 HasRoundLeft d = d.played < d.shape.num_rounds
 
+-- so many are
+abbrev pub HasRoundsLeft : ℕ → Driver → Type 0
+HasRoundsLeft rounds d = d.played + rounds ≤ d.shape.num_rounds
+
 -- all were played
 abbrev pub IsDone : Driver → Type 0
 IsDone d = d.played ≡ d.shape.num_rounds

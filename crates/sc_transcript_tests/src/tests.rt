@@ -1,5 +1,6 @@
 //! Drivers, data and replays, by figures by hand and from a script that is no part of this.
 ghost use Rattle.std.specs.Prelude.{◌≡◌, ◌+◌, ◌<◌, ◌≤◌, OnOk};
+ghost use Rattle.sc_transcript.specs.Drivers.{driver_in, Continues, HasRoundsLeft};
 
 use sc_challenger::{Challenger, Event, ScriptedChallenger};
 use sc_field::{ExtensionField, F65537, Field, NoMemory};
@@ -107,10 +108,9 @@ fn numbers<F: Field, EF: Field>(played: (EF, Option<F>)) -> Played {
 fn two_rounds<F: Field, EF: ExtensionField<F>, C: Challenger<F>>(
     transcript: &mut ProverTranscript<'_, C, F, EF>,
 ) -> Result<(Played, Played), SumcheckError>
-    requires { transcript.old.played + 2 ≤ transcript.old.shape.num_rounds }
-    ensures shape { transcript.new.shape ≡ transcript.old.shape }
-    ensures played { OnOk result (transcript.new.played ≡ transcript.old.played + 2) }
-    ensures same_reference { transcript.new.challenger.ghost_name ≡ transcript.old.challenger.ghost_name }
+    requires { HasRoundsLeft 2 (driver_in transcript.old) }
+    ensures continues { Continues (driver_in transcript.old) (driver_in transcript.new) }
+    ensures played { OnOk result ((driver_in transcript.new).played ≡ (driver_in transcript.old).played + 2) }
 {
     let first = transcript.round(of(2), of(65535))?;
     let second = transcript.round(of(0), of(65535))?;
@@ -194,10 +194,9 @@ fn append_two<F: Field, EF: ExtensionField<F>, C: Challenger<F>>(
     data: &mut SumcheckData<F, EF>,
     transcript: &mut ProverTranscript<'_, C, F, EF>,
 ) -> Result<[EF; 2], SumcheckError>
-    requires { transcript.old.played + 2 ≤ transcript.old.shape.num_rounds }
-    ensures shape { transcript.new.shape ≡ transcript.old.shape }
-    ensures played { OnOk result (transcript.new.played ≡ transcript.old.played + 2) }
-    ensures same_reference { transcript.new.challenger.ghost_name ≡ transcript.old.challenger.ghost_name }
+    requires { HasRoundsLeft 2 (driver_in transcript.old) }
+    ensures continues { Continues (driver_in transcript.old) (driver_in transcript.new) }
+    ensures played { OnOk result ((driver_in transcript.new).played ≡ (driver_in transcript.old).played + 2) }
 {
     let first = data.observe_and_sample(transcript, of(2), of(65535))?;
     let second = data.observe_and_sample(transcript, of(0), of(65535))?;

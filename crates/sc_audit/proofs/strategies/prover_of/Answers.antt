@@ -8,7 +8,7 @@ use Rattle.sc_rounds.specs.Products.{evals_in, weights_in}
 use Rattle.sc_definitions.proofs.Lengths.{pow-same}
 use Rattle.sc_audit.proofs.Embedded.{entry-embedded, length-embedded}
 use Rattle.sc_audit.proofs.FigureLaws.{weights-batched, claim-batched}
-use Rattle.sc_audit.proofs.SameTables.{inner-same}
+use Rattle.sc_definitions.proofs.SameTables.{inner-same}
 use Rattle.sc_audit.proofs.strategies.prover_of.Goals as goal
 
 pub new_unpacked-poly-requires : goal.new_unpacked-poly-requires

@@ -1,0 +1,45 @@
+-- Where rounds on a pair of tables stand, and what is left where they are refused.
+use Rattle.std.specs.Prelude.{◌≡◌, ◌⊎◌, ℕ, ◌+◌, ◌<◌, List, map}
+use Rattle.sc_definitions.specs.declared.events.Event.{Event}
+use Rattle.sc_definitions.specs.Ring.{Ops}
+use Rattle.sc_definitions.specs.Tables.{evaluation}
+use Rattle.sc_definitions.specs.Channels.{Channel, Wire}
+use Rattle.sc_definitions.specs.Standings.{Setting, Standing, IsPlayedInPart, IsRoundWithoutWitness, IsPlayedWithoutWitness}
+use Rattle.sc_transcript.specs.declared.error.SumcheckError.{SumcheckError}
+use Rattle.sc_transcript.specs.declared.error.SumcheckError.TheVariants.{NoWitness, NoMemory}
+use Rattle.sc_rounds.specs.declared.product_polynomial.ProductPolynomial.{ProductPolynomial}
+use Rattle.sc_rounds.specs.Products.{variables_in, order_in}
+
+-- what stays: a channel, a ring, values, and the pair's order
+abbrev pub setting_in : {F EF : Type 0} → Channel → Ops → ProductPolynomial F EF → Setting
+setting_in c o p = record { channel = c; ops = o; basis = evaluation; order = order_in p }
+
+-- what moves: the pair's entries and a sum, by their numbers, a history and a wire
+abbrev pub standing_in : {F EF : Type 0} → (EF → ℕ) → ProductPolynomial F EF → EF → List Event → Wire → Standing
+standing_in number p sum h wire = record {
+  variables = variables_in p;
+  evals = map number p.evals.evals.items;
+  weights = map number p.weights.evals.items;
+  claim = number sum;
+  history = h;
+  wire = wire;
+}
+
+-- why round i is refused, and what that leaves
+abbrev pub IsHalted : Setting → Standing → Standing → ℕ → SumcheckError → Type 0
+IsHalted s before after i NoMemory = after ≡ before
+IsHalted s before after i (NoWitness j) = (j ≡ i) × IsRoundWithoutWitness s before after
+IsHalted s before after i e = ⊥
+
+-- why rounds stop, where i were played, and what that leaves
+abbrev pub IsStopped : Setting → Standing → Standing → ℕ → SumcheckError → Type 0
+IsStopped s before after i NoMemory = IsPlayedInPart s before after
+IsStopped s before after i (NoWitness j) = (j ≡ i) × IsPlayedWithoutWitness s before after
+IsStopped s before after i e = ⊥
+
+-- why a batch of so many rounds stops, and what that leaves: a batch that got no memory may not have begun, and the round without a witness is as far
+-- as the variables that are left tell
+abbrev pub IsBatchStopped : Type 0 → Setting → Standing → Standing → ℕ → SumcheckError → Type 0
+IsBatchStopped unbegun s before after rounds NoMemory = unbegun ⊎ IsPlayedInPart s before after
+IsBatchStopped unbegun s before after rounds (NoWitness i) = (i < rounds) × (after.variables + i ≡ before.variables) × IsPlayedWithoutWitness s before after
+IsBatchStopped unbegun s before after rounds e = ⊥
