@@ -62,7 +62,7 @@ module _ (order order₁ : Order) (o : Ops) (ring : IsRing o) (R : Rules) (E : E
       FailsBatch order o R E bits n f w claim h size m (rows_of u.evals) (rows_of u.weights) u.claim u.history t.wire.messages t.wire.witnesses u.wire.messages u.wire.witnesses
   failed_batch m size_is p =
       let q = p.last in
-      let same : q ≡ record u { history = q.history } = sym (ap (λ x. record x { history = q.history }) p.ends.kept) in
+      let same : q ≡ record u { history = q.history } = sym (ap (λ (x : Standing). record x { history = q.history }) p.ends.kept) in
       let played = subst (λ x. IsPlayed here t x p.rs) same p.played in
       let B : ℕ → Type 0 = λ k. PlaysBatch order o R E bits n f w claim h p.rs k (rows_of u.evals) (rows_of u.weights) u.claim q.history t.wire.messages t.wire.witnesses u.wire.messages u.wire.witnesses in
       let message : message_in here q ≡ message_of evaluation order o (2 ^ m) (rows_of u.evals) (rows_of u.weights) =

@@ -1,34 +1,37 @@
 use Rattle.std.proofs.Common.{ap, sym, refl, ◌+◌, ◌∙◌, ◌++◌, inl, inr, ⊎_elim, map}
 use Rattle.std.proofs.lemmas.Result.{IfOk-from_err}
 use Rattle.sc_definitions.specs.Events.{words}
+use Rattle.sc_definitions.specs.Tables.{entries, rows_of}
+use Rattle.sc_transcript.specs.declared.error.SumcheckError.TheVariants.{NoMemory, NoWitness}
 use Rattle.sc_transcript.specs.Shapes.{seed_of}
 use Rattle.sc_transcript.specs.Data.{messages_in, witnesses_in}
 use Rattle.sc_transcript.specs.declared.transcript.SumcheckShape.{SumcheckShape}
 use Rattle.sc_rounds.specs.Products.{variables_in, evals_in, weights_in}
 use Rattle.sc_rounds.proofs.InStep.{out_of_memory}
-use Rattle.sc_rounds.proofs.BatchLaws.{fits, fewer_at, less_at, not_found, no_more, ok_batch, failed_batch, stopped_batch}
+use Rattle.sc_rounds.proofs.BatchLaws.{fits, fewer_at, less_at, not_found, no_more}
+use Rattle.sc_rounds.proofs.PositionalBatches.{told, stopped_for, ok_batch, failed_batch, stopped_batch}
 use Rattle.sc_rounds.proofs.strategy.SumcheckProver.compute_sumcheck_polynomials.Goals as goal
 
 pub returns-clause-batch : goal.returns-clause-batch
+unfolding entries rows_of
 returns-clause-batch g c =
-    let N = g.EF.Field.number in
     let taken = c.in_ok-take_in_if_some.ensures in
     let shape = c.new-shape.ensures in
-    ok_batch _ _ _ _ _ _ _ _ _ _ _ _ _ _ _ _ _ taken.order (ap (λ s. s.pow_bits) shape) taken.variables taken.claim
+    ok_batch _ _ _ g.met.EF.Field.is_field.ring _ _ g.F.Field.ops.size _ _ _ _ _ _ _ _ _ taken.order (ap (λ s. s.pow_bits) shape) taken.variables taken.claim
     (ap (λ s. g.C.Challenger.history c.args.challenger.now ++ words (seed_of g.EF.ExtensionField.DEGREE s)) shape)
-    (λ b low. ap (λ t. t b) taken.evals) taken.weights
-    c.play_batch.result (map N) _ _ _ _ _ _ _ _ _ c.play_batch.ensures.played
+    (λ b low. ap (λ t. t b) taken.evals) taken.weights c.play_batch.result (map g.EF.Field.number) c.play_batch.ensures.played
 
 pub returns-clause-no_witness : goal.returns-clause-no_witness
+unfolding entries rows_of
 returns-clause-no_witness g c = λ i m e size.
     let taken = c.in_ok-take_in_if_some.ensures in
     let shape = c.new-shape.ensures in
-    failed_batch _ _ _ _ _ _ _ _ _ _ _ _ _ _ _ _ _ taken.order (ap (λ s. s.pow_bits) shape) taken.variables taken.claim
+    failed_batch _ _ _ g.met.EF.Field.is_field.ring _ _ _ _ _ _ _ _ _ _ _ _ taken.order (ap (λ s. s.pow_bits) shape) taken.variables taken.claim
     (ap (λ s. g.C.Challenger.history c.args.challenger.now ++ words (seed_of g.EF.ExtensionField.DEGREE s)) shape)
-    (λ b low. ap (λ t. t b) taken.evals) taken.weights
-    _ m _ _ _ _ _ _ _ _ (c.play_batch.ensures.no_witness i m e size)
+    (λ b low. ap (λ t. t b) taken.evals) taken.weights m size (told c.play_batch.result (NoWitness i) _ c.play_batch.ensures.stopped e).2
 
 pub returns-clause-no_memory : goal.returns-clause-no_memory
+unfolding entries rows_of
 returns-clause-no_memory g c = λ e.
     let N = g.EF.Field.number in
     let taken = c.in_ok-take_in_if_some.ensures in
@@ -42,11 +45,10 @@ returns-clause-no_memory g c = λ e.
       appended = ap (messages_in N) none.appended;
       found = ap (witnesses_in g.F.Field.number) none.appended;
     })
-    (λ some. inr (stopped_batch _ _ _ _ _ _ _ _ _ _ _ _ _ _ _ _ _ taken.order (ap (λ s. s.pow_bits) shape) taken.variables taken.claim
+    (λ some. inr (stopped_batch _ _ _ g.met.EF.Field.is_field.ring _ _ g.F.Field.ops.size _ _ _ _ _ _ _ _ _ taken.order (ap (λ s. s.pow_bits) shape) taken.variables taken.claim
     (ap (λ s. g.C.Challenger.history c.args.challenger.now ++ words (seed_of g.EF.ExtensionField.DEGREE s)) shape)
-    (λ b low. ap (λ t. t b) taken.evals) taken.weights
-    _ _ _ _ _ _ _ _ _ some))
-    (c.play_batch.ensures.no_memory e)
+    (λ b low. ap (λ t. t b) taken.evals) taken.weights some))
+    (told c.play_batch.result NoMemory _ c.play_batch.ensures.stopped e)
 
 -- the caller gives what the first call asks for
 pub take_in_if_some-requires : goal.take_in_if_some-requires
@@ -72,11 +74,11 @@ returns-clause-fewer g c =
 
 pub returns-clause-stopped : goal.returns-clause-stopped
 returns-clause-stopped g c = λ i e.
-    let stopped = c.play_batch.ensures.stopped i e in
+    let stopped = told c.play_batch.result (NoWitness i) _ c.play_batch.ensures.stopped e in
     (less_at _ _ _ _ refl stopped.0 (ap (λ (s : SumcheckShape). s.num_rounds) c.new-shape.ensures), stopped.1 ∙ c.in_ok-take_in_if_some.ensures.variables)
 
 pub returns-clause-causes : goal.returns-clause-causes
-returns-clause-causes g c = c.play_batch.ensures.causes
+returns-clause-causes g c = stopped_for _ _ _ _ _ _ c.play_batch.ensures.stopped
 
 pub returns-clause-left : goal.returns-clause-left
 returns-clause-left g c =
