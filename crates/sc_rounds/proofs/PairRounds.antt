@@ -2,8 +2,9 @@
 use Rattle.std.proofs.Common.{◌≡◌, ℕ, zero, suc, ◌+◌, ◌-◌, ◌*◌, ◌/◌, ◌%◌, ◌^◌, ◌<◌, List, [], ◌∷◌, length, map, refl, ap, sym, ◌∙◌, subst, arith}
 use Rattle.std.proofs.Math.Nat.{pow-suc}
 use Rattle.std.proofs.lemmas.List.{length-map}
+use Rattle.std.proofs.lemmas.Grind.{same_number_lists}
 use Rattle.sc_definitions.specs.Ring.{Ops, IsRing, times}
-use Rattle.sc_definitions.specs.Tables.{evaluation, Order, rows_of, sum_below, inner, bound_in}
+use Rattle.sc_definitions.specs.Tables.{evaluation, Order, entries, rows_of, sum_below, inner, bound_in}
 use Rattle.sc_definitions.specs.Messages.{message_first, message_leading, message_of}
 use Rattle.sc_definitions.specs.Rounds.{next_claim}
 use Rattle.sc_definitions.specs.Transcript.{round_of}
@@ -15,6 +16,8 @@ use Rattle.sc_definitions.proofs.StandingLaws.{IsSized, entries-is}
 use Rattle.sc_transcript.specs.declared.error.SumcheckError.{SumcheckError}
 use Rattle.sc_transcript.specs.declared.error.SumcheckError.TheVariants.{NoMemory, NoWitness}
 use Rattle.sc_transcript.specs.Drivers.{IsRefused}
+use Rattle.sc_rounds.specs.declared.product_polynomial.ProductPolynomial.{ProductPolynomial}
+use Rattle.sc_rounds.specs.Products.{variables_in}
 use Rattle.sc_rounds.specs.Standings.{IsHalted}
 
 -- a power of two with a variable left is even
@@ -39,6 +42,21 @@ halved order o n f w values more message =
 -- the list of a table has as many numbers as rows
 pub sized : {X : Type 0} (number : X → ℕ) (xs : List X) (n size : ℕ) → n ≡ length xs → n ≡ 2 ^ size → length (map number xs) ≡ 2 ^ size
 sized number xs n size len is = length-map xs number ∙ sym len ∙ is
+
+-- so have both lists of a pair
+pub pair_rows : {F EF : Type 0} (number : EF → ℕ) (p : ProductPolynomial F EF) →
+    (length (map number p.evals.evals.items) ≡ 2 ^ variables_in p) × (length (map number p.weights.evals.items) ≡ 2 ^ variables_in p)
+pair_rows number p = (
+  sized number p.evals.evals.items _ _ p.evals.evals.ok.0 p.evals.sized,
+  sized number p.weights.evals.items _ _ p.weights.evals.ok.0 (p.weights.sized ∙ ap (λ n. 2 ^ n) (sym p.same)),
+)
+
+-- tables of as many variables that are the same have the same numbers
+pub same_lists : {X : Type 0} (number : X → ℕ) (n m : ℕ) (xs ys : List X) → length (map number xs) ≡ 2 ^ n → length (map number ys) ≡ 2 ^ m → m ≡ n →
+    entries number ys ≡ entries number xs → map number ys ≡ map number xs
+unfolding entries
+same_lists number n m xs ys size other same is =
+    same_number_lists (map number ys) (map number xs) (other ∙ ap (λ k. 2 ^ k) same ∙ sym size) (λ k low. ap (λ t. t k) is)
 
 -- the message of tables of m + 1 variables
 pub message_halves : (order : Order) (o : Ops) (n v m : ℕ) (f w F W : ℕ → ℕ) (a b : ℕ) → n ≡ 2 ^ v → v ≡ m + 1 → F ≡ f → W ≡ w →

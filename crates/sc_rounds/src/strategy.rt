@@ -1,5 +1,5 @@
 //! The prover of a sumcheck.
-ghost use Rattle.std.specs.Prelude.{◌≡◌, ◌↔◌, ◌⊎◌, ℕ, suc, ◌+◌, ◌<◌, ◌≤◌, ◌^◌, ◌++◌, Err, IfOk, OnOk, OnErr, IsTrue, length, map};
+ghost use Rattle.std.specs.Prelude.{◌≡◌, ◌↔◌, ◌⊎◌, ℕ, suc, ◌+◌, ◌<◌, ◌≤◌, ◌^◌, ◌++◌, Err, IfOk, IfErr, OnOk, OnErr, IsTrue, length, map};
 ghost use Rattle.sc_definitions.specs.Ring.{plus};
 ghost use Rattle.sc_definitions.specs.Tables.{entries, value, inner};
 ghost use Rattle.sc_definitions.specs.Events.{words};
@@ -33,10 +33,11 @@ pub struct SumcheckProver<F: Field, EF: ExtensionField<F>> {
 }
 
 impl<F: Field, EF: ExtensionField<F>> SumcheckProver<F, EF> {
-    ghost use Rattle.sc_transcript.specs.Data.{messages_in, witnesses_in};
+    ghost use Rattle.sc_definitions.specs.Standings.{IsPlayed};
     ghost use Rattle.sc_rounds.specs.Products.{variables_in, order_in, evals_in, weights_in};
-    ghost use Rattle.sc_rounds.specs.Batches.{PlaysBatch, StopsBatch, FailsBatch, IsUnplayed, weights_with, claim_with};
-    ghost use Rattle.sc_transcript.specs.Invalid.{FindsNone};
+    ghost use Rattle.sc_rounds.specs.Standings.{IsBatchStopped};
+    ghost use Rattle.sc_rounds.specs.Batches.{weights_with, claim_with};
+    ghost use Rattle.sc_rounds.specs.ProverViews.{setting_of, standing_of, standing_with, IsUnplayed};
     ghost use Rattle.sc_rounds.specs.Provers.{IsTrueConstraint, IsTrueIfSome};
 
     /// A prover of a claim that is true, as [`SumcheckProver::sum_is_true`] tests.
@@ -191,30 +192,15 @@ impl<F: Field, EF: ExtensionField<F>> SumcheckProver<F, EF> {
         ensures rules { C.rules challenger.new ≡ C.rules challenger.old }
         ensures order { order_in self.new.poly ≡ order_in self.old.poly }
         ensures fewer { OnOk result (variables_in self.new.poly + folding_factor ≡ variables_in self.old.poly) }
-        ensures batch { IfOk result (λ point. PlaysBatch (order_in self.old.poly) EF.ops (C.rules challenger.old) EF.extension pow_bits (variables_in self.old.poly)
-            (evals_in EF.number self.old.poly) (weights_with EF.ops (λ x. EF.embedding (F.number x)) EF.number constraint (weights_in EF.number self.old.poly)) (claim_with EF.ops (λ x. EF.embedding (F.number x)) EF.number constraint (EF.number self.old.sum))
-            (C.history challenger.old ++ words (quadratic_seed EF.DEGREE evaluation pow_bits folding_factor)) (map EF.number point) (variables_in self.new.poly)
-            (evals_in EF.number self.new.poly) (weights_in EF.number self.new.poly) (EF.number self.new.sum) (C.history challenger.new)
-            (messages_in EF.number sumcheck_data.old) (witnesses_in F.number sumcheck_data.old) (messages_in EF.number sumcheck_data.new) (witnesses_in F.number sumcheck_data.new)) }
-        ensures stopped { (i : ℕ) → result ≡ Err (SumcheckError.NoWitness i) → (i < folding_factor) × (variables_in self.new.poly + i ≡ variables_in self.old.poly) }
-        ensures no_witness { (i m : ℕ) → result ≡ Err (SumcheckError.NoWitness i) → variables_in self.new.poly ≡ suc m
-            → FailsBatch (order_in self.old.poly) EF.ops (C.rules challenger.old) EF.extension pow_bits (variables_in self.old.poly)
-            (evals_in EF.number self.old.poly) (weights_with EF.ops (λ x. EF.embedding (F.number x)) EF.number constraint (weights_in EF.number self.old.poly)) (claim_with EF.ops (λ x. EF.embedding (F.number x)) EF.number constraint (EF.number self.old.sum))
-            (C.history challenger.old ++ words (quadratic_seed EF.DEGREE evaluation pow_bits folding_factor)) F.ops.size m
-            (evals_in EF.number self.new.poly) (weights_in EF.number self.new.poly) (EF.number self.new.sum) (C.history challenger.new)
-            (messages_in EF.number sumcheck_data.old) (witnesses_in F.number sumcheck_data.old) (messages_in EF.number sumcheck_data.new) (witnesses_in F.number sumcheck_data.new) }
-        ensures no_memory { result ≡ Err SumcheckError.NoMemory
-            → IsUnplayed (variables_in self.old.poly) (evals_in EF.number self.old.poly) (weights_in EF.number self.old.poly) (weights_with EF.ops (λ x. EF.embedding (F.number x)) EF.number constraint (weights_in EF.number self.old.poly))
-            (EF.number self.old.sum) (claim_with EF.ops (λ x. EF.embedding (F.number x)) EF.number constraint (EF.number self.old.sum)) (C.history challenger.old)
-            (messages_in EF.number sumcheck_data.old) (witnesses_in F.number sumcheck_data.old)
-            (variables_in self.new.poly) (evals_in EF.number self.new.poly) (weights_in EF.number self.new.poly) (EF.number self.new.sum) (C.history challenger.new)
-            (messages_in EF.number sumcheck_data.new) (witnesses_in F.number sumcheck_data.new)
-            ⊎ StopsBatch (order_in self.old.poly) EF.ops (C.rules challenger.old) EF.extension pow_bits (variables_in self.old.poly)
-            (evals_in EF.number self.old.poly) (weights_with EF.ops (λ x. EF.embedding (F.number x)) EF.number constraint (weights_in EF.number self.old.poly)) (claim_with EF.ops (λ x. EF.embedding (F.number x)) EF.number constraint (EF.number self.old.sum))
-            (C.history challenger.old ++ words (quadratic_seed EF.DEGREE evaluation pow_bits folding_factor)) (variables_in self.new.poly)
-            (evals_in EF.number self.new.poly) (weights_in EF.number self.new.poly) (EF.number self.new.sum) (C.history challenger.new)
-            (messages_in EF.number sumcheck_data.old) (witnesses_in F.number sumcheck_data.old) (messages_in EF.number sumcheck_data.new) (witnesses_in F.number sumcheck_data.new) }
-        ensures causes { OnErr result ((result ≡ Err SumcheckError.NoMemory) ⊎ FindsNone result) }
+        ensures batch { IfOk result (λ point. IsPlayed (setting_of self.old (C.rules challenger.old) pow_bits)
+            (standing_with self.old sumcheck_data.old (C.history challenger.old ++ words (quadratic_seed EF.DEGREE evaluation pow_bits folding_factor)) constraint)
+            (standing_of self.new sumcheck_data.new (C.history challenger.new)) (map EF.number point)) }
+        ensures stopped { IfErr result (IsBatchStopped
+            (IsUnplayed (standing_of self.old sumcheck_data.old (C.history challenger.old)) (standing_with self.old sumcheck_data.old (C.history challenger.old) constraint)
+            (standing_of self.new sumcheck_data.new (C.history challenger.new)))
+            (setting_of self.old (C.rules challenger.old) pow_bits)
+            (standing_with self.old sumcheck_data.old (C.history challenger.old ++ words (quadratic_seed EF.DEGREE evaluation pow_bits folding_factor)) constraint)
+            (standing_of self.new sumcheck_data.new (C.history challenger.new)) folding_factor) }
         ensures left { variables_in self.old.poly ≤ variables_in self.new.poly + folding_factor }
     {
         self.take_in_if_some(alloc, constraint)?;

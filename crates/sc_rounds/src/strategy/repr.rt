@@ -1,5 +1,5 @@
 //! The prover whose tables are held in a representation of the field in which the transcript is written.
-ghost use Rattle.std.specs.Prelude.{◌≡◌, ◌↔◌, ◌⊎◌, ℕ, suc, ◌+◌, ◌<◌, ◌≤◌, ◌++◌, Err, IfOk, OnOk, OnErr, IsTrue, map};
+ghost use Rattle.std.specs.Prelude.{◌≡◌, ◌↔◌, ◌⊎◌, ℕ, suc, ◌+◌, ◌<◌, ◌≤◌, ◌++◌, Err, IfOk, IfErr, OnOk, OnErr, IsTrue, map};
 ghost use Rattle.sc_definitions.specs.Tables.{evaluation, inner};
 ghost use Rattle.sc_definitions.specs.Events.{words};
 ghost use Rattle.sc_definitions.specs.Seeds.{quadratic_seed};
@@ -30,10 +30,10 @@ pub struct ReprSumcheckProver<F: Field, EF: ExtensionField<F>, R: IntoTranscript
 }
 
 impl<F: Field, EF: ExtensionField<F>, R: IntoTranscriptField<EF>> ReprSumcheckProver<F, EF, R> {
-    ghost use Rattle.sc_transcript.specs.Data.{messages_in, witnesses_in};
+    ghost use Rattle.sc_definitions.specs.Standings.{IsPlayed};
     ghost use Rattle.sc_rounds.specs.Products.{variables_in, order_in, evals_in, weights_in};
-    ghost use Rattle.sc_rounds.specs.Batches.{PlaysBatch, StopsBatch, FailsBatch, IsUnplayed};
-    ghost use Rattle.sc_transcript.specs.Invalid.{FindsNone};
+    ghost use Rattle.sc_rounds.specs.Standings.{IsBatchStopped};
+    ghost use Rattle.sc_rounds.specs.ProverViews.{image_setting_of, image_standing_of};
     ghost use Rattle.sc_rounds.specs.Represented.{TablesAgree};
 
     /// The same prover with its tables and its claim in `R`. A prover that is refused is given up.
@@ -139,30 +139,14 @@ impl<F: Field, EF: ExtensionField<F>, R: IntoTranscriptField<EF>> ReprSumcheckPr
         ensures rules { C.rules challenger.new ≡ C.rules challenger.old }
         ensures order { order_in self.new.poly ≡ order_in self.old.poly }
         ensures fewer { OnOk result (variables_in self.new.poly + folding_factor ≡ variables_in self.old.poly) }
-        ensures batch { IfOk result (λ point. PlaysBatch (order_in self.old.poly) EF.ops (C.rules challenger.old) EF.extension pow_bits (variables_in self.old.poly)
-            (evals_in (λ x. R.to_number (R.number x)) self.old.poly) (weights_in (λ x. R.to_number (R.number x)) self.old.poly) (R.to_number (R.number self.old.sum))
-            (C.history challenger.old ++ words (quadratic_seed EF.DEGREE evaluation pow_bits folding_factor)) (map EF.number point) (variables_in self.new.poly)
-            (evals_in (λ x. R.to_number (R.number x)) self.new.poly) (weights_in (λ x. R.to_number (R.number x)) self.new.poly) (R.to_number (R.number self.new.sum)) (C.history challenger.new)
-            (messages_in EF.number sumcheck_data.old) (witnesses_in F.number sumcheck_data.old) (messages_in EF.number sumcheck_data.new) (witnesses_in F.number sumcheck_data.new)) }
-        ensures stopped { (i : ℕ) → result ≡ Err (SumcheckError.NoWitness i) → (i < folding_factor) × (variables_in self.new.poly + i ≡ variables_in self.old.poly) }
-        ensures no_witness { (i m : ℕ) → result ≡ Err (SumcheckError.NoWitness i) → variables_in self.new.poly ≡ suc m
-            → FailsBatch (order_in self.old.poly) EF.ops (C.rules challenger.old) EF.extension pow_bits (variables_in self.old.poly)
-            (evals_in (λ x. R.to_number (R.number x)) self.old.poly) (weights_in (λ x. R.to_number (R.number x)) self.old.poly) (R.to_number (R.number self.old.sum))
-            (C.history challenger.old ++ words (quadratic_seed EF.DEGREE evaluation pow_bits folding_factor)) F.ops.size m
-            (evals_in (λ x. R.to_number (R.number x)) self.new.poly) (weights_in (λ x. R.to_number (R.number x)) self.new.poly) (R.to_number (R.number self.new.sum)) (C.history challenger.new)
-            (messages_in EF.number sumcheck_data.old) (witnesses_in F.number sumcheck_data.old) (messages_in EF.number sumcheck_data.new) (witnesses_in F.number sumcheck_data.new) }
-        ensures no_memory { result ≡ Err SumcheckError.NoMemory
-            → IsUnplayed (variables_in self.old.poly) (evals_in (λ x. R.to_number (R.number x)) self.old.poly) (weights_in (λ x. R.to_number (R.number x)) self.old.poly) (weights_in (λ x. R.to_number (R.number x)) self.old.poly)
-            (R.to_number (R.number self.old.sum)) (R.to_number (R.number self.old.sum)) (C.history challenger.old)
-            (messages_in EF.number sumcheck_data.old) (witnesses_in F.number sumcheck_data.old)
-            (variables_in self.new.poly) (evals_in (λ x. R.to_number (R.number x)) self.new.poly) (weights_in (λ x. R.to_number (R.number x)) self.new.poly) (R.to_number (R.number self.new.sum)) (C.history challenger.new)
-            (messages_in EF.number sumcheck_data.new) (witnesses_in F.number sumcheck_data.new)
-            ⊎ StopsBatch (order_in self.old.poly) EF.ops (C.rules challenger.old) EF.extension pow_bits (variables_in self.old.poly)
-            (evals_in (λ x. R.to_number (R.number x)) self.old.poly) (weights_in (λ x. R.to_number (R.number x)) self.old.poly) (R.to_number (R.number self.old.sum))
-            (C.history challenger.old ++ words (quadratic_seed EF.DEGREE evaluation pow_bits folding_factor)) (variables_in self.new.poly)
-            (evals_in (λ x. R.to_number (R.number x)) self.new.poly) (weights_in (λ x. R.to_number (R.number x)) self.new.poly) (R.to_number (R.number self.new.sum)) (C.history challenger.new)
-            (messages_in EF.number sumcheck_data.old) (witnesses_in F.number sumcheck_data.old) (messages_in EF.number sumcheck_data.new) (witnesses_in F.number sumcheck_data.new) }
-        ensures causes { OnErr result ((result ≡ Err SumcheckError.NoMemory) ⊎ FindsNone result) }
+        ensures batch { IfOk result (λ point. IsPlayed (image_setting_of self.old (C.rules challenger.old) pow_bits)
+            (image_standing_of self.old sumcheck_data.old (C.history challenger.old ++ words (quadratic_seed EF.DEGREE evaluation pow_bits folding_factor)))
+            (image_standing_of self.new sumcheck_data.new (C.history challenger.new)) (map EF.number point)) }
+        ensures stopped { IfErr result (IsBatchStopped
+            (image_standing_of self.new sumcheck_data.new (C.history challenger.new) ≡ image_standing_of self.old sumcheck_data.old (C.history challenger.old))
+            (image_setting_of self.old (C.rules challenger.old) pow_bits)
+            (image_standing_of self.old sumcheck_data.old (C.history challenger.old ++ words (quadratic_seed EF.DEGREE evaluation pow_bits folding_factor)))
+            (image_standing_of self.new sumcheck_data.new (C.history challenger.new)) folding_factor) }
         ensures left { variables_in self.old.poly ≤ variables_in self.new.poly + folding_factor }
     {
         let shape = SumcheckShape::new(folding_factor, pow_bits, Basis::Evaluation);

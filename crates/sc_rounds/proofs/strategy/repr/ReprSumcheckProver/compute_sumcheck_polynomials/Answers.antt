@@ -1,54 +1,35 @@
-use Rattle.std.proofs.Common.{ℕ, ap, ◌++◌, inl, inr, ⊎_elim, refl, map}
-use Rattle.sc_transcript.specs.Shapes.{seed_of}
+use Rattle.std.proofs.Common.{◌≡◌, ℕ, ap, ◌++◌, refl, map, ◌∙◌}
 use Rattle.sc_definitions.specs.Events.{words}
-use Rattle.sc_definitions.specs.Tables.{entries, rows_of}
-use Rattle.sc_transcript.specs.declared.error.SumcheckError.TheVariants.{NoMemory, NoWitness}
+use Rattle.sc_definitions.specs.Channels.{channel}
+use Rattle.sc_transcript.specs.Shapes.{seed_of}
+use Rattle.sc_transcript.specs.Data.{wire_in}
 use Rattle.sc_transcript.specs.declared.transcript.SumcheckShape.{SumcheckShape}
-use Rattle.sc_transcript.specs.Data.{messages_in, witnesses_in}
-use Rattle.sc_rounds.specs.Products.{variables_in, evals_in, weights_in}
-use Rattle.sc_rounds.proofs.PositionalBatches.{told, stopped_for, ok_batch, failed_batch, stopped_batch}
-use Rattle.sc_rounds.proofs.BatchLaws.{less_at}
+use Rattle.sc_rounds.specs.Standings.{standing_in}
+use Rattle.sc_rounds.proofs.BatchLaws.{same_setting, played_at_names, stopped_at_names}
 use Rattle.sc_rounds.proofs.strategy.repr.ReprSumcheckProver.compute_sumcheck_polynomials.Goals as goal
 
 pub returns-clause-batch : goal.returns-clause-batch
-unfolding entries rows_of
 returns-clause-batch g c =
-    let shape = c.new-shape.ensures in
-    ok_batch _ _ _ g.met.EF.Field.is_field.ring _ _ g.F.Field.ops.size _ _ _ _ _ _ _ _ _ refl (ap (λ s. s.pow_bits) shape) refl refl
-    (ap (λ s. g.C.Challenger.history c.args.challenger.now ++ words (seed_of g.EF.ExtensionField.DEGREE s)) shape)
-    (λ b low. refl) (λ b low. refl) c.play_batch.result (map g.EF.Field.number) c.play_batch.ensures.played
-
-pub returns-clause-no_witness : goal.returns-clause-no_witness
-unfolding entries rows_of
-returns-clause-no_witness g c = λ i m e size.
-    let shape = c.new-shape.ensures in
-    failed_batch _ _ _ g.met.EF.Field.is_field.ring _ _ _ _ _ _ _ _ _ _ _ _ refl (ap (λ s. s.pow_bits) shape) refl refl
-    (ap (λ s. g.C.Challenger.history c.args.challenger.now ++ words (seed_of g.EF.ExtensionField.DEGREE s)) shape)
-    (λ b low. refl) (λ b low. refl) m size (told c.play_batch.result (NoWitness i) _ c.play_batch.ensures.stopped e).2
-
-pub returns-clause-no_memory : goal.returns-clause-no_memory
-unfolding entries rows_of
-returns-clause-no_memory g c = λ e.
     let T : g.row.R.Denot → ℕ = λ x. g.R.FromTable.to_number (g.R.Field.number x) in
+    let p = c.args.self.now in
     let shape = c.new-shape.ensures in
-    ⊎_elim
-    (λ none. inl record {
-      variables = ap variables_in none.tables;
-      evals = ap (evals_in T) none.tables;
-      taken = inl (λ b low. ap (λ p. weights_in T p b) none.tables, ap T none.claim);
-      history = none.history;
-      appended = ap (messages_in g.EF.Field.number) none.appended;
-      found = ap (witnesses_in g.F.Field.number) none.appended;
-    })
-    (λ some. inr (stopped_batch _ _ _ g.met.EF.Field.is_field.ring _ _ g.F.Field.ops.size _ _ _ _ _ _ _ _ _ refl (ap (λ s. s.pow_bits) shape) refl refl
-    (ap (λ s. g.C.Challenger.history c.args.challenger.now ++ words (seed_of g.EF.ExtensionField.DEGREE s)) shape)
-    (λ b low. refl) (λ b low. refl) some))
-    (told c.play_batch.result NoMemory _ c.play_batch.ensures.stopped e)
+    let W = wire_in g.F.Field.number g.EF.Field.number in
+    played_at_names c.play_batch.result (map g.EF.Field.number) _ _ _ _ _ _
+    (same_setting _ _ _ _ _ (ap (λ (s : SumcheckShape). channel (g.C.Challenger.rules c.args.challenger.now) g.EF.ExtensionField.extension g.F.Field.ops.size s.pow_bits) shape) refl)
+    (ap (λ s. standing_in T p.poly p.sum (g.C.Challenger.history c.args.challenger.now ++ words (seed_of g.EF.ExtensionField.DEGREE s)) (W c.args.sumcheck_data.now)) shape)
+    refl c.play_batch.ensures.played
 
 pub returns-clause-stopped : goal.returns-clause-stopped
-returns-clause-stopped g c = λ i e.
-    let stopped = told c.play_batch.result (NoWitness i) _ c.play_batch.ensures.stopped e in
-    (less_at _ _ _ _ refl stopped.0 (ap (λ (s : SumcheckShape). s.num_rounds) c.new-shape.ensures), stopped.1)
-
-pub returns-clause-causes : goal.returns-clause-causes
-returns-clause-causes g c = stopped_for _ _ _ _ _ _ c.play_batch.ensures.stopped
+returns-clause-stopped g c =
+    let T : g.row.R.Denot → ℕ = λ x. g.R.FromTable.to_number (g.R.Field.number x) in
+    let p = c.args.self.now in
+    let q = c.play_batch.new in
+    let H = g.C.Challenger.history in
+    let shape = c.new-shape.ensures in
+    let W = wire_in g.F.Field.number g.EF.Field.number in
+    stopped_at_names c.play_batch.result _ _ _ _ _ _ _ _ _ _
+    (λ none. ap (λ t. standing_in T t q.sum (H q.challenger) (W q.sumcheck_data)) none.tables ∙ ap (λ x. standing_in T p.poly x (H q.challenger) (W q.sumcheck_data)) none.claim
+    ∙ ap (λ h. standing_in T p.poly p.sum h (W q.sumcheck_data)) none.history ∙ ap (λ d. standing_in T p.poly p.sum (H c.args.challenger.now) (W d)) none.appended)
+    (same_setting _ _ _ _ _ (ap (λ (s : SumcheckShape). channel (g.C.Challenger.rules c.args.challenger.now) g.EF.ExtensionField.extension g.F.Field.ops.size s.pow_bits) shape) refl)
+    (ap (λ s. standing_in T p.poly p.sum (H c.args.challenger.now ++ words (seed_of g.EF.ExtensionField.DEGREE s)) (W c.args.sumcheck_data.now)) shape)
+    refl (ap (λ (s : SumcheckShape). s.num_rounds) shape) c.play_batch.ensures.stopped
