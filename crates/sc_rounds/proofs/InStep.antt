@@ -1,20 +1,21 @@
 -- A replay of the rounds that a prover played.
-use Rattle.std.proofs.Common.{◌≡◌, ℕ, zero, suc, ◌+◌, true, false, List, [], ◌∷◌, ◌++◌, length, take, refl, ap, sym, ◌∙◌, Some, Result, Ok, Err, OnErr, IsErrAnd, ◌⊎◌, inl, append_assoc, if◌then◌else◌, ne_eqb, arith}
+use Rattle.std.proofs.Common.{◌≡◌, ℕ, zero, suc, ◌+◌, true, false, List, [], ◌∷◌, ◌++◌, length, take, refl, ap, sym, subst, ◌∙◌, Some, Result, Ok, Err, OnErr, IsErrAnd, ◌⊎◌, inl, inr, append_assoc, if◌then◌else◌, ne_eqb, arith}
 use Rattle.std.proofs.lemmas.List.{append-nil, length-map}
 use Rattle.std.specs.List.{slice_get}
 use Rattle.sc_definitions.specs.declared.events.Event.{Event}
-use Rattle.sc_definitions.specs.Ring.{Ops}
-use Rattle.sc_definitions.specs.Tables.{evaluation, Order}
 use Rattle.sc_definitions.specs.Rounds.{next_claim, claim_along}
 use Rattle.sc_definitions.specs.Events.{Rules, Extension}
 use Rattle.sc_definitions.specs.Transcript.{Round, round_of, messages_of, round_events, rounds_events, challenge, HasFirstWitness, IsBuilt}
-use Rattle.sc_definitions.specs.Replays.{round_passes, AllPass, given_rounds, Replays, IsInvalidAt}
+use Rattle.sc_definitions.specs.Replays.{round_passes, AllPass, given_rounds, IsInvalidAt}
+use Rattle.sc_definitions.specs.Channels.{Channel, Wire, empty_wire, with_rounds, Footing, IsReplayed, FailsAt}
+use Rattle.sc_definitions.specs.Standings.{Setting, Standing, footing_of, IsPlayed}
 use Rattle.sc_definitions.proofs.BuiltLaws.{length-messages}
 use Rattle.sc_transcript.specs.declared.error.SumcheckError.{SumcheckError}
 use Rattle.sc_transcript.specs.declared.error.SumcheckError.TheVariants.{RoundCountMismatch, MissingSumcheckData, InvalidPowWitness, MissingPowWitness, PowWitnessCountMismatch, WireSizeMismatch, EvenCharacteristic, MaskTooShort, NoRounds, OpeningShapeMismatch, NoWitness, NoMemory}
 use Rattle.sc_transcript.specs.Invalid.{IsInvalid, FindsNone}
 use Rattle.sc_transcript.specs.Data.{witness_count, witnesses_of}
-use Rattle.sc_rounds.specs.Batches.{PlaysBatch}
+use Rattle.sc_rounds.specs.Laws.{rounds_on}
+use Rattle.sc_rounds.specs.Standings.{IsBatchStopped}
 
 -- ---- the rounds of what was appended
 
@@ -102,60 +103,68 @@ pub out_of_memory : {T : Type 0} (r : Result T SumcheckError) → IsErrAnd r (λ
 out_of_memory (Ok x) is = tt
 out_of_memory (Err e) is = inl (ap Err is)
 
+-- a batch's refusal that is passed on
+pub passed_on : {T : Type 0} (r : Result T SumcheckError) (e : SumcheckError) (unbegun : Type 0) (s : Setting) (t u : Standing) (n : ℕ) →
+    IsErrAnd r (λ x. x ≡ e) → IsBatchStopped unbegun s t u n e → OnErr r ((r ≡ Err NoMemory) ⊎ FindsNone r)
+passed_on (Ok x) e unbegun s t u n is why = tt
+passed_on (Err x) NoMemory unbegun s t u n is why = inl (ap Err is)
+passed_on (Err x) (NoWitness i) unbegun s t u n is why = inr (rw is tt)
+passed_on (Err x) e unbegun s t u n is why = absurd why
+
 -- ---- both sides
 
-module _ (order : Order) (o : Ops) (R R₁ : Rules) (E : Extension) (bits n : ℕ) (f w : ℕ → ℕ) (claim claim₁ : ℕ) (h h₁ : List Event)
-    (rs : List ℕ) (left : ℕ) (f' w' : ℕ → ℕ) (claim' : ℕ) (h' : List Event) (ms ms' : List (List ℕ)) (ws ws' : List ℕ)
-    (none_sent : ms ≡ []) (none_found : ws ≡ []) (same_rules : R₁ ≡ R) (same_history : h₁ ≡ h) (same_claim : claim₁ ≡ claim)
-    (played : PlaysBatch order o R E bits n f w claim h rs left f' w' claim' h' ms ws ms' ws') where
-  -- the data has the rounds that were played
-  messages_are : ms' ≡ messages_of played.rounds
-  messages_are = played.appended ∙ ap (λ t. t ++ messages_of played.rounds) none_sent
+-- a batch on an empty wire, and a replay over a channel and from a footing that are its own by other names
+module _ (s : Setting) (t u : Standing) (rs : List ℕ) (c : Channel) (start : Footing) (none_sent : t.wire ≡ empty_wire) (same : c ≡ s.channel) (begun : start ≡ footing_of t)
+    (played : IsPlayed s t u rs) where
+  -- the wire has the rounds that were played
+  wire_is : u.wire ≡ with_rounds s.channel.bits empty_wire played.rounds
+  wire_is = played.wire ∙ ap (λ w. with_rounds s.channel.bits w played.rounds) none_sent
 
-  witnesses_are : ws' ≡ witnesses_of bits played.rounds
-  witnesses_are = played.found ∙ ap (λ t. t ++ witnesses_of bits played.rounds) none_found
+  rounds_given : rounds_on u.wire ≡ played.rounds
+  rounds_given = ap rounds_on wire_is ∙ given_played _ s.channel.rules s.channel.extension s.channel.bits t.history [] t.variables played.rounds played.built
 
-  rounds_given : given_rounds ms' ws' ≡ played.rounds
-  rounds_given =
-      ap (λ t. given_rounds t ws') messages_are ∙ ap (given_rounds (messages_of played.rounds)) witnesses_are
-      ∙ given_played _ R E bits h [] n played.rounds played.played.built
+  count_rounds : (k : ℕ) → u.variables + k ≡ t.variables → length played.rounds ≡ k
+  count_rounds k whole = omega (arith, whole, played.count)
 
-  count_rounds : (k : ℕ) → left + k ≡ n → length played.rounds ≡ k
-  count_rounds k whole = omega (arith, whole, played.played.count)
+  pub message_count : (k : ℕ) → u.variables + k ≡ t.variables → length u.wire.messages ≡ k
+  message_count k whole = ap (λ (w : Wire). length w.messages) wire_is ∙ length-messages played.rounds ∙ count_rounds k whole
 
-  pub message_count : (k : ℕ) → left + k ≡ n → length ms' ≡ k
-  message_count k whole = ap length messages_are ∙ length-messages played.rounds ∙ count_rounds k whole
-
-  pub found_count : (k : ℕ) → left + k ≡ n → length ws' ≡ witness_count bits k
-  found_count k whole = ap length witnesses_are ∙ count_witnesses bits played.rounds ∙ ap (witness_count bits) (count_rounds k whole)
+  pub found_count : (k : ℕ) → u.variables + k ≡ t.variables → length u.wire.witnesses ≡ witness_count s.channel.bits k
+  found_count k whole =
+      ap (λ (w : Wire). length w.witnesses) wire_is ∙ count_witnesses s.channel.bits played.rounds ∙ ap (witness_count s.channel.bits) (count_rounds k whole)
 
   -- its rounds are a replay
-  played_replays : Replays (next_claim evaluation o) R E bits h claim played.rounds h' rs claim'
+  played_replays : IsReplayed (next_claim s.basis s.ops) s.channel (footing_of t) (footing_of u) played.rounds rs
   played_replays = record {
-    history = played.played.history;
-    drawn = played.played.drawn;
-    claim = played.played.along ∙ ap (claim_along (next_claim evaluation o) claim (messages_of played.rounds)) played.played.drawn;
-    passes = all_pass _ R E bits h [] n played.rounds played.played.built;
+    history = played.history;
+    drawn = played.drawn;
+    claim = played.claim ∙ ap (claim_along (next_claim s.basis s.ops) t.claim (messages_of played.rounds)) played.drawn;
+    passes = all_pass _ s.channel.rules s.channel.extension s.channel.bits t.history [] t.variables played.rounds played.built;
   }
 
-  pub has_replay : Replays (next_claim evaluation o) R₁ E bits h₁ claim₁ (given_rounds ms' ws') h' rs claim'
-  has_replay = rw (same_rules, same_history, same_claim, rounds_given) played_replays
+  pub has_replay : IsReplayed (next_claim s.basis s.ops) c start (footing_of u) (rounds_on u.wire) rs
+  has_replay = rw (same, begun, rounds_given) played_replays
 
-  module _ (hv : List Event) (out : List ℕ) (c : ℕ) (replays : Replays (next_claim evaluation o) R₁ E bits h₁ claim₁ (given_rounds ms' ws') hv out c) where
-    moved : Replays (next_claim evaluation o) R E bits h claim played.rounds hv out c
-    moved = rw (← same_rules, ← same_history, ← same_claim, ← rounds_given) replays
+  module _ (end : Footing) (out : List ℕ) (replays : IsReplayed (next_claim s.basis s.ops) c start end (rounds_on u.wire) out) where
+    moved : IsReplayed (next_claim s.basis s.ops) s.channel (footing_of t) end played.rounds out
+    moved =
+        subst (λ f. IsReplayed (next_claim s.basis s.ops) s.channel f end played.rounds out) begun
+        (subst (λ k. IsReplayed (next_claim s.basis s.ops) k start end played.rounds out) same
+        (subst (λ given. IsReplayed (next_claim s.basis s.ops) c start end given out) rounds_given replays))
 
     pub same_challenges : out ≡ rs
-    same_challenges = moved.drawn ∙ sym played.played.drawn
+    same_challenges = moved.drawn ∙ sym played.drawn
 
-    pub same_histories : hv ≡ h'
-    same_histories = moved.history ∙ sym played.played.history
+    pub same_histories : end.history ≡ u.history
+    same_histories = moved.history ∙ sym played.history
 
-    pub same_claims : c ≡ claim'
-    same_claims = moved.claim ∙ ap (claim_along (next_claim evaluation o) claim (messages_of played.rounds)) (sym played.played.drawn) ∙ sym played.played.along
+    pub same_claims : end.claim ≡ u.claim
+    same_claims = moved.claim ∙ ap (claim_along (next_claim s.basis s.ops) t.claim (messages_of played.rounds)) (sym played.drawn) ∙ sym played.claim
 
   -- no round of it is refused
-  pub none_invalid : (i : ℕ) (hv : List Event) (c : ℕ) → IsInvalidAt (next_claim evaluation o) R₁ E bits h₁ claim₁ (given_rounds ms' ws') i hv c → ⊥
-  none_invalid i hv c invalid =
-      none_failing (next_claim evaluation o) _ R E bits h n claim played.rounds played.rounds refl played.played.built i hv c
-      (rw (← same_rules, ← same_history, ← same_claim, ← rounds_given) invalid)
+  pub none_invalid : (i : ℕ) (end : Footing) → FailsAt (next_claim s.basis s.ops) c start end (rounds_on u.wire) i → ⊥
+  none_invalid i end invalid =
+      none_failing (next_claim s.basis s.ops) _ s.channel.rules s.channel.extension s.channel.bits t.history t.variables t.claim played.rounds played.rounds refl played.built i end.history end.claim
+      (subst (λ f. FailsAt (next_claim s.basis s.ops) s.channel f end played.rounds i) begun
+      (subst (λ k. FailsAt (next_claim s.basis s.ops) k start end played.rounds i) same
+      (subst (λ given. FailsAt (next_claim s.basis s.ops) c start end given i) rounds_given invalid)))

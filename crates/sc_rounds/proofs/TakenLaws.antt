@@ -1,5 +1,7 @@
 -- A constraint that is taken in.
 use Rattle.std.proofs.Common.{◌≡◌, ℕ, ◌^◌, ◌<◌, List, Option, Result, Ok, Err, OnOk, OnErr, ap, sym, ◌∙◌}
+use Rattle.sc_definitions.specs.declared.events.Event.{Event}
+use Rattle.sc_definitions.specs.Channels.{footing}
 use Rattle.sc_definitions.specs.Ring.{Ops, IsRing, plus, times}
 use Rattle.sc_definitions.specs.Tables.{inner}
 use Rattle.sc_definitions.specs.Statements.{Statement, batched_weight, batched_claim}
@@ -19,6 +21,10 @@ ok_or_err (Err e) a b c f g = g b c
 pub claim_begun : {F EF : Type 0} (o : Ops) (of : F → ℕ) (number : EF → ℕ) (constraint : Option (Constraint F EF)) (known claim taken : ℕ) → known ≡ claim →
     taken ≡ claim_with o of number constraint known → taken ≡ claim_with o of number constraint claim
 claim_begun o of number constraint known claim taken same is = is ∙ ap (claim_with o of number constraint) same
+
+-- footings by their parts
+pub same_footing : {h h' : List Event} {claim claim' : ℕ} → h ≡ h' → claim ≡ claim' → footing h claim ≡ footing h' claim'
+same_footing eh ec = λ i. record { history = eh i; claim = ec i }
 
 module _ (o : Ops) (ring : IsRing o) where
   -- the sum over the rows with weights in two parts

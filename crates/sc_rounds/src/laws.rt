@@ -3,9 +3,12 @@ ghost use Rattle.std.specs.Prelude.{◌≡◌, ◌⊎◌, ◌+◌, ◌≤◌, []
 ghost use Rattle.sc_definitions.specs.Events.{words};
 ghost use Rattle.sc_definitions.specs.Seeds.{quadratic_seed};
 ghost use Rattle.sc_definitions.specs.Tables.{evaluation};
-ghost use Rattle.sc_transcript.specs.Data.{messages_in, witnesses_in};
-ghost use Rattle.sc_rounds.specs.Products.{variables_in, order_in, evals_in, weights_in};
-ghost use Rattle.sc_rounds.specs.Batches.{PlaysBatch, weights_with, claim_with};
+ghost use Rattle.sc_definitions.specs.Channels.{empty_wire};
+ghost use Rattle.sc_definitions.specs.Standings.{IsPlayed};
+ghost use Rattle.sc_transcript.specs.Data.{wire_in};
+ghost use Rattle.sc_rounds.specs.Products.{variables_in, order_in, evals_in};
+ghost use Rattle.sc_rounds.specs.Batches.{claim_with};
+ghost use Rattle.sc_rounds.specs.ProverViews.{setting_of, standing_of, standing_with};
 ghost use Rattle.sc_rounds.specs.Provers.{IsTrueIfSome};
 ghost use Rattle.sc_transcript.specs.Invalid.{FindsNone};
 ghost use Rattle.sc_rounds.specs.Laws.{BatchesReplay, ReplaysAgree, NoneIsInvalid};
@@ -22,9 +25,9 @@ use std::alloc::Global;
 /// from the history and the claim with which the batch began it has a replay, every replay has its challenges and leaves its history and its claim,
 /// and no witness fails.
 pub fn replay_laws<EF: Field>()
-    ensures replay { BatchesReplay EF.ops }
-    ensures agree { ReplaysAgree EF.ops }
-    ensures none_invalid { NoneIsInvalid EF.ops }
+    ensures replay { BatchesReplay }
+    ensures agree { ReplaysAgree }
+    ensures none_invalid { NoneIsInvalid }
 {}
 
 /// A prover and a verifier stay in step: a batch of rounds is played on one challenger onto data that is empty, with its constraint taken in, and the
@@ -49,16 +52,13 @@ pub fn batch_in_step<F: Field, EF: ExtensionField<F>, C: Challenger<F>>(
     requires constraint { IsTrueIfSome EF.ops (λ x. EF.embedding (F.number x)) EF.number (variables_in prover.old.poly) (evals_in EF.number prover.old.poly) constraint }
     requires rules { C.rules verifier_challenger.old ≡ C.rules prover_challenger.old }
     requires history { C.history verifier_challenger.old ≡ C.history prover_challenger.old }
-    requires messages { messages_in EF.number sumcheck_data.old ≡ [] }
-    requires witnesses { witnesses_in F.number sumcheck_data.old ≡ [] }
+    requires empty { wire_in F.number EF.number sumcheck_data.old ≡ empty_wire }
     ensures challenges { IfOk result (λ played. map EF.number played.1 ≡ map EF.number played.0) }
     ensures histories { OnOk result (C.history verifier_challenger.new ≡ C.history prover_challenger.new) }
     ensures claims { IfOk result (λ played. EF.number played.2 ≡ EF.number prover.new.sum) }
-    ensures batch { IfOk result (λ played. PlaysBatch (order_in prover.old.poly) EF.ops (C.rules prover_challenger.old) EF.extension pow_bits (variables_in prover.old.poly)
-        (evals_in EF.number prover.old.poly) (weights_with EF.ops (λ x. EF.embedding (F.number x)) EF.number constraint (weights_in EF.number prover.old.poly)) (claim_with EF.ops (λ x. EF.embedding (F.number x)) EF.number constraint (EF.number prover.old.sum))
-        (C.history prover_challenger.old ++ words (quadratic_seed EF.DEGREE evaluation pow_bits folding_factor)) (map EF.number played.0) (variables_in prover.new.poly)
-        (evals_in EF.number prover.new.poly) (weights_in EF.number prover.new.poly) (EF.number prover.new.sum) (C.history prover_challenger.new)
-        (messages_in EF.number sumcheck_data.old) (witnesses_in F.number sumcheck_data.old) (messages_in EF.number sumcheck_data.new) (witnesses_in F.number sumcheck_data.new)) }
+    ensures batch { IfOk result (λ played. IsPlayed (setting_of prover.old (C.rules prover_challenger.old) pow_bits)
+        (standing_with prover.old sumcheck_data.old (C.history prover_challenger.old ++ words (quadratic_seed EF.DEGREE evaluation pow_bits folding_factor)) constraint)
+        (standing_of prover.new sumcheck_data.new (C.history prover_challenger.new)) (map EF.number played.0)) }
     ensures causes { OnErr result ((result ≡ Err SumcheckError.NoMemory) ⊎ FindsNone result) }
     ensures not_begun { FindsNone result → C.history verifier_challenger.new ≡ C.history verifier_challenger.old }
     ensures prover_rules { C.rules prover_challenger.new ≡ C.rules prover_challenger.old }

@@ -3,16 +3,16 @@ use Rattle.sc_rounds.proofs.InStep.{has_replay, same_challenges, same_histories,
 use Rattle.sc_rounds.proofs.laws.replay_laws.Goals as goal
 
 pub returns-clause-replay : goal.returns-clause-replay
-returns-clause-replay g c = λ order R E bits n f w claim h rs left f' w' claim' h' messages witnesses played.
-    has_replay _ _ _ _ _ _ _ _ _ _ _ _ _ _ _ _ _ _ _ _ _ _ _ refl refl refl refl refl played
+returns-clause-replay g c = λ s before after rs empty played. has_replay s before after rs s.channel _ empty refl refl played
 
 pub returns-clause-agree : goal.returns-clause-agree
-returns-clause-agree g c = λ order R E bits n f w claim h rs left f' w' claim' h' messages witnesses played hv out d replays. (
-  same_challenges _ _ _ _ _ _ _ _ _ _ _ _ _ _ _ _ _ _ _ _ _ _ _ refl refl refl refl refl played hv out d replays,
-  same_histories _ _ _ _ _ _ _ _ _ _ _ _ _ _ _ _ _ _ _ _ _ _ _ refl refl refl refl refl played hv out d replays,
-  same_claims _ _ _ _ _ _ _ _ _ _ _ _ _ _ _ _ _ _ _ _ _ _ _ refl refl refl refl refl played hv out d replays,
+returns-clause-agree g c = λ s before after rs empty played end out replays. (
+  same_challenges s before after rs s.channel _ empty refl refl played end out replays,
+  λ i. record {
+    history = same_histories s before after rs s.channel _ empty refl refl played end out replays i;
+    claim = same_claims s before after rs s.channel _ empty refl refl played end out replays i;
+  },
 )
 
 pub returns-clause-none_invalid : goal.returns-clause-none_invalid
-returns-clause-none_invalid g c = λ order R E bits n f w claim h rs left f' w' claim' h' messages witnesses played i hv d invalid.
-    none_invalid _ _ _ _ _ _ _ _ _ _ _ _ _ _ _ _ _ _ _ _ _ _ _ refl refl refl refl refl played i hv d invalid
+returns-clause-none_invalid g c = λ s before after rs empty played i end invalid. none_invalid s before after rs s.channel _ empty refl refl played i end invalid
