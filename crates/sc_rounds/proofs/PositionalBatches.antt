@@ -1,24 +1,24 @@
 -- Batches by the words of before: tables as functions, and each part by itself. They go with the last contract that cites those words.
-use Rattle.std.proofs.Common.{◌≡◌, ℕ, suc, ◌+◌, ◌^◌, ◌<◌, List, ap, sym, ◌∙◌, ◌⊎◌, inl, inr, subst, refl, Result, Ok, Err, IfOk, IfErr, OnErr}
+use Rattle.std.proofs.Common.{◌≡◌, ℕ, suc, ◌+◌, ◌^◌, ◌<◌, List, ap, sym, ◌∙◌, ◌⊎◌, inl, inr, subst, refl, Result, Ok, Err, IfErr, OnErr}
 use Rattle.sc_definitions.specs.declared.events.Event.{Event}
 use Rattle.sc_definitions.specs.Ring.{Ops, IsRing}
 use Rattle.sc_definitions.specs.Tables.{evaluation, Order, rows_of}
 use Rattle.sc_definitions.specs.Messages.{message_of}
 use Rattle.sc_definitions.specs.Events.{Rules, Extension}
 use Rattle.sc_definitions.specs.Channels.{channel, NoWitnessFound}
-use Rattle.sc_definitions.specs.Standings.{Setting, Standing, half_rows, message_in, IsPlayed, IsPlayedInPart, IsPlayedWithoutWitness}
+use Rattle.sc_definitions.specs.Standings.{Setting, Standing, half_rows, message_in, IsPlayed, IsPlayedWithoutWitness}
 use Rattle.sc_definitions.proofs.StandingLaws.{played_on}
 use Rattle.sc_definitions.proofs.SameTables.{played-same}
 use Rattle.sc_transcript.specs.declared.error.SumcheckError.{SumcheckError}
 use Rattle.sc_transcript.specs.declared.error.SumcheckError.TheVariants.{NoMemory, NoWitness}
 use Rattle.sc_transcript.specs.Invalid.{FindsNone}
 use Rattle.sc_rounds.specs.Standings.{IsBatchStopped}
-use Rattle.sc_rounds.specs.Batches.{PlaysBatch, StopsBatch, FailsBatch}
+use Rattle.sc_rounds.specs.Batches.{PlaysBatch, FailsBatch}
 
--- what holds of an error holds of this one
-pub told : {T : Type 0} (r : Result T SumcheckError) (e : SumcheckError) (P : SumcheckError → Type 0) → IfErr r P → r ≡ Err e → P e
-told (Ok x) e P p is = absurd cc
-told (Err y) e P p is = let same : y ≡ e = cc in subst P same p
+-- a batch stops for want of this round's witness
+pub without_witness : {T : Type 0} (e : SumcheckError) (i : ℕ) (unbegun : Type 0) (s : Setting) (t u : Standing) (n : ℕ) → IsBatchStopped unbegun s t u n e →
+    ◌≡◌ {A = Result T SumcheckError} (Err e) (Err (NoWitness i)) → IsBatchStopped unbegun s t u n (NoWitness i)
+without_witness e i unbegun s t u n why is = let same : e ≡ NoWitness i = cc in subst (λ x. IsBatchStopped unbegun s t u n x) same why
 
 -- a batch stops for want of memory or of a witness
 pub stopped_for : {T : Type 0} (r : Result T SumcheckError) (unbegun : Type 0) (s : Setting) (t u : Standing) (n : ℕ) →
@@ -27,6 +27,18 @@ stopped_for (Ok x) unbegun s t u n p = tt
 stopped_for (Err NoMemory) unbegun s t u n p = inl refl
 stopped_for (Err (NoWitness i)) unbegun s t u n p = inr tt
 stopped_for (Err e) unbegun s t u n p = absurd p
+
+-- a batch by its own names
+pub positional : (order : Order) (o : Ops) (R : Rules) (E : Extension) (size bits : ℕ) (t u : Standing) (rs : List ℕ) →
+    IsPlayed (record { channel = channel R E size bits; ops = o; basis = evaluation; order = order }) t u rs →
+    PlaysBatch order o R E bits t.variables (rows_of t.evals) (rows_of t.weights) t.claim t.history rs u.variables (rows_of u.evals) (rows_of u.weights) u.claim u.history
+    t.wire.messages t.wire.witnesses u.wire.messages u.wire.witnesses
+positional order o R E size bits t u rs p = record {
+  rounds = p.rounds;
+  played = played_on _ t u rs p;
+  appended = ap (λ x. x.messages) p.wire;
+  found = ap (λ x. x.witnesses) p.wire;
+}
 
 module _ (order order₁ : Order) (o : Ops) (ring : IsRing o) (R : Rules) (E : Extension) (size bits bits₁ n : ℕ) (f w : ℕ → ℕ) (claim : ℕ) (h : List Event) (t u : Standing)
     (same_order : order₁ ≡ order) (same_bits : bits₁ ≡ bits) (same_size : t.variables ≡ n) (same_claim : t.claim ≡ claim) (same_history : t.history ≡ h)
@@ -47,16 +59,6 @@ module _ (order order₁ : Order) (o : Ops) (ring : IsRing o) (R : Rules) (E : E
         found = ap (λ x. x.witnesses) p.wire;
       } in
       rw (← same_order, ← same_bits, ← same_size, ← same_claim, ← same_history) there
-
-  pub ok_batch : {T : Type 0} (r : Result T SumcheckError) (points : T → List ℕ) → IfOk r (λ point. IsPlayed here t u (points point)) →
-      IfOk r (λ point. PlaysBatch order o R E bits n f w claim h (points point) u.variables (rows_of u.evals) (rows_of u.weights) u.claim u.history
-      t.wire.messages t.wire.witnesses u.wire.messages u.wire.witnesses)
-  ok_batch (Ok x) points p = batch u (points x) p
-  ok_batch (Err e) points p = tt
-
-  pub stopped_batch : IsPlayedInPart here t u →
-      StopsBatch order o R E bits n f w claim h u.variables (rows_of u.evals) (rows_of u.weights) u.claim u.history t.wire.messages t.wire.witnesses u.wire.messages u.wire.witnesses
-  stopped_batch p = record { rs = p.rs; batch = batch u p.rs p.played }
 
   pub failed_batch : (m : ℕ) → u.variables ≡ suc m → IsPlayedWithoutWitness here t u →
       FailsBatch order o R E bits n f w claim h size m (rows_of u.evals) (rows_of u.weights) u.claim u.history t.wire.messages t.wire.witnesses u.wire.messages u.wire.witnesses

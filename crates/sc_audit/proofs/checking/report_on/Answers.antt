@@ -1,5 +1,6 @@
 use Rattle.std.proofs.Common.{◌≡◌, ℕ, ◌==◌, map, refl, sym, ◌∙◌, ap}
 use Rattle.std.proofs.lemmas.Result.{IfOk-from_err}
+use Rattle.sc_definitions.specs.Channels.{Wire}
 use Rattle.sc_definitions.specs.Tables.{entries, value}
 use Rattle.sc_definitions.specs.Statements.{batched_weight}
 use Rattle.sc_definitions.specs.Problem.{eval_of, weight_value_of}
@@ -42,7 +43,7 @@ returns-clause-figures g c =
     weight-at o (order_of job.order) _ f _ _ _ rs _ (c.eval_at-weight.ensures ∙ ap (value o (batched_weight o _ _ _)) c.in_ok-point.ensures) in
     let matched : (c.index.result == c.index-2.result) ≡ is_matched o p ms rs =
     matched-told o p _ (N c.args.residual) (N c.eval-eval.result) (N c.eval_at-weight.result) ms rs c.requires.residual eval weight (cc (c.index.ensures, c.index-2.ensures, c.mul.ensures)) in
-    figures-are o p _ ms _ (witnesses_in g.F.Field.number c.args.proof.now) _ rs _ _ _ _ _ c.in_ok-rounds.ensures.messages c.in_ok-rounds.ensures.witnesses refl
+    figures-are o p _ ms _ (witnesses_in g.F.Field.number c.args.proof.now) _ rs _ _ _ _ _ (ap (λ (w : Wire). w.messages) c.in_ok-rounds.ensures) (ap (λ (w : Wire). w.witnesses) c.in_ok-rounds.ensures) refl
     c.requires.claim c.requires.residual eval weight (c.in_ok-verdict.ensures.found ∙ ap (λ t. finding_by t (false_claim_of o p)) matched)
 
 -- a refusal tells nothing of a report
