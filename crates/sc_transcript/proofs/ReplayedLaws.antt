@@ -14,7 +14,7 @@ use Rattle.sc_transcript.specs.declared.error.SumcheckError.TheVariants.{Invalid
 use Rattle.sc_transcript.specs.Data.{witness_count}
 use Rattle.sc_transcript.specs.Drivers.{Driver, channel_of, RejectsRound}
 use Rattle.sc_transcript.specs.Invalid.{IsInvalid}
-use Rattle.sc_transcript.specs.Replayed.{Leaves}
+use Rattle.sc_transcript.specs.Replayed.{Leaves, Replay, IsCounted, LeavesReplay}
 
 -- ---- the loop over the rounds
 
@@ -94,82 +94,36 @@ pub leaves_at : {X : Type 0} (number : X → ℕ) (next : ℕ → List ℕ → �
     c ≡ c' → before ≡ before' → Leaves number next c before rs result after → Leaves number next c' before' rs result after
 leaves_at number next c c' before before' after rs result ec eb p = rw (← ec, ← eb) p
 
-module _ {X : Type 0} (A B : Type 0) (number : X → ℕ) (next : ℕ → List ℕ → ℕ → ℕ) (c : Channel) (before after : Footing) (rs : List Round) where
-  abbrev Begun : Result (List X) SumcheckError → Type 0
-  Begun result = ((result ≡ Err NoMemory) × A × B) ⊎ Leaves number next c before rs result after
-
-  -- an error is `NoMemory`, or that of a witness
-  pub begun_errors : (result : Result (List X) SumcheckError) (e : SumcheckError) → Begun result → result ≡ Err e → (e ≡ NoMemory) ⊎ ((i : ℕ) × (e ≡ InvalidPowWitness i c.bits))
-  begun_errors (Ok out) e b is = cc
-  begun_errors (Err x) e b is = elim b [
-    | inl y ↦ inl (let z = y.0 in cc)
-    | inr l ↦ elim l [
-      | inl y ↦ inl (let z = y.0 in cc)
-      | inr y ↦ inr (y.0, (let z = y.1 in cc))
-    ]
+-- a replay that may not have begun, of what was counted
+pub begun_left : {X : Type 0} (A B : Type 0) (number : X → ℕ) (p : Replay) (result : Result (List X) SumcheckError) (after : Footing) → IsCounted p →
+    ((result ≡ Err NoMemory) × A × B) ⊎ Leaves number p.next p.channel p.start p.rounds result after → LeavesReplay number (A × B) p result after
+begun_left A B number p (Ok out) after counts b = elim b [
+  | inl y ↦ (let z = y.0 in absurd cc)
+  | inr l ↦ (counts, l)
+]
+begun_left A B number p (Err NoMemory) after counts b = elim b [
+  | inl y ↦ (counts, inl (y.1, y.2))
+  | inr l ↦ elim l [
+    | inl y ↦ (counts, inr y.1)
+    | inr y ↦ (let z = y.1 in absurd cc)
   ]
-
-  pub begun_ok : (result : Result (List X) SumcheckError) → Begun result → IfOk result (λ out. IsReplayed next c before after rs (map number out))
-  begun_ok (Ok out) b = elim b [
+]
+begun_left A B number p (Err (InvalidPowWitness i bits)) after counts b = elim b [
+  | inl y ↦ (let z = y.0 in absurd cc)
+  | inr l ↦ elim l [
     | inl y ↦ (let z = y.0 in absurd cc)
-    | inr l ↦ l
+    | inr y ↦
+        let z = y.1 in
+        let same : bits ≡ p.channel.bits = cc in
+        let place : i ≡ y.0 = cc in (counts, same, rw place y.2)
   ]
-  begun_ok (Err x) b = tt
-
-  pub begun_invalid : (result : Result (List X) SumcheckError) → Begun result → (i b : ℕ) → result ≡ Err (InvalidPowWitness i b) → (b ≡ c.bits) × FailsAt next c before after rs i
-  begun_invalid (Ok out) p i b is = absurd cc
-  begun_invalid (Err x) p i b is = elim p [
+]
+begun_left A B number p (Err e) after counts b = elim b [
+  | inl y ↦ (let z = y.0 in absurd cc)
+  | inr l ↦ elim l [
     | inl y ↦ (let z = y.0 in absurd cc)
-    | inr l ↦ elim l [
-      | inl y ↦ (let z = y.0 in absurd cc)
-      | inr y ↦
-          let z : x ≡ InvalidPowWitness y.0 c.bits = y.1 in
-          let same : b ≡ c.bits = cc in
-          let place : i ≡ y.0 = cc in (same, rw place y.2)
-    ]
+    | inr y ↦ (let z = y.1 in absurd cc)
   ]
-
-  pub begun_no_memory : (result : Result (List X) SumcheckError) → Begun result → result ≡ Err NoMemory → (A × B) ⊎ IsReplayedInPart next c before after rs
-  begun_no_memory (Ok out) p is = absurd cc
-  begun_no_memory (Err x) p is = elim p [
-    | inl y ↦ inl (y.1, y.2)
-    | inr l ↦ elim l [
-      | inl y ↦ inr y.1
-      | inr y ↦ (let z = y.1 in absurd cc)
-    ]
-  ]
-
-  pub begun_causes : (P Q : Type 0) (result : Result (List X) SumcheckError) → Begun result → OnErr result (P ⊎ (Q ⊎ ((result ≡ Err NoMemory) ⊎ IsInvalid result)))
-  begun_causes P Q (Ok out) p = tt
-  begun_causes P Q (Err x) p = elim (begun_errors (Err x) x p refl) [
-    | inl e ↦ inr (inr (inl (ap Err e)))
-    | inr y ↦ inr (inr (inr (rw y.1 tt)))
-  ]
-
-  -- it is no error of a count
-  pub begun_rounds : (m n : ℕ) (result : Result (List X) SumcheckError) → Begun result → m ≡ n → (result ≡ Err (RoundCountMismatch n m)) ↔ (m ≢ n)
-  begun_rounds m n result p e = (
-    λ is. elim (begun_errors result (RoundCountMismatch n m) p is) [
-      | inl z ↦ absurd cc
-      | inr y ↦ (let z = y.1 in absurd cc)
-    ],
-    λ differs. absurd (differs e),
-  )
-
-  pub begun_witnesses : (m n k w : ℕ) (result : Result (List X) SumcheckError) → Begun result → k ≡ w → (result ≡ Err (PowWitnessCountMismatch w k)) ↔ ((m ≡ n) × (k ≢ w))
-  begun_witnesses m n k w result p e = (
-    λ is. elim (begun_errors result (PowWitnessCountMismatch w k) p is) [
-      | inl z ↦ absurd cc
-      | inr y ↦ (let z = y.1 in absurd cc)
-    ],
-    λ differs. absurd (differs.1 e),
-  )
-
--- the counts are right
-pub counts_right : {Z : Type 0} (m n k w : ℕ) → (m ≡ n) × (k ≡ w) → (m ≢ n) ⊎ (k ≢ w) → Z
-counts_right m n k w p s = elim s [
-  | inl differs ↦ absurd (differs p.0)
-  | inr differs ↦ absurd (differs p.1)
 ]
 
 -- ---- a count is refused
@@ -190,39 +144,77 @@ counts_passed Y result e m n k w is counts = elim counts [
   | inr p ↦ inr (is ∙ ap Err (error_is Y _ _ p.0), p.1, p.2)
 ]
 
-pub counted_rounds : {X : Type 0} (result : Result X SumcheckError) (m n k w : ℕ) → Counted result m n k w → (result ≡ Err (RoundCountMismatch n m)) ↔ (m ≢ n)
-counted_rounds result m n k w counts = elim counts [
-  | inl p ↦ (λ _. p.1, λ _. p.0)
-  | inr p ↦ (let z = p.0 in (λ q. absurd cc, λ differs. absurd (differs p.1)))
+pub counted_left : {X : Type 0} (untouched : Type 0) (number : X → ℕ) (p : Replay) (result : Result (List X) SumcheckError) (after : Footing) → untouched →
+    Counted result p.came p.expected p.witnesses (witness_count p.channel.bits p.expected) → LeavesReplay number untouched p result after
+counted_left untouched number p result after kept counts = elim counts [
+  | inl q ↦ rw q.0 (refl, refl, q.1, kept)
+  | inr q ↦ rw q.0 (refl, refl, q.1, q.2, kept)
 ]
 
-pub counted_witnesses : {X : Type 0} (result : Result X SumcheckError) (m n k w : ℕ) → Counted result m n k w →
-    (result ≡ Err (PowWitnessCountMismatch w k)) ↔ ((m ≡ n) × (k ≢ w))
-counted_witnesses result m n k w counts = elim counts [
-  | inl p ↦ (let z = p.0 in (λ q. absurd cc, λ q. absurd (p.1 q.0)))
-  | inr p ↦ (λ _. (p.1, p.2), λ _. p.0)
+-- ---- the same, fact by fact
+
+-- which error comes exactly where, and what each result says
+pub record Verified {X : Type 0} (number : X → ℕ) (untouched : Type 0) (p : Replay) (result : Result (List X) SumcheckError) (after : Footing) : Type 0 where
+  pub rounds : (result ≡ Err (RoundCountMismatch p.expected p.came)) ↔ (p.came ≢ p.expected)
+  pub witnesses : (result ≡ Err (PowWitnessCountMismatch (witness_count p.channel.bits p.expected) p.witnesses)) ↔ ((p.came ≡ p.expected) × (p.witnesses ≢ witness_count p.channel.bits p.expected))
+  pub counted : (p.came ≢ p.expected) ⊎ (p.witnesses ≢ witness_count p.channel.bits p.expected) → untouched
+  pub ok : IfOk result (λ out. IsReplayed p.next p.channel p.start after p.rounds (map number out))
+  pub invalid : (i bits : ℕ) → result ≡ Err (InvalidPowWitness i bits) → (bits ≡ p.channel.bits) × FailsAt p.next p.channel p.start after p.rounds i
+  pub no_memory : result ≡ Err NoMemory → untouched ⊎ IsReplayedInPart p.next p.channel p.start after p.rounds
+  pub causes : OnErr result ((p.came ≢ p.expected) ⊎ ((p.witnesses ≢ witness_count p.channel.bits p.expected) ⊎ ((result ≡ Err NoMemory) ⊎ IsInvalid result)))
+
+-- what is counted differs in no count
+not_counted : {Z : Type 0} (p : Replay) → IsCounted p → (p.came ≢ p.expected) ⊎ (p.witnesses ≢ witness_count p.channel.bits p.expected) → Z
+not_counted p counts s = elim s [
+  | inl differs ↦ absurd (differs counts.rounds)
+  | inr differs ↦ absurd (differs counts.witnesses)
 ]
 
-pub counted_ok : {X : Type 0} (result : Result X SumcheckError) (m n k w : ℕ) (P : X → Type 0) → Counted result m n k w → IfOk result P
-counted_ok result m n k w P counts = elim counts [
-  | inl p ↦ rw p.0 tt
-  | inr p ↦ rw p.0 tt
-]
-
-pub counted_invalid : {X Z : Type 0} (result : Result X SumcheckError) (m n k w i b : ℕ) → Counted result m n k w → result ≡ Err (InvalidPowWitness i b) → Z
-counted_invalid result m n k w i b counts q = elim counts [
-  | inl p ↦ (let z = p.0 in absurd cc)
-  | inr p ↦ (let z = p.0 in absurd cc)
-]
-
-pub counted_no_memory : {X Z : Type 0} (result : Result X SumcheckError) (m n k w : ℕ) → Counted result m n k w → result ≡ Err NoMemory → Z
-counted_no_memory result m n k w counts q = elim counts [
-  | inl p ↦ (let z = p.0 in absurd cc)
-  | inr p ↦ (let z = p.0 in absurd cc)
-]
-
-pub counted_causes : {X : Type 0} (result : Result X SumcheckError) (m n k w : ℕ) (C : Type 0) → Counted result m n k w → OnErr result ((m ≢ n) ⊎ ((k ≢ w) ⊎ C))
-counted_causes result m n k w C counts = elim counts [
-  | inl p ↦ rw p.0 (inl p.1)
-  | inr p ↦ rw p.0 (inr (inl p.2))
-]
+pub verified : {X : Type 0} (number : X → ℕ) (untouched : Type 0) (p : Replay) (result : Result (List X) SumcheckError) (after : Footing) →
+    LeavesReplay number untouched p result after → Verified number untouched p result after
+verified number untouched p (Ok out) after left = record {
+  rounds = (λ e. absurd cc, λ differs. absurd (differs left.0.rounds));
+  witnesses = (λ e. absurd cc, λ differs. absurd (differs.1 left.0.witnesses));
+  counted = not_counted p left.0;
+  ok = left.1;
+  invalid = λ i bits e. absurd cc;
+  no_memory = λ e. absurd cc;
+  causes = tt;
+}
+verified number untouched p (Err NoMemory) after left = record {
+  rounds = (λ e. absurd cc, λ differs. absurd (differs left.0.rounds));
+  witnesses = (λ e. absurd cc, λ differs. absurd (differs.1 left.0.witnesses));
+  counted = not_counted p left.0;
+  ok = tt;
+  invalid = λ i bits e. absurd cc;
+  no_memory = λ e. left.1;
+  causes = inr (inr (inl refl));
+}
+verified number untouched p (Err (InvalidPowWitness j b)) after left = record {
+  rounds = (λ e. absurd cc, λ differs. absurd (differs left.0.rounds));
+  witnesses = (λ e. absurd cc, λ differs. absurd (differs.1 left.0.witnesses));
+  counted = not_counted p left.0;
+  ok = tt;
+  invalid = λ i bits e. (let place : i ≡ j = cc in let same : bits ≡ b = cc in (same ∙ left.1, rw place left.2));
+  no_memory = λ e. absurd cc;
+  causes = inr (inr (inr tt));
+}
+verified number untouched p (Err (RoundCountMismatch n m)) after left = record {
+  rounds = (λ e. left.2, λ differs. rw (left.0, left.1) refl);
+  witnesses = (λ e. absurd cc, λ differs. absurd (left.2 differs.0));
+  counted = λ differs. left.3;
+  ok = tt;
+  invalid = λ i bits e. absurd cc;
+  no_memory = λ e. absurd cc;
+  causes = inl left.2;
+}
+verified number untouched p (Err (PowWitnessCountMismatch w k)) after left = record {
+  rounds = (λ e. absurd cc, λ differs. absurd (differs left.2));
+  witnesses = (λ e. (left.2, left.3), λ differs. rw (left.0, left.1) refl);
+  counted = λ differs. left.4;
+  ok = tt;
+  invalid = λ i bits e. absurd cc;
+  no_memory = λ e. absurd cc;
+  causes = inr (inl left.3);
+}
+verified number untouched p (Err e) after left = absurd left

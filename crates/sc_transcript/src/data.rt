@@ -3,12 +3,11 @@ ghost use Rattle.std.specs.Prelude.{◌≡◌, ◌≢◌, ◌⊎◌, ◌↔◌, 
 ghost use Rattle.std.specs.List.{slice_get};
 ghost use Rattle.std.specs.Option.{option_map_or};
 ghost use Rattle.sc_definitions.specs.Rounds.{next_claim};
-ghost use Rattle.sc_definitions.specs.Channels.{channel, footing, IsReplayed, IsReplayedInPart, FailsAt};
+ghost use Rattle.sc_definitions.specs.Channels.{channel, footing};
 ghost use Rattle.sc_table.specs.Strategy.{basis_of};
 ghost use Rattle.sc_transcript.specs.Shapes.{shape_of, seeded, pair_round};
 ghost use Rattle.sc_transcript.specs.Data.{rounds_in, witness_count};
-ghost use Rattle.sc_transcript.specs.Invalid.{IsInvalid};
-ghost use Rattle.sc_transcript.specs.Replayed.{Leaves};
+ghost use Rattle.sc_transcript.specs.Replayed.{Leaves, LeavesReplay, replay_of};
 
 use crate::error::SumcheckError;
 use crate::transcript::{ProverTranscript, SumcheckShape, VerifierTranscript};
@@ -126,24 +125,10 @@ impl<F: Field, EF: ExtensionField<F>> SumcheckData<F, EF> {
     ) -> Result<Point<EF>, SumcheckError>
         requires { pow_bits ≤ (C.rules challenger.old).max_bits }
         ensures rules { C.rules challenger.new ≡ C.rules challenger.old }
-        ensures rounds { result ≡ Err (SumcheckError.RoundCountMismatch expected_rounds (vec_len self.now.polynomial_evaluations))
-            ↔ (vec_len self.now.polynomial_evaluations ≢ expected_rounds) }
-        ensures witnesses { result ≡ Err (SumcheckError.PowWitnessCountMismatch (witness_count pow_bits expected_rounds) (vec_len self.now.pow_witnesses))
-            ↔ ((vec_len self.now.polynomial_evaluations ≡ expected_rounds) × (vec_len self.now.pow_witnesses ≢ witness_count pow_bits expected_rounds)) }
-        ensures counted { ((vec_len self.now.polynomial_evaluations ≢ expected_rounds) ⊎ (vec_len self.now.pow_witnesses ≢ witness_count pow_bits expected_rounds))
-            → (C.history challenger.new ≡ C.history challenger.old) × (claimed_sum.new ≡ claimed_sum.old) }
-        ensures ok { IfOk result (λ point. IsReplayed (next_claim (basis_of basis) EF.ops) (channel (C.rules challenger.old) EF.extension F.ops.size pow_bits)
-            (seeded EF.DEGREE (shape_of expected_rounds pow_bits basis) (C.history challenger.old) (EF.number claimed_sum.old))
-            (footing (C.history challenger.new) (EF.number claimed_sum.new)) (rounds_in F.number EF.number self.now) (map EF.number point)) }
-        ensures invalid { (i bits : ℕ) → result ≡ Err (SumcheckError.InvalidPowWitness i bits) → (bits ≡ pow_bits) × FailsAt (next_claim (basis_of basis) EF.ops) (channel (C.rules challenger.old) EF.extension F.ops.size pow_bits)
-            (seeded EF.DEGREE (shape_of expected_rounds pow_bits basis) (C.history challenger.old) (EF.number claimed_sum.old))
-            (footing (C.history challenger.new) (EF.number claimed_sum.new)) (rounds_in F.number EF.number self.now) i }
-        ensures no_memory { result ≡ Err SumcheckError.NoMemory → ((C.history challenger.new ≡ C.history challenger.old) × (claimed_sum.new ≡ claimed_sum.old))
-            ⊎ IsReplayedInPart (next_claim (basis_of basis) EF.ops) (channel (C.rules challenger.old) EF.extension F.ops.size pow_bits)
-            (seeded EF.DEGREE (shape_of expected_rounds pow_bits basis) (C.history challenger.old) (EF.number claimed_sum.old))
-            (footing (C.history challenger.new) (EF.number claimed_sum.new)) (rounds_in F.number EF.number self.now) }
-        ensures causes { OnErr result ((vec_len self.now.polynomial_evaluations ≢ expected_rounds) ⊎ (vec_len self.now.pow_witnesses ≢ witness_count pow_bits expected_rounds)
-            ⊎ (result ≡ Err SumcheckError.NoMemory) ⊎ IsInvalid result) }
+        ensures left { LeavesReplay EF.number ((C.history challenger.new ≡ C.history challenger.old) × (claimed_sum.new ≡ claimed_sum.old))
+            (replay_of EF.ops F.number EF.number (channel (C.rules challenger.old) EF.extension F.ops.size pow_bits) EF.DEGREE (shape_of expected_rounds pow_bits basis) self.now
+            (C.history challenger.old) (EF.number claimed_sum.old))
+            result (footing (C.history challenger.new) (EF.number claimed_sum.new)) }
     {
         self.check_counts(expected_rounds, pow_bits)?;
         let shape = SumcheckShape {
@@ -269,27 +254,11 @@ pub fn verify_final_sumcheck_rounds<F: Field, EF: ExtensionField<F>, C: Challeng
     ensures none { rounds ≡ 0 → IfOk result (λ point. point ≡ []) × (C.history challenger.new ≡ C.history challenger.old) × (claimed_sum.new ≡ claimed_sum.old) × IsOk result }
     ensures missing { result ≡ Err (SumcheckError.MissingSumcheckData rounds) ↔ ((0 < rounds) × IsNone final_sumcheck.entry) }
     ensures untouched { IsNone final_sumcheck.entry → (C.history challenger.new ≡ C.history challenger.old) × (claimed_sum.new ≡ claimed_sum.old) }
-    ensures replayed { IfSome final_sumcheck.entry (λ data_in. 0 < rounds → IfOk result (λ point. IsReplayed (next_claim (basis_of basis) EF.ops) (channel (C.rules challenger.old) EF.extension F.ops.size pow_bits)
-        (seeded EF.DEGREE (shape_of rounds pow_bits basis) (C.history challenger.old) (EF.number claimed_sum.old))
-        (footing (C.history challenger.new) (EF.number claimed_sum.new)) (rounds_in F.number EF.number data_in.now) (map EF.number point))) }
-    ensures counted { IfSome final_sumcheck.entry (λ data_in. 0 < rounds → (result ≡ Err (SumcheckError.RoundCountMismatch rounds (vec_len data_in.now.polynomial_evaluations))
-        ↔ (vec_len data_in.now.polynomial_evaluations ≢ rounds))) }
-    ensures witnesses { IfSome final_sumcheck.entry (λ data_in. 0 < rounds
-        → (result ≡ Err (SumcheckError.PowWitnessCountMismatch (witness_count pow_bits rounds) (vec_len data_in.now.pow_witnesses))
-        ↔ ((vec_len data_in.now.polynomial_evaluations ≡ rounds) × (vec_len data_in.now.pow_witnesses ≢ witness_count pow_bits rounds)))) }
-    ensures uncounted { IfSome final_sumcheck.entry (λ data_in. 0 < rounds
-        → ((vec_len data_in.now.polynomial_evaluations ≢ rounds) ⊎ (vec_len data_in.now.pow_witnesses ≢ witness_count pow_bits rounds))
-        → (C.history challenger.new ≡ C.history challenger.old) × (claimed_sum.new ≡ claimed_sum.old)) }
-    ensures invalid { IfSome final_sumcheck.entry (λ data_in. 0 < rounds → (i bits : ℕ) → result ≡ Err (SumcheckError.InvalidPowWitness i bits) → (bits ≡ pow_bits) × FailsAt (next_claim (basis_of basis) EF.ops) (channel (C.rules challenger.old) EF.extension F.ops.size pow_bits)
-        (seeded EF.DEGREE (shape_of rounds pow_bits basis) (C.history challenger.old) (EF.number claimed_sum.old))
-        (footing (C.history challenger.new) (EF.number claimed_sum.new)) (rounds_in F.number EF.number data_in.now) i) }
-    ensures no_memory { IfSome final_sumcheck.entry (λ data_in. 0 < rounds → result ≡ Err SumcheckError.NoMemory
-        → ((C.history challenger.new ≡ C.history challenger.old) × (claimed_sum.new ≡ claimed_sum.old)) ⊎ IsReplayedInPart (next_claim (basis_of basis) EF.ops) (channel (C.rules challenger.old) EF.extension F.ops.size pow_bits)
-        (seeded EF.DEGREE (shape_of rounds pow_bits basis) (C.history challenger.old) (EF.number claimed_sum.old))
-        (footing (C.history challenger.new) (EF.number claimed_sum.new)) (rounds_in F.number EF.number data_in.now)) }
-    ensures causes { IfSome final_sumcheck.entry (λ data_in. 0 < rounds
-        → OnErr result ((vec_len data_in.now.polynomial_evaluations ≢ rounds) ⊎ (vec_len data_in.now.pow_witnesses ≢ witness_count pow_bits rounds)
-        ⊎ (result ≡ Err SumcheckError.NoMemory) ⊎ IsInvalid result)) }
+    ensures left { IfSome final_sumcheck.entry (λ data_in. 0 < rounds
+        → LeavesReplay EF.number ((C.history challenger.new ≡ C.history challenger.old) × (claimed_sum.new ≡ claimed_sum.old))
+        (replay_of EF.ops F.number EF.number (channel (C.rules challenger.old) EF.extension F.ops.size pow_bits) EF.DEGREE (shape_of rounds pow_bits basis) data_in.now
+        (C.history challenger.old) (EF.number claimed_sum.old))
+        result (footing (C.history challenger.new) (EF.number claimed_sum.new))) }
 {
     if rounds == 0 {
         return Ok(Point::new(Vec::new(alloc)));
