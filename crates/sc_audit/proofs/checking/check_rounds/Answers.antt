@@ -1,4 +1,4 @@
-use Rattle.std.proofs.Common.{◌≡◌, ℕ, map, length, None, refl, sym, ◌∙◌, ap, inl, inr}
+use Rattle.std.proofs.Common.{◌≡◌, Err, ℕ, map, length, None, refl, sym, ◌∙◌, ap, inl, inr}
 use Rattle.std.proofs.lemmas.List.{length-map}
 use Rattle.std.specs.Prelude.{vec_len}
 use Rattle.std.proofs.lemmas.Bool.Decides.{eqb_tells}
@@ -13,6 +13,7 @@ use Rattle.sc_table.specs.Strategy.{order_of}
 use Rattle.sc_statements.specs.Constraints.{constraint_arity, constraint_challenge, constraint_power, constraint_statements}
 use Rattle.sc_statements.proofs.BatchSteps.{claim-alone}
 use Rattle.sc_transcript.specs.Data.{messages_in, witnesses_in, witness_count}
+use Rattle.sc_transcript.proofs.ReplayedLaws.{verified}
 use Rattle.sc_transcript.specs.declared.error.SumcheckError.TheVariants as replay
 use Rattle.sc_rounds.proofs.InStep.{invalid_is}
 use Rattle.sc_audit.specs.declared.error.AuditError.TheVariants.{Unbuilt, RoundCountMismatch, PowWitnessCountMismatch, NoMemory}
@@ -34,9 +35,9 @@ report_on-requires-clause-claim g c =
 pub report_on-requires-clause-count : goal.report_on-requires-clause-count
 report_on-requires-clause-count g c =
     sym (length-map c.in-Ok.challenges g.EF.Field.number)
-    ∙ ap length c.in-Ok.ensures.ok.drawn ∙ length-challenges _ _ _ _ _ ∙ length-given_rounds _ _ ∙ length-map _ _
+    ∙ ap length c.in-Ok.ensures.left.1.drawn ∙ length-challenges _ _ _ _ _ ∙ length-given_rounds _ _ ∙ length-map _ _
     ∙ sym c.args.proof.now.polynomial_evaluations.ok.0
-    ∙ not_other _ _ (λ differ. not_both _ _ _ refl (c.in-Ok.ensures.rounds.1 differ)) ∙ c.num_variables.ensures
+    ∙ c.in-Ok.ensures.left.0.rounds ∙ c.num_variables.ensures
 
 pub report_on-requires-clause-residual : goal.report_on-requires-clause-residual
 report_on-requires-clause-residual g c =
@@ -51,7 +52,7 @@ report_on-requires-clause-residual g c =
     ∙ ap (λ k. words (quadratic_seed E.degree evaluation job.pow_bits k)) c.num_variables.ensures in
     let claim : N c.combine_evals.new.eval ≡ claim_of o p =
     claim-batched o p _ (claim-alone o g.met.EF.Field.is_field.ring _ _ _ _ _ (ap N c.ZERO-claim.ensures ∙ g.met.EF.Field.zero_is) c.combine_evals.ensures) in
-    residual-checked (order_of job.order) o _ E job.pow_bits n f _ _ _ _ (length job.table.items) (check None) _ _ _ _ _ (rw (seed, claim) at c.in-Ok.ensures.ok) (length-map _ _ ∙ sym c.args.proof.now.polynomial_evaluations.ok.0 ∙ not_other _ _ (λ differ. not_both _ _ _ refl (c.in-Ok.ensures.rounds.1 differ)) ∙ c.num_variables.ensures)
+    residual-checked (order_of job.order) o _ E job.pow_bits n f _ _ _ _ (length job.table.items) (check None) _ _ _ _ _ (rw (seed, claim) at c.in-Ok.ensures.left.1) (length-map _ _ ∙ sym c.args.proof.now.polynomial_evaluations.ok.0 ∙ c.in-Ok.ensures.left.0.rounds ∙ c.num_variables.ensures)
 
 pub returns-clause-report : goal.returns-clause-report
 returns-clause-report g c =
@@ -67,10 +68,10 @@ returns-clause-report g c =
     let claim : N c.combine_evals.new.eval ≡ claim_of o p =
     claim-batched o p _ (claim-alone o g.met.EF.Field.is_field.ring _ _ _ _ _ (ap N c.ZERO-claim.ensures ∙ g.met.EF.Field.zero_is) c.combine_evals.ensures) in
     let proof = c.args.proof.now in
-    let rounds = not_other _ _ (λ differ. not_both _ _ _ refl (c.in-Ok.ensures.rounds.1 differ)) in
-    let found = not_other _ _ (λ differ. not_both _ _ _ refl (c.in-Ok.ensures.witnesses.1 (rounds, differ))) in
+    let rounds = c.in-Ok.ensures.left.0.rounds in
+    let found = c.in-Ok.ensures.left.0.witnesses in
     IfOk-weaker c.report_on.result _ _
-    (λ r is. report-checked (order_of job.order) o _ E job.pow_bits n f _ _ _ _ (length job.table.items) _ _ _ _ _ _ (rw (seed, claim) at c.in-Ok.ensures.ok)
+    (λ r is. report-checked (order_of job.order) o _ E job.pow_bits n f _ _ _ _ (length job.table.items) _ _ _ _ _ _ (rw (seed, claim) at c.in-Ok.ensures.left.1)
     (length-map _ _ ∙ sym proof.polynomial_evaluations.ok.0 ∙ rounds ∙ c.num_variables.ensures) _
     (length-map _ _ ∙ sym proof.pow_witnesses.ok.0 ∙ found ∙ ap (witness_count job.pow_bits) c.num_variables.ensures) is)
     c.report_on.ensures.figures
@@ -89,16 +90,16 @@ returns-clause-caused g c = λ e is.
     let claim : N c.combine_evals.new.eval ≡ claim_of o p =
     claim-batched o p _ (claim-alone o g.met.EF.Field.is_field.ring _ _ _ _ _ (ap N c.ZERO-claim.ensures ∙ g.met.EF.Field.zero_is) c.combine_evals.ensures) in
     let proof = c.args.proof.now in
-    let rounds = not_other _ _ (λ differ. not_both _ _ _ refl (c.in-Ok.ensures.rounds.1 differ)) in
-    let found = not_other _ _ (λ differ. not_both _ _ _ refl (c.in-Ok.ensures.witnesses.1 (rounds, differ))) in
+    let rounds = c.in-Ok.ensures.left.0.rounds in
+    let found = c.in-Ok.ensures.left.0.witnesses in
     elim (on_err c.report_on.result e is c.report_on.ensures.causes) [
       | inl memory ↦
           let none : e ≡ NoMemory = same_error _ _ _ is memory in
-          caused-memory _ _ _ _ g.F.Field.ops.size _ (case_in g.F.Field.number N g.EF.Algebra.embedding job) _ e _ none (inr (broken-checked (order_of job.order) o _ E job.pow_bits n f _ _ _ _ (length job.table.items) _ _ _ _ _ (all-some _ _ E job.pow_bits _ _ _ _ _ _ (rw (seed, claim) at c.in-Ok.ensures.ok))
+          caused-memory _ _ _ _ g.F.Field.ops.size _ (case_in g.F.Field.number N g.EF.Algebra.embedding job) _ e _ none (inr (broken-checked (order_of job.order) o _ E job.pow_bits n f _ _ _ _ (length job.table.items) _ _ _ _ _ (all-some _ _ E job.pow_bits _ _ _ _ _ _ (rw (seed, claim) at c.in-Ok.ensures.left.1))
           (length-map _ _ ∙ sym proof.polynomial_evaluations.ok.0 ∙ rounds ∙ c.num_variables.ensures)))
       | inr later ↦ let verdict : e ≡ Unbuilt Verdict = same_error _ _ _ is later in caused-lucky _ _ _ _ g.F.Field.ops.size _ (case_in g.F.Field.number N g.EF.Algebra.embedding job) _ e _ verdict (record {
         report = figures_of o p (messages_in N proof) (witnesses_in g.F.Field.number proof) (map N c.in-Ok.challenges);
-        audited = report-checked (order_of job.order) o _ E job.pow_bits n f _ _ _ _ (length job.table.items) _ _ _ _ _ _ (rw (seed, claim) at c.in-Ok.ensures.ok)
+        audited = report-checked (order_of job.order) o _ E job.pow_bits n f _ _ _ _ (length job.table.items) _ _ _ _ _ _ (rw (seed, claim) at c.in-Ok.ensures.left.1)
             (length-map _ _ ∙ sym proof.polynomial_evaluations.ok.0 ∙ rounds ∙ c.num_variables.ensures) _
             (length-map _ _ ∙ sym proof.pow_witnesses.ok.0 ∙ found ∙ ap (witness_count job.pow_bits) c.num_variables.ensures) refl;
         lucky = c.report_on.ensures.lucky later;
@@ -107,6 +108,7 @@ returns-clause-caused g c = λ e is.
 
 pub returns-in-Err-clause-caused : goal.returns-in-Err-clause-caused
 returns-in-Err-clause-caused g c = λ e is.
+    let replayed = verified g.EF.Field.number _ _ (Err c.in-Err.error) _ c.in-Err.ensures.left in
     let N = g.EF.Field.number in
     let o = g.EF.Field.ops in
     let E = g.EF.ExtensionField.extension in
@@ -128,21 +130,21 @@ returns-in-Err-clause-caused g c = λ e is.
     let vars = c.num_variables.ensures in
     elim (eqb_tells (vec_len proof.polynomial_evaluations) c.num_variables.result) [
       | inr apart ↦
-          let refused = c.in-Err.ensures.rounds.1 apart.1 in
+          let refused = replayed.rounds.1 apart.1 in
           let error_is : c.in-Err.error ≡ replay.RoundCountMismatch c.num_variables.result (vec_len proof.polynomial_evaluations) = same_error _ _ _ refl refused in
           let e_is : e ≡ RoundCountMismatch n (length given.messages) = sym same ∙ told ∙ ap refusal_by error_is ∙ ap (λ k. RoundCountMismatch k (vec_len proof.polynomial_evaluations)) vars ∙ ap (RoundCountMismatch n) (sym ms) in
           caused-rounds _ _ _ _ g.F.Field.ops.size _ (case_in g.F.Field.number N g.EF.Algebra.embedding job) _ e _ n (length given.messages) e_is (count-rounds n bits given (λ equal. apart.1 (sym ms ∙ equal ∙ sym vars)))
-          (c.in-Err.ensures.counted (inl apart.1)).0
+          (replayed.counted (inl apart.1)).0
       | inl rounds ↦ elim (eqb_tells (vec_len proof.pow_witnesses) (witness_count bits c.num_variables.result)) [
         | inr apart ↦
-            let refused = c.in-Err.ensures.witnesses.1 (rounds.1, apart.1) in
+            let refused = replayed.witnesses.1 (rounds.1, apart.1) in
             let error_is : c.in-Err.error ≡ replay.PowWitnessCountMismatch (witness_count bits c.num_variables.result) (vec_len proof.pow_witnesses) = same_error _ _ _ refl refused in
             let e_is : e ≡ PowWitnessCountMismatch (witness_count bits n) (length given.witnesses) =
             sym same ∙ told ∙ ap refusal_by error_is ∙ ap (λ k. PowWitnessCountMismatch (witness_count bits k) (vec_len proof.pow_witnesses)) vars ∙ ap (PowWitnessCountMismatch (witness_count bits n)) (sym ws) in
             caused-witnesses _ _ _ _ g.F.Field.ops.size _ (case_in g.F.Field.number N g.EF.Algebra.embedding job) _ e _ (witness_count bits n) (length given.witnesses) e_is
             (count-witnesses n bits given (ms ∙ rounds.1 ∙ vars) (λ equal. apart.1 (sym ws ∙ equal ∙ ap (witness_count bits) (sym vars))))
-            (c.in-Err.ensures.counted (inr apart.1)).0
-        | inl found ↦ elim c.in-Err.ensures.causes [
+            (replayed.counted (inr apart.1)).0
+        | inl found ↦ elim replayed.causes [
           | inl differs ↦ absurd (differs rounds.1)
           | inr more ↦ elim more [
             | inl differs ↦ absurd (differs found.1)
@@ -150,14 +152,14 @@ returns-in-Err-clause-caused g c = λ e is.
               | inl memory ↦
                   let error_is : c.in-Err.error ≡ replay.NoMemory = same_error _ _ _ refl memory in
                   let none = sym same ∙ told ∙ ap refusal_by error_is in
-                  elim (c.in-Err.ensures.no_memory memory) [
+                  elim (replayed.no_memory memory) [
                     | inl untouched ↦ caused-memory _ _ _ _ g.F.Field.ops.size _ (case_in g.F.Field.number N g.EF.Algebra.embedding job) _ e _ none (inl untouched.0)
                     | inr some ↦ caused-memory _ _ _ _ g.F.Field.ops.size _ (case_in g.F.Field.number N g.EF.Algebra.embedding job) _ e _ none (inr (broken-checked (order_of job.order) o _ E job.pow_bits n _ _ _ _ _ (length job.table.items) _ _ _ _ _ (rw (seed, claim) at some) (ms ∙ rounds.1 ∙ vars)))
                   ]
               | inr invalid ↦
                   let named = invalid_is _ invalid in
                   let error_is : c.in-Err.error ≡ replay.InvalidPowWitness named.0 named.1 = same_error _ _ _ refl named.2 in
-                  let at = c.in-Err.ensures.invalid named.0 named.1 named.2 in
+                  let at = replayed.invalid named.0 named.1 named.2 in
                   caused-invalid _ _ _ _ g.F.Field.ops.size _ (case_in g.F.Field.number N g.EF.Algebra.embedding job) _ e given named.0 named.1 (sym same ∙ told ∙ ap refusal_by error_is) at.0 (record { claim = N c.verify_rounds.new.claimed_sum; at = rw (seed, claim) at at.1 })
             ]
           ]

@@ -1,4 +1,4 @@
-use Rattle.std.proofs.Common.{◌≡◌, List, refl, ◌++◌, inl, inr, ap, sym, ◌∙◌}
+use Rattle.std.proofs.Common.{◌≡◌, List, Err, refl, ◌++◌, inl, inr, ap, sym, ◌∙◌}
 use Rattle.std.proofs.lemmas.Result.{IfOk-from_err}
 use Rattle.std.proofs.lemmas.List.{length-map}
 use Rattle.sc_definitions.specs.Tables.{evaluation}
@@ -7,6 +7,7 @@ use Rattle.sc_definitions.specs.Seeds.{quadratic_seed}
 use Rattle.sc_transcript.specs.declared.error.SumcheckError.TheVariants.{NoMemory}
 use Rattle.sc_definitions.specs.declared.events.Event.{Event}
 use Rattle.sc_definitions.specs.Channels.{channel}
+use Rattle.sc_transcript.proofs.ReplayedLaws.{verified}
 use Rattle.sc_rounds.proofs.TakenLaws.{claim_begun, same_footing}
 use Rattle.sc_rounds.proofs.InStep.{out_of_memory, invalid_is, message_count, found_count, same_challenges, same_histories, same_claims, none_invalid, passed_on}
 use Rattle.sc_rounds.proofs.laws.batch_in_step.Goals as goal
@@ -19,7 +20,7 @@ returns-clause-challenges g c =
     let seed = λ (h : List Event). h ++ words (quadratic_seed g.EF.ExtensionField.DEGREE evaluation c.args.pow_bits c.args.folding_factor) in
     let claim = claim_begun g.EF.Field.ops (λ x. g.EF.Algebra.embedding (g.F.Field.number x)) N c.args.constraint _ _ _ c.claimed_sum.ensures.number c.with_claim-claim.ensures in
     let begun = same_footing (ap seed c.requires.history) claim in
-    same_challenges _ _ _ _ C _ c.requires.empty same begun c.in_ok-drawn.ensures.batch _ _ c.in_ok-replayed.ensures.ok
+    same_challenges _ _ _ _ C _ c.requires.empty same begun c.in_ok-drawn.ensures.batch _ _ c.in_ok-replayed.ensures.left.1
 
 pub returns-clause-histories : goal.returns-clause-histories
 returns-clause-histories g c =
@@ -29,7 +30,7 @@ returns-clause-histories g c =
     let seed = λ (h : List Event). h ++ words (quadratic_seed g.EF.ExtensionField.DEGREE evaluation c.args.pow_bits c.args.folding_factor) in
     let claim = claim_begun g.EF.Field.ops (λ x. g.EF.Algebra.embedding (g.F.Field.number x)) N c.args.constraint _ _ _ c.claimed_sum.ensures.number c.with_claim-claim.ensures in
     let begun = same_footing (ap seed c.requires.history) claim in
-    same_histories _ _ _ _ C _ c.requires.empty same begun c.in_ok-drawn.ensures.batch _ _ c.in_ok-replayed.ensures.ok
+    same_histories _ _ _ _ C _ c.requires.empty same begun c.in_ok-drawn.ensures.batch _ _ c.in_ok-replayed.ensures.left.1
 
 pub returns-clause-claims : goal.returns-clause-claims
 returns-clause-claims g c =
@@ -39,7 +40,7 @@ returns-clause-claims g c =
     let seed = λ (h : List Event). h ++ words (quadratic_seed g.EF.ExtensionField.DEGREE evaluation c.args.pow_bits c.args.folding_factor) in
     let claim = claim_begun g.EF.Field.ops (λ x. g.EF.Algebra.embedding (g.F.Field.number x)) N c.args.constraint _ _ _ c.claimed_sum.ensures.number c.with_claim-claim.ensures in
     let begun = same_footing (ap seed c.requires.history) claim in
-    same_claims _ _ _ _ C _ c.requires.empty same begun c.in_ok-drawn.ensures.batch _ _ c.in_ok-replayed.ensures.ok
+    same_claims _ _ _ _ C _ c.requires.empty same begun c.in_ok-drawn.ensures.batch _ _ c.in_ok-replayed.ensures.left.1
 
 pub returns-in_err-replayed-clause-causes : goal.returns-in_err-replayed-clause-causes
 returns-in_err-replayed-clause-causes g c =
@@ -53,7 +54,8 @@ returns-in_err-replayed-clause-causes g c =
     let batch = c.in_ok-drawn.ensures.batch in
     let rounds = message_count _ _ _ _ C _ c.requires.empty same begun batch c.args.folding_factor c.in_ok-drawn.ensures.fewer in
     let found = found_count _ _ _ _ C _ c.requires.empty same begun batch c.args.folding_factor c.in_ok-drawn.ensures.fewer in
-    elim c.in_err-replayed.ensures.causes [
+    let told = verified N _ _ (Err c.in_err-replayed.field-0.0) _ c.in_err-replayed.ensures.left in
+    elim told.causes [
       | inl other ↦ absurd (other (kept.polynomial_evaluations.ok.0 ∙ sym (length-map _ _) ∙ rounds))
       | inr more ↦ elim more [
         | inl other ↦ absurd (other (kept.pow_witnesses.ok.0 ∙ sym (length-map _ _) ∙ found))
@@ -61,7 +63,7 @@ returns-in_err-replayed-clause-causes g c =
           | inl memory ↦ (let none : c.in_err-replayed.field-0.0 ≡ NoMemory = cc in out_of_memory _ (rw none at c.from_residual-in_err-replayed.ensures.1))
           | inr invalid ↦
               let named = invalid_is _ invalid in
-              absurd (none_invalid _ _ _ _ C _ c.requires.empty same begun batch named.0 _ (c.in_err-replayed.ensures.invalid named.0 named.1 named.2).1)
+              absurd (none_invalid _ _ _ _ C _ c.requires.empty same begun batch named.0 _ (told.invalid named.0 named.1 named.2).1)
         ]
       ]
     ]
