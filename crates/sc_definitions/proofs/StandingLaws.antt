@@ -1,15 +1,14 @@
 -- Rounds that move a standing, one after the other.
-use Rattle.std.proofs.Common.{◌≡◌, ℕ, zero, suc, ◌+◌, ◌^◌, ◌<◌, List, [], ◌∷◌, ◌++◌, length, refl, ap, sym, ◌∙◌, subst, arith, append_assoc, zero-add}
+use Rattle.std.proofs.Common.{◌≡◌, ℕ, zero, suc, ◌^◌, ◌<◌, List, [], ◌∷◌, ◌++◌, length, refl, ap, sym, ◌∙◌, subst, append_assoc, zero-add}
 use Rattle.std.proofs.lemmas.List.{append-nil, map-append}
 use Rattle.std.proofs.lemmas.List.FromFn.{length-map-range_with_len, get_or-map-range_with_len}
 use Rattle.std.proofs.lemmas.Grind.{same_number_lists}
-use Rattle.sc_definitions.specs.Ring.{Ops, IsRing}
-use Rattle.sc_definitions.specs.Tables.{IsOffered, rows_of, bound_by, bound_in}
-use Rattle.sc_definitions.specs.Rounds.{claim_along, next_claim}
+use Rattle.sc_definitions.specs.Ring.{IsRing}
+use Rattle.sc_definitions.specs.Tables.{IsOffered, rows_of}
 use Rattle.sc_definitions.specs.Transcript.{Round, messages_of}
 use Rattle.sc_definitions.specs.Played.{IsRound as IsRoundOn, IsPlayed as IsPlayedOn}
 use Rattle.sc_definitions.specs.Channels.{Wire, with_rounds, witnesses_of}
-use Rattle.sc_definitions.specs.Standings.{Setting, Standing, entries_of, half_rows, message_in, IsRound, IsPlayed}
+use Rattle.sc_definitions.specs.Standings.{Setting, Standing, entries_of, message_in, IsRound, IsPlayed}
 use Rattle.sc_definitions.proofs.BuiltLaws.{messages-append}
 use Rattle.sc_definitions.proofs.PlayedLaws.{IsPlayed-none, IsPlayed-more}
 

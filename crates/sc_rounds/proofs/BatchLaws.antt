@@ -1,6 +1,5 @@
 -- A batch of rounds, one round after the other.
-use Rattle.std.proofs.Common.{◌≡◌, ℕ, zero, suc, ◌+◌, ◌^◌, ◌<◌, List, [], ◌∷◌, ◌++◌, refl, ap, sym, ◌∙◌, ◌⊎◌, inl, inr, subst, arith, append_assoc, Result, Ok, Err, IfOk, OnOk, IsErrAnd, IfErr, ⊎_elim, ◌≤◌}
-use Rattle.std.proofs.lemmas.List.{append-nil, map-append}
+use Rattle.std.proofs.Common.{◌≡◌, ℕ, suc, ◌+◌, ◌<◌, List, [], ◌∷◌, ◌++◌, refl, ap, sym, ◌∙◌, ◌⊎◌, inl, inr, subst, arith, Result, Ok, Err, IfOk, OnOk, IsErrAnd, IfErr, ⊎_elim, ◌≤◌}
 use Rattle.sc_definitions.specs.Ring.{Ops, IsRing}
 use Rattle.sc_definitions.specs.Tables.{evaluation, Order, IsOffered}
 use Rattle.sc_definitions.specs.Channels.{Channel}

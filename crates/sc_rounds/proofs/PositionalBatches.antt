@@ -1,5 +1,5 @@
 -- Batches by the words of before: tables as functions, and each part by itself. They go with the last contract that cites those words.
-use Rattle.std.proofs.Common.{◌≡◌, ℕ, suc, ◌+◌, ◌^◌, ◌<◌, List, ap, sym, ◌∙◌, ◌⊎◌, inl, inr, subst, refl, Result, Ok, Err, IfErr, OnErr}
+use Rattle.std.proofs.Common.{◌≡◌, ℕ, suc, ◌^◌, ◌<◌, List, ap, sym, ◌∙◌, ◌⊎◌, inl, inr, subst, refl, Result, Ok, Err, IfErr, OnErr}
 use Rattle.sc_definitions.specs.declared.events.Event.{Event}
 use Rattle.sc_definitions.specs.Ring.{Ops, IsRing}
 use Rattle.sc_definitions.specs.Tables.{evaluation, Order, rows_of}

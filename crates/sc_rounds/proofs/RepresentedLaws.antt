@@ -1,5 +1,5 @@
 -- What a prover over a representation holds.
-use Rattle.std.proofs.Common.{◌≡◌, ◌↔◌, ℕ, zero, suc, ◌*◌, ◌^◌, ◌<◌, List, length, map, IsTrue, nat_eq, refl, ap, sym, ◌∙◌, subst, arith}
+use Rattle.std.proofs.Common.{◌≡◌, ◌↔◌, ℕ, ◌^◌, ◌<◌, List, length, map, IsTrue, nat_eq, ap, sym, ◌∙◌, subst}
 use Rattle.std.proofs.lemmas.Bool.{eqb-true, eq-eqb}
 use Rattle.std.proofs.lemmas.List.{length-map}
 use Rattle.sc_definitions.specs.Ring.{Ops, IsRing, IsRepresentation, times}

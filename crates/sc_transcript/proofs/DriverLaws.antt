@@ -1,6 +1,5 @@
 -- What a driver says of a round that is refused, fact by fact.
-use Rattle.std.proofs.Common.{◌≡◌, ◌⊎◌, ℕ, ◌<◌, false, List, ◌++◌, ap, sym, ◌∙◌, inl, inr, subst, refl, Option, None, IsSome}
-use Rattle.sc_definitions.specs.declared.events.Event.{Event}
+use Rattle.std.proofs.Common.{◌≡◌, ◌⊎◌, ℕ, ◌<◌, false, List, ◌++◌, ap, ◌∙◌, inl, inr, subst, refl, Option, None, IsSome}
 use Rattle.sc_definitions.specs.Events.{Extension, NonePasses}
 use Rattle.sc_definitions.specs.Transcript.{Round, sent, before_draw}
 use Rattle.sc_definitions.specs.Replays.{round_passes}

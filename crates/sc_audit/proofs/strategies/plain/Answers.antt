@@ -78,7 +78,7 @@ returns-in-Err-clause-no_witness g c = λ i e.
           let fails = failed_batch (order_in poly) (order_in poly) o ring _ E g.F.Field.ops.size bits bits _ _ _ _ _ _ _ refl refl refl refl refl (λ b below. refl) (λ b below. refl) (variables_in end - 1) some stopped.2 in
           unground-built (order_of job.order) (order_in poly) o ring _ _ E bits n _ _ _ _ _ _ _ _ H _ (length job.table.items) _ _ _ _ _ _ _ _ _ _ _ i
           c.in_ok-prover.ensures.order c.in_ok-copied.ensures.rules c.in_ok-prover.ensures.variables c.in_ok-prover.ensures.evals
-    (λ b low. rows-entries_of (variables_in poly) _ b (subst (λ k. b < 2 ^ k) (sym c.in_ok-prover.ensures.variables) low) ∙ c.in_ok-prover.ensures.weights b low) c.in_ok-prover.ensures.claim
+          (λ b low. rows-entries_of (variables_in poly) _ b (subst (λ k. b < 2 ^ k) (sym c.in_ok-prover.ensures.variables) low) ∙ c.in_ok-prover.ensures.weights b low) c.in_ok-prover.ensures.claim
           (ap (λ t. t ++ words (quadratic_seed g.EF.ExtensionField.DEGREE evaluation bits c.num_variables.result)) c.in_ok-copied.ensures.history ∙ ap (λ t. H ++ t) seed)
           (ap (λ (w : Wire). w.messages) c.new-rounds.ensures) (ap (λ (w : Wire). w.witnesses) c.new-rounds.ensures) (All-map (λ n. n < g.F.Field.ops.size) g.F.Field.number _ (λ k d low. g.met.F.Field.number_below _))
           (omega (arith, same, some, stopped.1, c.in_ok-prover.ensures.variables)) fails

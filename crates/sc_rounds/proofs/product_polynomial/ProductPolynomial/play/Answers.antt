@@ -1,5 +1,5 @@
-use Rattle.std.proofs.Common.{◌≡◌, ℕ, ◌+◌, ◌^◌, length, map, ap, sym, refl, ◌∙◌, arith, rules}
-use Rattle.std.proofs.lemmas.List.{map-append, length-map}
+use Rattle.std.proofs.Common.{ℕ, ◌+◌, ◌^◌, length, map, ap, sym, refl, ◌∙◌, arith}
+use Rattle.std.proofs.lemmas.List.{map-append}
 use Rattle.sc_definitions.proofs.StandingLaws.{played_none}
 use Rattle.sc_transcript.proofs.ReplayedLaws.{same_channel}
 use Rattle.sc_transcript.specs.declared.transcript.SumcheckShape.{SumcheckShape}

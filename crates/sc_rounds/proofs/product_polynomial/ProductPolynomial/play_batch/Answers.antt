@@ -1,4 +1,4 @@
-use Rattle.std.proofs.Common.{◌≡◌, ℕ, ap, sym, ◌∙◌, inl, refl, rules, map}
+use Rattle.std.proofs.Common.{ℕ, ap, sym, ◌∙◌, refl, rules, map}
 use Rattle.sc_transcript.specs.declared.transcript.SumcheckShape.{SumcheckShape}
 use Rattle.sc_transcript.specs.Data.{wire_in}
 use Rattle.sc_transcript.proofs.ReplayedLaws.{same_channel}

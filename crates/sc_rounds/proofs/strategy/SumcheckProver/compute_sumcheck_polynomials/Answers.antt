@@ -1,5 +1,4 @@
-use Rattle.std.proofs.Common.{ap, sym, refl, ◌+◌, ◌^◌, ◌∙◌, ◌++◌, inl, inr, map}
-use Rattle.std.proofs.lemmas.Result.{IfOk-from_err}
+use Rattle.std.proofs.Common.{ap, sym, refl, ◌^◌, ◌∙◌, ◌++◌, inr, map}
 use Rattle.sc_definitions.specs.Events.{words}
 use Rattle.sc_definitions.specs.Tables.{entries, rows_of}
 use Rattle.sc_definitions.specs.Channels.{channel}
@@ -8,9 +7,8 @@ use Rattle.sc_transcript.specs.Shapes.{seed_of}
 use Rattle.sc_transcript.specs.Data.{wire_in}
 use Rattle.sc_transcript.specs.declared.transcript.SumcheckShape.{SumcheckShape}
 use Rattle.sc_rounds.specs.Products.{variables_in}
-use Rattle.sc_rounds.specs.Standings.{standing_in}
 use Rattle.sc_rounds.proofs.PairRounds.{pair_rows, same_lists}
-use Rattle.sc_rounds.proofs.BatchLaws.{fits, fewer_at, no_more, same_setting, same_standing, played_at_names, stopped_at_names, no_memory_stops}
+use Rattle.sc_rounds.proofs.BatchLaws.{fits, no_more, same_setting, same_standing, played_at_names, stopped_at_names}
 use Rattle.sc_rounds.proofs.strategy.SumcheckProver.compute_sumcheck_polynomials.Goals as goal
 
 -- a constraint that was taken in, if there is one

@@ -23,10 +23,10 @@ returns-clause-plays g c =
       played = refl;
       sent = record {
         witness = round_first (R c.args.self.now.challenger.now) (R c.observe_pair.new.challenger) E _ _ _ w h _ (H c.observe_pair.new.challenger)
-          c.in_ok-reserve.ensures.history c.observe_pair.ensures.history absorbed_rules c.in-Ok.ensures.first (λ none. ap (λ o. option_map_or g.F.Field.number o 0) (c.in-Ok.ensures.none none));
+            c.in_ok-reserve.ensures.history c.observe_pair.ensures.history absorbed_rules c.in-Ok.ensures.first (λ none. ap (λ o. option_map_or g.F.Field.number o 0) (c.in-Ok.ensures.none none));
         drawn = round_drawn (R c.args.self.now.challenger.now) (R c.append_witness.new.challenger) E _ _ _ w h (H c.append_witness.new.challenger) _ before rules
-          (rw c.unwrap-challenge.ensures at c.sample_ext.ensures.drawn);
+            (rw c.unwrap-challenge.ensures at c.sample_ext.ensures.drawn);
         history = round_grown E _ _ _ w _ h (H c.append_witness.new.challenger) (H c.sample_ext.new.challenger) before
-          g.met.EF.ExtensionField.degree_is (rw c.unwrap-challenge.ensures at c.sample_ext.ensures.ok);
+            g.met.EF.ExtensionField.degree_is (rw c.unwrap-challenge.ensures at c.sample_ext.ensures.ok);
       };
     }

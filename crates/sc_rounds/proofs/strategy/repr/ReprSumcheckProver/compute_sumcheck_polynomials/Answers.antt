@@ -1,4 +1,4 @@
-use Rattle.std.proofs.Common.{◌≡◌, ℕ, ap, ◌++◌, refl, map, ◌∙◌}
+use Rattle.std.proofs.Common.{ℕ, ap, ◌++◌, refl, map, ◌∙◌}
 use Rattle.sc_definitions.specs.Events.{words}
 use Rattle.sc_definitions.specs.Channels.{channel}
 use Rattle.sc_transcript.specs.Shapes.{seed_of}
