@@ -8,7 +8,7 @@ use Rattle.sc_definitions.proofs.StandingLaws.{played_more}
 use Rattle.sc_transcript.specs.declared.error.SumcheckError.{SumcheckError}
 use Rattle.sc_transcript.specs.declared.error.SumcheckError.TheVariants.{NoMemory, NoWitness}
 use Rattle.sc_transcript.specs.Invalid.{FindsNone}
-use Rattle.sc_rounds.specs.Standings.{IsHalted, IsStopped, IsBatchStopped}
+use Rattle.sc_rounds.specs.Standings.{IsHalted, IsStopped, IsBatchStopped, MovesBatch}
 
 -- ---- rounds, by other names of what they move
 
@@ -23,26 +23,19 @@ played_at s s' t t' u u' rs rs' es et eu er p = rw (← es, ← et, ← eu, ← 
 pub same_standing : (t u : Standing) → t.variables ≡ u.variables → t.evals ≡ u.evals → t.weights ≡ u.weights → t.claim ≡ u.claim → t.history ≡ u.history → t.wire ≡ u.wire → t ≡ u
 same_standing t u ev ee ew ec eh ex = λ i. record { variables = ev i; evals = ee i; weights = ew i; claim = ec i; history = eh i; wire = ex i }
 
--- a batch that stopped, by other names of where it began, what had not begun and how many rounds it has
-pub stopped_at_names : {T : Type 0} (result : Result T SumcheckError) (unbegun unbegun' : Type 0) (s s' : Setting) (t t' u u' : Standing) (n m : ℕ) →
-    (unbegun → unbegun') → s ≡ s' → t ≡ t' → u ≡ u' → n ≡ m → IfErr result (IsBatchStopped unbegun s t u n) → IfErr result (IsBatchStopped unbegun' s' t' u' m)
-stopped_at_names (Ok x) unbegun unbegun' s s' t t' u u' n m same es et eu en p = tt
-stopped_at_names (Err NoMemory) unbegun unbegun' s s' t t' u u' n m same es et eu en p =
-    ⊎_elim (λ none. inl (same none)) (λ some. inr (rw (← es, ← et, ← eu) some)) p
-stopped_at_names (Err (NoWitness i)) unbegun unbegun' s s' t t' u u' n m same es et eu en p = rw (← es, ← et, ← eu, ← en) p
-stopped_at_names (Err e) unbegun unbegun' s s' t t' u u' n m same es et eu en p = absurd p
+-- a batch, by other names of what it moves, of what has not begun and of how many rounds it has
+pub batch_at_names : {X : Type 0} (result : Result X SumcheckError) (challenges : X → List ℕ) (unbegun unbegun' : Type 0) (s s' : Setting) (t t' u u' : Standing) (n m : ℕ) →
+    (unbegun → unbegun') → s ≡ s' → t ≡ t' → u ≡ u' → n ≡ m → MovesBatch challenges unbegun s t u n result → MovesBatch challenges unbegun' s' t' u' m result
+batch_at_names (Ok x) challenges unbegun unbegun' s s' t t' u u' n m same es et eu en p = rw (← es, ← et, ← eu) p
+batch_at_names (Err NoMemory) challenges unbegun unbegun' s s' t t' u u' n m same es et eu en p = ⊎_elim (λ none. inl (same none)) (λ some. inr (rw (← es, ← et, ← eu) some)) p
+batch_at_names (Err (NoWitness i)) challenges unbegun unbegun' s s' t t' u u' n m same es et eu en p = rw (← es, ← et, ← eu, ← en) p
+batch_at_names (Err e) challenges unbegun unbegun' s s' t t' u u' n m same es et eu en p = absurd p
 
 -- a batch that got no memory before it began
-pub no_memory_stops : {T : Type 0} (result : Result T SumcheckError) (unbegun : Type 0) (s : Setting) (t u : Standing) (n : ℕ) → IsErrAnd result (λ e. e ≡ NoMemory) → unbegun →
-    IfErr result (IsBatchStopped unbegun s t u n)
-no_memory_stops (Ok x) unbegun s t u n memory none = tt
-no_memory_stops (Err e) unbegun s t u n memory none = rw memory (inl none)
-
--- the challenges of a batch, by other names
-pub played_at_names : {T : Type 0} (result : Result T SumcheckError) (points : T → List ℕ) (s s' : Setting) (t t' u u' : Standing) → s ≡ s' → t ≡ t' → u ≡ u' →
-    IfOk result (λ point. IsPlayed s t u (points point)) → IfOk result (λ point. IsPlayed s' t' u' (points point))
-played_at_names (Ok x) points s s' t t' u u' es et eu p = rw (← es, ← et, ← eu) p
-played_at_names (Err e) points s s' t t' u u' es et eu p = tt
+pub never_begun : {X : Type 0} (result : Result X SumcheckError) (challenges : X → List ℕ) (unbegun : Type 0) (s : Setting) (t u : Standing) (n : ℕ) →
+    IsErrAnd result (λ e. e ≡ NoMemory) → unbegun → MovesBatch challenges unbegun s t u n result
+never_begun (Ok x) challenges unbegun s t u n memory none = elim memory [ ]
+never_begun (Err e) challenges unbegun s t u n memory none = rw memory (inl none)
 
 -- no challenge yet, by another name
 pub as_none : (s : Setting) (t : Standing) (rs : List ℕ) → rs ≡ [] → IsPlayed s t t [] → IsPlayed s t t rs

@@ -1,10 +1,10 @@
 -- Where rounds on a pair of tables stand, and what is left where they are refused.
-use Rattle.std.specs.Prelude.{◌≡◌, ◌⊎◌, ℕ, ◌+◌, ◌<◌, List, map}
+use Rattle.std.specs.Prelude.{◌≡◌, ◌⊎◌, ℕ, ◌+◌, ◌<◌, List, map, Result, Ok, Err}
 use Rattle.sc_definitions.specs.declared.events.Event.{Event}
 use Rattle.sc_definitions.specs.Ring.{Ops}
 use Rattle.sc_definitions.specs.Tables.{evaluation}
 use Rattle.sc_definitions.specs.Channels.{Channel, Wire}
-use Rattle.sc_definitions.specs.Standings.{Setting, Standing, IsPlayedInPart, IsRoundWithoutWitness, IsPlayedWithoutWitness}
+use Rattle.sc_definitions.specs.Standings.{Setting, Standing, IsRound, IsPlayed, IsPlayedInPart, IsRoundWithoutWitness, IsPlayedWithoutWitness}
 use Rattle.sc_transcript.specs.declared.error.SumcheckError.{SumcheckError}
 use Rattle.sc_transcript.specs.declared.error.SumcheckError.TheVariants.{NoWitness, NoMemory}
 use Rattle.sc_rounds.specs.declared.product_polynomial.ProductPolynomial.{ProductPolynomial}
@@ -43,3 +43,13 @@ abbrev pub IsBatchStopped : Type 0 → Setting → Standing → Standing → ℕ
 IsBatchStopped unbegun s before after rounds NoMemory = unbegun ⊎ IsPlayedInPart s before after
 IsBatchStopped unbegun s before after rounds (NoWitness i) = (i < rounds) × (after.variables + i ≡ before.variables) × IsPlayedWithoutWitness s before after
 IsBatchStopped unbegun s before after rounds e = ⊥
+
+-- what round i leaves, by its result
+abbrev pub Moves : {X : Type 0} → (X → ℕ) → Setting → Standing → Standing → ℕ → Result X SumcheckError → Type 0
+Moves number s before after i (Ok r) = IsRound s before after (number r)
+Moves number s before after i (Err e) = IsHalted s before after i e
+
+-- what a batch of so many rounds leaves, by its result
+abbrev pub MovesBatch : {X : Type 0} → (X → List ℕ) → Type 0 → Setting → Standing → Standing → ℕ → Result X SumcheckError → Type 0
+MovesBatch challenges unbegun s before after rounds (Ok x) = IsPlayed s before after (challenges x)
+MovesBatch challenges unbegun s before after rounds (Err e) = IsBatchStopped unbegun s before after rounds e

@@ -29,11 +29,11 @@ pub struct ProductPolynomial<F, EF> {
 
 impl<F: Field, EF: ExtensionField<F>> ProductPolynomial<F, EF> {
     ghost use Rattle.sc_definitions.specs.Channels.{channel};
-    ghost use Rattle.sc_definitions.specs.Standings.{IsRound, IsPlayed};
+    ghost use Rattle.sc_definitions.specs.Standings.{IsPlayed};
     ghost use Rattle.sc_transcript.specs.Data.{wire_in, spare_in};
     ghost use Rattle.sc_transcript.specs.Drivers.{driver_in, channel_of, Continues, HasRoundLeft, IsDone, HasRoom, TakesRoom};
     ghost use Rattle.sc_rounds.specs.Products.{variables_in, order_in, evals_in, weights_in, sum_in};
-    ghost use Rattle.sc_rounds.specs.Standings.{setting_in, standing_in, IsHalted, IsStopped, IsBatchStopped};
+    ghost use Rattle.sc_rounds.specs.Standings.{setting_in, standing_in, Moves, IsStopped, MovesBatch};
     ghost use Rattle.sc_rounds.specs.Batches.{IsUnbegun};
 
     /// The pair of these tables, which have as many variables.
@@ -187,12 +187,9 @@ impl<F: Field, EF: ExtensionField<F>> ProductPolynomial<F, EF> {
         ensures order { order_in self.new ≡ order_in self.old }
         ensures sum { EF.number sum.new ≡ sum_in EF.ops EF.number self.new }
         ensures played { OnOk result ((driver_in transcript.new).played ≡ (driver_in transcript.old).played + 1) }
-        ensures round { IfOk result (λ r. IsRound (setting_in (channel_of EF.extension (driver_in transcript.old)) EF.ops self.old)
+        ensures round { Moves EF.number (setting_in (channel_of EF.extension (driver_in transcript.old)) EF.ops self.old)
             (standing_in EF.number self.old sum.old (driver_in transcript.old).history (wire_in F.number EF.number sumcheck_data.old))
-            (standing_in EF.number self.new sum.new (driver_in transcript.new).history (wire_in F.number EF.number sumcheck_data.new)) (EF.number r)) }
-        ensures refused { IfErr result (IsHalted (setting_in (channel_of EF.extension (driver_in transcript.old)) EF.ops self.old)
-            (standing_in EF.number self.old sum.old (driver_in transcript.old).history (wire_in F.number EF.number sumcheck_data.old))
-            (standing_in EF.number self.new sum.new (driver_in transcript.new).history (wire_in F.number EF.number sumcheck_data.new)) (driver_in transcript.old).played) }
+            (standing_in EF.number self.new sum.new (driver_in transcript.new).history (wire_in F.number EF.number sumcheck_data.new)) (driver_in transcript.old).played result }
         ensures not_played { OnErr result ((driver_in transcript.new).played ≡ (driver_in transcript.old).played) }
         ensures kept { OnErr result ((self.new ≡ self.old) × (sum.new ≡ sum.old)) }
         ensures has_room { 1 ≤ spare_in sumcheck_data.old → HasRoom EF.DEGREE (driver_in transcript.old) → result ≢ Err SumcheckError.NoMemory }
@@ -219,12 +216,9 @@ impl<F: Field, EF: ExtensionField<F>> ProductPolynomial<F, EF> {
         ensures order { order_in self.new ≡ order_in self.old }
         ensures sum { EF.number sum.new ≡ sum_in EF.ops EF.number self.new }
         ensures played { OnOk result ((driver_in transcript.new).played ≡ (driver_in transcript.old).played + 1) }
-        ensures round { IfOk result (λ r. IsRound (setting_in (channel_of EG.extension (driver_in transcript.old)) EG.ops self.old)
+        ensures round { Moves EG.number (setting_in (channel_of EG.extension (driver_in transcript.old)) EG.ops self.old)
             (standing_in (λ x. EF.to_number (EF.number x)) self.old sum.old (driver_in transcript.old).history (wire_in G.number EG.number sumcheck_data.old))
-            (standing_in (λ x. EF.to_number (EF.number x)) self.new sum.new (driver_in transcript.new).history (wire_in G.number EG.number sumcheck_data.new)) (EG.number r)) }
-        ensures refused { IfErr result (IsHalted (setting_in (channel_of EG.extension (driver_in transcript.old)) EG.ops self.old)
-            (standing_in (λ x. EF.to_number (EF.number x)) self.old sum.old (driver_in transcript.old).history (wire_in G.number EG.number sumcheck_data.old))
-            (standing_in (λ x. EF.to_number (EF.number x)) self.new sum.new (driver_in transcript.new).history (wire_in G.number EG.number sumcheck_data.new)) (driver_in transcript.old).played) }
+            (standing_in (λ x. EF.to_number (EF.number x)) self.new sum.new (driver_in transcript.new).history (wire_in G.number EG.number sumcheck_data.new)) (driver_in transcript.old).played result }
         ensures not_played { OnErr result ((driver_in transcript.new).played ≡ (driver_in transcript.old).played) }
         ensures kept { OnErr result ((self.new ≡ self.old) × (sum.new ≡ sum.old)) }
         ensures has_room { 1 ≤ spare_in sumcheck_data.old → HasRoom EG.DEGREE (driver_in transcript.old) → result ≢ Err SumcheckError.NoMemory }
@@ -305,13 +299,10 @@ impl<F: Field, EF: ExtensionField<F>> ProductPolynomial<F, EF> {
         ensures sum { EF.number sum.new ≡ sum_in EF.ops EF.number self.new }
         ensures fewer { OnOk result (variables_in self.new + shape.num_rounds ≡ variables_in self.old) }
         ensures left { variables_in self.old ≤ variables_in self.new + shape.num_rounds }
-        ensures played { IfOk result (λ point. IsPlayed (setting_in (channel (C.rules challenger.old) EG.extension G.ops.size shape.pow_bits) EG.ops self.old)
-            (standing_in (λ x. EF.to_number (EF.number x)) self.old sum.old (C.history challenger.old ++ words (seed_of EG.DEGREE shape)) (wire_in G.number EG.number sumcheck_data.old))
-            (standing_in (λ x. EF.to_number (EF.number x)) self.new sum.new (C.history challenger.new) (wire_in G.number EG.number sumcheck_data.new)) (map EG.number point)) }
-        ensures stopped { IfErr result (IsBatchStopped (IsUnbegun self.old self.new sum.old sum.new (C.history challenger.old) (C.history challenger.new) sumcheck_data.old sumcheck_data.new)
+        ensures batch { MovesBatch (map EG.number) (IsUnbegun self.old self.new sum.old sum.new (C.history challenger.old) (C.history challenger.new) sumcheck_data.old sumcheck_data.new)
             (setting_in (channel (C.rules challenger.old) EG.extension G.ops.size shape.pow_bits) EG.ops self.old)
             (standing_in (λ x. EF.to_number (EF.number x)) self.old sum.old (C.history challenger.old ++ words (seed_of EG.DEGREE shape)) (wire_in G.number EG.number sumcheck_data.old))
-            (standing_in (λ x. EF.to_number (EF.number x)) self.new sum.new (C.history challenger.new) (wire_in G.number EG.number sumcheck_data.new)) shape.num_rounds) }
+            (standing_in (λ x. EF.to_number (EF.number x)) self.new sum.new (C.history challenger.new) (wire_in G.number EG.number sumcheck_data.new)) shape.num_rounds result }
     {
         let mut challenges = with_room(alloc, shape.num_rounds)?;
         shape.seed::<G, EG, C>(alloc, challenger)?;

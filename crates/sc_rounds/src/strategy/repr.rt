@@ -30,9 +30,8 @@ pub struct ReprSumcheckProver<F: Field, EF: ExtensionField<F>, R: IntoTranscript
 }
 
 impl<F: Field, EF: ExtensionField<F>, R: IntoTranscriptField<EF>> ReprSumcheckProver<F, EF, R> {
-    ghost use Rattle.sc_definitions.specs.Standings.{IsPlayed};
     ghost use Rattle.sc_rounds.specs.Products.{variables_in, order_in, evals_in, weights_in};
-    ghost use Rattle.sc_rounds.specs.Standings.{IsBatchStopped};
+    ghost use Rattle.sc_rounds.specs.Standings.{MovesBatch};
     ghost use Rattle.sc_rounds.specs.ProverViews.{image_setting_of, image_standing_of};
     ghost use Rattle.sc_rounds.specs.Represented.{TablesAgree};
 
@@ -139,14 +138,11 @@ impl<F: Field, EF: ExtensionField<F>, R: IntoTranscriptField<EF>> ReprSumcheckPr
         ensures rules { C.rules challenger.new ≡ C.rules challenger.old }
         ensures order { order_in self.new.poly ≡ order_in self.old.poly }
         ensures fewer { OnOk result (variables_in self.new.poly + folding_factor ≡ variables_in self.old.poly) }
-        ensures batch { IfOk result (λ point. IsPlayed (image_setting_of self.old (C.rules challenger.old) pow_bits)
-            (image_standing_of self.old sumcheck_data.old (C.history challenger.old ++ words (quadratic_seed EF.DEGREE evaluation pow_bits folding_factor)))
-            (image_standing_of self.new sumcheck_data.new (C.history challenger.new)) (map EF.number point)) }
-        ensures stopped { IfErr result (IsBatchStopped
+        ensures batch { MovesBatch (map EF.number)
             (image_standing_of self.new sumcheck_data.new (C.history challenger.new) ≡ image_standing_of self.old sumcheck_data.old (C.history challenger.old))
             (image_setting_of self.old (C.rules challenger.old) pow_bits)
             (image_standing_of self.old sumcheck_data.old (C.history challenger.old ++ words (quadratic_seed EF.DEGREE evaluation pow_bits folding_factor)))
-            (image_standing_of self.new sumcheck_data.new (C.history challenger.new)) folding_factor) }
+            (image_standing_of self.new sumcheck_data.new (C.history challenger.new)) folding_factor result }
         ensures left { variables_in self.old.poly ≤ variables_in self.new.poly + folding_factor }
     {
         let shape = SumcheckShape::new(folding_factor, pow_bits, Basis::Evaluation);

@@ -65,14 +65,14 @@ returns-in-Err-clause-no_witness g c = λ i e.
     let count = c.num_variables.ensures in
     let seed : words (quadratic_seed g.EF.ExtensionField.DEGREE evaluation bits c.num_variables.result) ≡ words (quadratic_seed E.degree evaluation bits n) =
     ap (λ d. words (quadratic_seed d evaluation bits c.num_variables.result)) (sym g.met.EF.ExtensionField.degree_is) ∙ ap (λ k. words (quadratic_seed E.degree evaluation bits k)) count in
-    elim (stopped_for {T = ℕ} (Err c.in-Err.error) _ _ _ _ _ c.in-Err.ensures.stopped) [
+    elim (stopped_for {T = ℕ} (Err c.in-Err.error) _ _ _ _ _ c.in-Err.ensures.batch) [
       | inl memory ↦ absurd (unlike i (sym (c.refusal.ensures ∙ ap refusal_by (same_error _ _ _ refl memory)) ∙ same_error _ _ _ refl e))
       | inr unfound ↦
           let named = finds_none_is _ unfound in
           let error_is : c.in-Err.error ≡ NoWitness named.0 = same_error _ _ _ refl named.1 in
           let told = c.refusal.ensures ∙ ap refusal_by error_is in
           let same : named.0 ≡ i = same_round _ _ (sym told ∙ same_error _ _ _ refl e) in
-          let stopped = without_witness {T = ℕ} c.in-Err.error named.0 _ _ _ _ _ c.in-Err.ensures.stopped named.1 in
+          let stopped = without_witness {T = ℕ} c.in-Err.error named.0 _ _ _ _ _ c.in-Err.ensures.batch named.1 in
           let end = c.compute_sumcheck_polynomials.new.self.poly in
           let some : variables_in end ≡ suc (variables_in end - 1) = omega (arith, stopped.0, stopped.1, count, c.in_ok-prover.ensures.variables) in
           let fails = failed_batch (order_in poly) (order_in poly) o ring _ E g.F.Field.ops.size bits bits _ _ _ _ _ _ _ refl refl refl refl refl (λ b below. refl) (λ b below. refl) (variables_in end - 1) some stopped.2 in

@@ -70,7 +70,7 @@ returns-in_err-replayed-clause-causes g c =
 
 -- the prover's refusal is one of a batch's
 pub returns-in_err-drawn-clause-causes : goal.returns-in_err-drawn-clause-causes
-returns-in_err-drawn-clause-causes g c = passed_on _ _ _ _ _ _ _ c.from_residual.ensures.1 c.in_err-drawn.ensures.stopped
+returns-in_err-drawn-clause-causes g c = passed_on _ _ _ _ _ _ _ c.from_residual.ensures.1 c.in_err-drawn.ensures.batch
 
 -- the prover's call asks for what the caller gives
 pub compute_sumcheck_polynomials-requires-clause-variables : goal.compute_sumcheck_polynomials-requires-clause-variables

@@ -99,5 +99,5 @@ returns-in-Err g c =
       begun = less_at _ _ _ _ (round.not_played ∙ inv.played) c.loop-round-test.true (ap (λ (s : SumcheckShape). s.num_rounds) (c.shape-round-end.ensures ∙ sym inv.continues.shape ∙ sym round.continues.shape));
       stopped = stops _ _ _ _ _ _ _ _ c.in-Err.error
           (same_setting _ _ _ _ _ (same_channel _ _ _ g.G.Field.ops.size _ _ inv.continues.rules (ap (λ (s : SumcheckShape). s.pow_bits) inv.continues.shape)) inv.order)
-          (sym round.not_played) inv.batch round.refused;
+          (sym round.not_played) inv.batch round.round;
     }

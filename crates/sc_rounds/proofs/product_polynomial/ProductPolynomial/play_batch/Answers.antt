@@ -4,11 +4,11 @@ use Rattle.sc_transcript.specs.Data.{wire_in}
 use Rattle.sc_transcript.proofs.ReplayedLaws.{same_channel}
 use Rattle.sc_transcript.proofs.Lent.{returned}
 use Rattle.sc_rounds.specs.Standings.{standing_in}
-use Rattle.sc_rounds.proofs.BatchLaws.{same_setting, played_at, stops_batch, bound_at_most, as_many, sum_at}
+use Rattle.sc_rounds.proofs.BatchLaws.{same_setting, played_at, stops_batch, never_begun, bound_at_most, as_many, sum_at}
 use Rattle.sc_rounds.proofs.product_polynomial.ProductPolynomial.play_batch.Goals as goal
 
-pub returns-in-Ok-clause-played : goal.returns-in-Ok-clause-played
-returns-in-Ok-clause-played g c =
+pub returns-in-Ok-clause-batch : goal.returns-in-Ok-clause-batch
+returns-in-Ok-clause-batch g c =
     let T : g.row.EF.Denot → ℕ = λ x. g.EF.FromTable.to_number (g.EF.Field.number x) in
     let H = g.C.Challenger.history in
     let R = g.C.Challenger.rules in
@@ -20,8 +20,8 @@ returns-in-Ok-clause-played g c =
     (ap (λ h. standing_in T c.play.new.self c.play.new.sum h (W c.play.new.sumcheck_data)) (sym (ap H (returned _ _ _ _ _ _ (search rules) c.in-Ok.ensures.continues.lender begun.lent.lender c.finish.ensures))))
     (ap (map g.EG.Field.number) (sym c.new.ensures)) c.in-Ok.ensures.played
 
-pub returns-in-Err-clause-stopped : goal.returns-in-Err-clause-stopped
-returns-in-Err-clause-stopped g c =
+pub returns-in-Err-clause-batch : goal.returns-in-Err-clause-batch
+returns-in-Err-clause-batch g c =
     let T : g.row.EF.Denot → ℕ = λ x. g.EF.FromTable.to_number (g.EF.Field.number x) in
     let H = g.C.Challenger.history in
     let R = g.C.Challenger.rules in
@@ -58,3 +58,11 @@ returns-in-Err-clause-rules g c =
     let begun = c.over-transcript.ensures in
     ap g.C.Challenger.rules (returned _ _ _ _ _ _ (search rules) c.in-Err.ensures.continues.lender begun.lent.lender c.abort.ensures) ∙ c.in-Err.ensures.continues.rules
     ∙ ap g.C.Challenger.rules begun.lent.same ∙ c.in_ok-seed.ensures.rules
+
+-- without memory for the challenges or the seed nothing has begun
+pub returns-in_err-challenges-clause-batch : goal.returns-in_err-challenges-clause-batch
+returns-in_err-challenges-clause-batch g c = never_begun _ _ _ _ _ _ _ c.from_residual.ensures.1 (record { tables = refl; claim = refl; history = refl; appended = refl })
+
+pub returns-in_err-seed-clause-batch : goal.returns-in_err-seed-clause-batch
+returns-in_err-seed-clause-batch g c =
+    never_begun _ _ _ _ _ _ _ c.from_residual-in_err-seed.ensures.1 (record { tables = refl; claim = refl; history = c.in_err-seed.ensures.err; appended = refl })

@@ -64,9 +64,9 @@ returns-clause-sum g c =
     subst P same (c.fix_var-2.ensures.bound k)) low)
     c.reduce_claim.ensures
 
-pub returns-in-Err-clause-refused : goal.returns-in-Err-clause-refused
+pub returns-in-Err-clause-round : goal.returns-in-Err-clause-round
 unfolding entries rows_of
-returns-in-Err-clause-refused g c =
+returns-in-Err-clause-round g c =
     let a = g.EF.Field.ops in let b = g.EG.Field.ops in
     let ra = g.met.EF.Field.is_field.ring in let rb = g.met.EG.Field.is_field.ring in
     let N = g.EF.Field.number in
