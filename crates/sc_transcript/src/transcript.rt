@@ -193,7 +193,7 @@ fn append_witness<F: Field, C: Challenger<F>>(
 }
 
 // What a witness that came is.
-#[derive(Clone, Copy, Debug, PartialEq, Eq)]
+#[derive(Clone, Copy)]
 enum Tested {
     // It passes, or there is no difficulty.
     Passes,

@@ -2,6 +2,8 @@
 ghost use Rattle.std.specs.Prelude.{◌≡◌, ◌+◌, ◌<◌, ◌≤◌, OnOk};
 ghost use Rattle.sc_transcript.specs.Drivers.{driver_in, Continues, HasRoundsLeft};
 
+mod shapes;
+
 use sc_challenger::{Challenger, Event, ScriptedChallenger};
 use sc_field::{ExtensionField, F65537, Field, NoMemory};
 use sc_table::{Basis, Point, RoundMessage};

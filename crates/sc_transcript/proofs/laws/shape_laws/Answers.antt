@@ -1,5 +1,5 @@
 use Rattle.sc_transcript.proofs.SeedLaws.{shape-same}
 use Rattle.sc_transcript.proofs.laws.shape_laws.Goals as goal
 
-pub returns : goal.returns
-returns c = record { seeds = shape-same }
+pub returns-clause-seeds : goal.returns-clause-seeds
+returns-clause-seeds c = shape-same
