@@ -23,3 +23,4 @@ pub mod ReplayLaws
 pub mod Lengths
 pub mod StandingLaws
 pub mod SameTables
+pub mod HonestRounds

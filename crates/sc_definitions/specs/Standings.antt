@@ -3,7 +3,7 @@ use Rattle.std.specs.Prelude.{◌≡◌, ℕ, zero, suc, ◌+◌, ◌^◌, List,
 use Rattle.std.specs.List.{range_with_len}
 use Rattle.sc_definitions.specs.declared.events.Event.{Event}
 use Rattle.sc_definitions.specs.Ring.{Ops}
-use Rattle.sc_definitions.specs.Tables.{Basis, Order, rows_of, inner, bound_in, bound_by}
+use Rattle.sc_definitions.specs.Tables.{Basis, Order, rows_of, inner, value_in, placed, bound_in, bound_by}
 use Rattle.sc_definitions.specs.Messages.{message_of}
 use Rattle.sc_definitions.specs.Rounds.{honest_pair, next_claim, claim_along}
 use Rattle.sc_definitions.specs.Transcript.{Round, messages_of, rounds_events, challenges, IsBuilt}
@@ -49,6 +49,10 @@ half_rows (suc m) = 2 ^ m
 abbrev pub message_in : Setting → Standing → List ℕ
 message_in s t = message_of s.basis s.order s.ops (half_rows t.variables) (rows_of t.evals) (rows_of t.weights)
 
+-- what an honest round sends after the challenges rs, with m variables behind it
+abbrev pub honest_in : Setting → Standing → List ℕ → ℕ → List ℕ
+honest_in s t = honest_pair s.basis s.order s.ops (rows_of t.evals) (rows_of t.weights)
+
 -- A round with the challenge r: the message of the tables is sent with the first witness and put on the wire, both tables are bound at r, and the claim
 -- is the sent polynomial's value there.
 pub record IsRound (s : Setting) (before after : Standing) (r : ℕ) : Type 0 where
@@ -61,16 +65,21 @@ pub record IsRound (s : Setting) (before after : Standing) (r : ℕ) : Type 0 wh
   pub weights : after.weights ≡ entries_of after.variables (bound_in s.basis s.order s.ops after.variables r (rows_of before.weights))
   pub claim : after.claim ≡ next_claim s.basis s.ops before.claim round.values r
 
+-- A round as the tables before it tell it: what it puts on the wire is the honest pair, and the value of a table after it at the other coordinates is the
+-- value before it with the challenge placed.
+pub record IsHonestRound (s : Setting) (before after : Standing) (r : ℕ) : Type 0 where
+  pub message : after.wire.messages ≡ before.wire.messages ++ honest_in s before [] after.variables ∷ []
+  pub evals : (zs : List ℕ) → length zs ≡ after.variables →
+      value_in s.basis s.ops (rows_of after.evals) zs ≡ value_in s.basis s.ops (rows_of before.evals) (placed s.order (r ∷ []) zs)
+  pub weights : (zs : List ℕ) → length zs ≡ after.variables →
+      value_in s.basis s.ops (rows_of after.weights) zs ≡ value_in s.basis s.ops (rows_of before.weights) (placed s.order (r ∷ []) zs)
+
 -- A round for which no witness was found: the history ends with its message, and all else stays.
 pub record IsRoundWithoutWitness (s : Setting) (before after : Standing) : Type 0 where
   pub none : NoWitnessFound s.channel before.history (message_in s before) after.history
   pub kept : after ≡ record before { history = after.history }
 
 -- ---- a batch of rounds
-
--- what an honest round sends after the challenges rs, with m variables behind it
-abbrev pub honest_in : Setting → Standing → List ℕ → ℕ → List ℕ
-honest_in s t = honest_pair s.basis s.order s.ops (rows_of t.evals) (rows_of t.weights)
 
 -- Rounds with the challenges rs: they are built of the tables before them and put on the wire, both tables are bound at rs, and the claim is folded
 -- along them.

@@ -7,15 +7,16 @@ use Rattle.sc_definitions.specs.Rounds.{next_claim, claim_along}
 use Rattle.sc_definitions.specs.Events.{Rules, Extension}
 use Rattle.sc_definitions.specs.Transcript.{Round, round_of, messages_of, round_events, rounds_events, challenge, HasFirstWitness, IsBuilt}
 use Rattle.sc_definitions.specs.Replays.{round_passes, AllPass, given_rounds, IsInvalidAt}
-use Rattle.sc_definitions.specs.Channels.{Channel, Wire, empty_wire, with_rounds, Footing, IsReplayed, FailsAt}
+use Rattle.sc_definitions.specs.Channels.{Channel, Wire, empty_wire, with_rounds, Footing, IsReplayed, IsReplayedInPart, FailsAt}
 use Rattle.sc_definitions.specs.Standings.{Setting, Standing, footing_of, IsPlayed}
 use Rattle.sc_definitions.proofs.BuiltLaws.{length-messages}
 use Rattle.sc_transcript.specs.declared.error.SumcheckError.{SumcheckError}
-use Rattle.sc_transcript.specs.declared.error.SumcheckError.TheVariants.{RoundCountMismatch, MissingSumcheckData, InvalidPowWitness, MissingPowWitness, PowWitnessCountMismatch, WireSizeMismatch, EvenCharacteristic, MaskTooShort, NoRounds, OpeningShapeMismatch, NoWitness, NoMemory}
-use Rattle.sc_transcript.specs.Invalid.{IsInvalid, FindsNone}
+use Rattle.sc_transcript.specs.declared.error.SumcheckError.TheVariants.{RoundCountMismatch, InvalidPowWitness, PowWitnessCountMismatch, NoWitness, NoMemory}
+use Rattle.sc_transcript.specs.Invalid.{FindsNone}
+use Rattle.sc_transcript.specs.Replayed.{LeavesReplay}
 use Rattle.sc_transcript.specs.Data.{witness_count, witnesses_of}
-use Rattle.sc_rounds.specs.Laws.{rounds_on}
-use Rattle.sc_rounds.specs.Standings.{IsBatchStopped}
+use Rattle.sc_rounds.specs.Laws.{rounds_on, ReplaysInPart}
+use Rattle.sc_rounds.specs.Standings.{IsBatchStopped, MovesBatch}
 
 -- ---- the rounds of what was appended
 
@@ -48,22 +49,6 @@ count_witnesses (suc bits) rounds =
     ∙ sym (ap (λ b. if b then 0 else length rounds) (ne_eqb (suc bits) 0 (λ e. absurd (omega (arith, e)))))
 
 -- ---- no witness of a built round fails
-
--- the refusal for a witness names a round and a difficulty
-pub invalid_is : {T : Type 0} (r : Result T SumcheckError) → IsInvalid r → (i : ℕ) × (d : ℕ) × (r ≡ Err (InvalidPowWitness i d))
-invalid_is (Ok x) p = absurd p
-invalid_is (Err (InvalidPowWitness i d)) p = (i, d, refl)
-invalid_is (Err (RoundCountMismatch a b)) p = absurd p
-invalid_is (Err (MissingSumcheckData a)) p = absurd p
-invalid_is (Err (MissingPowWitness a b)) p = absurd p
-invalid_is (Err (PowWitnessCountMismatch a b)) p = absurd p
-invalid_is (Err (WireSizeMismatch a b c)) p = absurd p
-invalid_is (Err EvenCharacteristic) p = absurd p
-invalid_is (Err (MaskTooShort a)) p = absurd p
-invalid_is (Err NoRounds) p = absurd p
-invalid_is (Err (OpeningShapeMismatch a b c d e)) p = absurd p
-invalid_is (Err (NoWitness a)) p = absurd p
-invalid_is (Err NoMemory) p = absurd p
 
 passes_first : (R : Rules) (E : Extension) (bits : ℕ) (h : List Event) (r : Round) → HasFirstWitness R E bits h r → round_passes R E bits h r ≡ true
 unfolding HasFirstWitness round_passes
@@ -98,18 +83,28 @@ none_failing next honest R E bits h n claim given rounds same built i hv c inval
     ap (λ t. round_passes R E bits t there.round) there.replays.history ∙ passes_at honest R E bits h [] n rounds i there.round built there.is in
     let clash : true ≡ false = sym passes ∙ there.fails in cc
 
--- a result that is the want of memory
-pub out_of_memory : {T : Type 0} (r : Result T SumcheckError) → IsErrAnd r (λ e. e ≡ NoMemory) → OnErr r ((r ≡ Err NoMemory) ⊎ FindsNone r)
-out_of_memory (Ok x) is = tt
-out_of_memory (Err e) is = inl (ap Err is)
-
 -- a batch's refusal that is passed on
-pub passed_on : {T : Type 0} (r : Result T SumcheckError) (e : SumcheckError) (unbegun : Type 0) (s : Setting) (t u : Standing) (n : ℕ) →
-    IsErrAnd r (λ x. x ≡ e) → IsBatchStopped unbegun s t u n e → OnErr r ((r ≡ Err NoMemory) ⊎ FindsNone r)
-passed_on (Ok x) e unbegun s t u n is why = tt
-passed_on (Err x) NoMemory unbegun s t u n is why = inl (ap Err is)
-passed_on (Err x) (NoWitness i) unbegun s t u n is why = inr (rw is tt)
-passed_on (Err x) e unbegun s t u n is why = absurd why
+pub passed_on : {X : Type 0} (number : X → List ℕ) (r : Result X SumcheckError) (e : SumcheckError) (unbegun : Type 0) (s : Setting) (t u : Standing) (n : ℕ) →
+    IsErrAnd r (λ x. x ≡ e) → IsBatchStopped unbegun s t u n e → MovesBatch number unbegun s t u n r
+passed_on number (Ok x) e unbegun s t u n is why = absurd is
+passed_on number (Err x) e unbegun s t u n is why = subst (λ y. IsBatchStopped unbegun s t u n y) (sym is) why
+
+-- what a batch is refused with
+pub refused_with : {X : Type 0} (number : X → List ℕ) (r : Result X SumcheckError) (unbegun : Type 0) (s : Setting) (t u : Standing) (n : ℕ) →
+    MovesBatch number unbegun s t u n r → OnErr r ((r ≡ Err NoMemory) ⊎ FindsNone r)
+refused_with number (Ok x) unbegun s t u n why = tt
+refused_with number (Err NoMemory) unbegun s t u n why = inl refl
+refused_with number (Err (NoWitness i)) unbegun s t u n why = inr tt
+refused_with number (Err e) unbegun s t u n why = absurd why
+
+-- the want of memory is no want of a witness
+pub finds_memory : {X : Type 0} (r : Result X SumcheckError) → IsErrAnd r (λ x. x ≡ NoMemory) → FindsNone r → ⊥
+finds_memory (Ok x) is none = none
+finds_memory {X = X} (Err e) is none = (let P : SumcheckError → Type 0 = λ x. FindsNone {T = X} (Err x) in subst P is none)
+
+pub whatever_err : {X E : Type 0} (P : Type 0) (r : Result X E) → P → OnErr r P
+whatever_err P (Ok x) p = tt
+whatever_err P (Err e) p = p
 
 -- ---- both sides
 
@@ -168,3 +163,24 @@ module _ (s : Setting) (t u : Standing) (rs : List ℕ) (c : Channel) (start : F
       (subst (λ f. FailsAt (next_claim s.basis s.ops) s.channel f end played.rounds i) begun
       (subst (λ k. FailsAt (next_claim s.basis s.ops) k start end played.rounds i) same
       (subst (λ given. FailsAt (next_claim s.basis s.ops) c start end given i) rounds_given invalid)))
+
+  -- where it ends in part
+  in_part : (end : Footing) → IsReplayedInPart (next_claim s.basis s.ops) c start end (rounds_on u.wire) → ReplaysInPart s t u.wire end.history
+  in_part end part = record {
+    claim = end.claim;
+    part = subst (λ f. IsReplayedInPart (next_claim s.basis s.ops) s.channel f end (rounds_on u.wire)) begun
+        (subst (λ k. IsReplayedInPart (next_claim s.basis s.ops) k start end (rounds_on u.wire)) same part);
+  }
+
+  -- a replay of it is refused for want of memory alone
+  pub wants_memory : {X : Type 0} (number : X → ℕ) (history claim : Type 0) (k came found : ℕ) (e : SumcheckError) (end : Footing) →
+      came ≡ k → found ≡ witness_count c.bits k →
+      LeavesReplay number (history × claim)
+      (record { next = next_claim s.basis s.ops; channel = c; start = start; rounds = rounds_on u.wire; expected = k; came = came; witnesses = found }) (Err e) end →
+      (e ≡ NoMemory) × (history ⊎ ReplaysInPart s t u.wire end.history)
+  wants_memory number history claim k came found NoMemory end counted witnessed left =
+      (refl, elim left.1 [ inl none ↦ inl none.0 | inr part ↦ inr (in_part end part) ])
+  wants_memory number history claim k came found (InvalidPowWitness i bits) end counted witnessed left = absurd (none_invalid i end left.2)
+  wants_memory number history claim k came found (RoundCountMismatch n m) end counted witnessed left = absurd (left.2 counted)
+  wants_memory number history claim k came found (PowWitnessCountMismatch n m) end counted witnessed left = absurd (left.3 witnessed)
+  wants_memory number history claim k came found e end counted witnessed left = absurd left

@@ -1,24 +1,25 @@
 -- One round on a pair of tables, from what its calls answer.
-use Rattle.std.proofs.Common.{◌≡◌, ℕ, zero, suc, ◌+◌, ◌-◌, ◌*◌, ◌/◌, ◌%◌, ◌^◌, ◌<◌, List, [], ◌∷◌, length, map, ap, sym, ◌∙◌, subst, arith}
+use Rattle.std.proofs.Common.{◌≡◌, ℕ, zero, suc, ◌+◌, ◌-◌, ◌*◌, ◌/◌, ◌%◌, ◌^◌, ◌<◌, List, [], ◌∷◌, length, map, ap, sym, ◌∙◌, subst, arith, Result, Ok, Err, IfOk}
 use Rattle.std.proofs.Math.Nat.{pow-suc}
 use Rattle.std.proofs.lemmas.List.{length-map}
 use Rattle.std.proofs.lemmas.Grind.{same_number_lists}
 use Rattle.sc_definitions.specs.Ring.{Ops, IsRing, times}
-use Rattle.sc_definitions.specs.Tables.{evaluation, Order, entries, rows_of, sum_below, inner, bound_in}
+use Rattle.sc_definitions.specs.Tables.{evaluation, Order, IsOffered, entries, rows_of, sum_below, inner, bound_in}
 use Rattle.sc_definitions.specs.Messages.{message_first, message_leading, message_of}
 use Rattle.sc_definitions.specs.Rounds.{next_claim}
 use Rattle.sc_definitions.specs.Transcript.{round_of}
 use Rattle.sc_definitions.specs.Channels.{IsSent, NoWitnessFound, with_rounds}
-use Rattle.sc_definitions.specs.Standings.{Setting, Standing, half_rows, message_in, IsRound}
+use Rattle.sc_definitions.specs.Standings.{Setting, Standing, half_rows, message_in, IsRound, IsHonestRound}
 use Rattle.sc_definitions.proofs.Sums.{sum-same}
 use Rattle.sc_definitions.proofs.MessageLaws.{inner-bound_in}
 use Rattle.sc_definitions.proofs.StandingLaws.{IsSized, entries-is}
+use Rattle.sc_definitions.proofs.HonestRounds.{honest-round}
 use Rattle.sc_transcript.specs.declared.error.SumcheckError.{SumcheckError}
 use Rattle.sc_transcript.specs.declared.error.SumcheckError.TheVariants.{NoMemory, NoWitness}
 use Rattle.sc_transcript.specs.Drivers.{IsRefused}
 use Rattle.sc_rounds.specs.declared.product_polynomial.ProductPolynomial.{ProductPolynomial}
 use Rattle.sc_rounds.specs.Products.{variables_in}
-use Rattle.sc_rounds.specs.Standings.{IsHalted}
+use Rattle.sc_rounds.specs.Standings.{IsHalted, Moves}
 
 -- a power of two with a variable left is even
 pub even_power : (n v : ℕ) → 0 < v → n ≡ 2 ^ v → n % 2 ≡ 0
@@ -117,3 +118,9 @@ sum_after order o ring n m f w claim values r f' w' claim' more true_sum message
     ∙ ap (λ c. next_claim evaluation o c (message_of evaluation order o (2 ^ m) f w) r) (true_sum ∙ ap (λ k. inner o k f w) size)
     ∙ sym (inner-bound_in o ring evaluation order tt m f w r)
     ∙ sym (sum-same o (2 ^ m) _ _ (λ b low. ap (λ x. times o x (w' b)) (evals b low) ∙ ap (λ x. times o (bound_in evaluation order o m r f b) x) (weights b low)))
+
+-- a round as the tables before it tell it
+pub moved-honest : {X : Type 0} (number : X → ℕ) (s : Setting) → IsRing s.ops → IsOffered s.basis s.order → (t u : Standing) (i : ℕ) (r : Result X SumcheckError) →
+    Moves number s t u i r → IfOk r (λ x. IsHonestRound s t u (number x))
+moved-honest number s ring offered t u i (Ok x) p = honest-round s ring offered t u (number x) p
+moved-honest number s ring offered t u i (Err e) p = tt

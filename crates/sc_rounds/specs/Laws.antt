@@ -1,9 +1,10 @@
 -- Laws of batches and their replays, in every setting: what a batch has put on an empty wire is replayed.
 use Rattle.std.specs.Prelude.{◌≡◌, ℕ, List}
+use Rattle.sc_definitions.specs.declared.events.Event.{Event}
 use Rattle.sc_definitions.specs.Rounds.{next_claim}
 use Rattle.sc_definitions.specs.Transcript.{Round}
 use Rattle.sc_definitions.specs.Replays.{given_rounds}
-use Rattle.sc_definitions.specs.Channels.{Wire, empty_wire, Footing, IsReplayed, FailsAt}
+use Rattle.sc_definitions.specs.Channels.{Wire, empty_wire, Footing, footing, IsReplayed, IsReplayedInPart, FailsAt}
 use Rattle.sc_definitions.specs.Standings.{Setting, Standing, footing_of, IsPlayed}
 
 -- the rounds of a wire
@@ -28,3 +29,8 @@ abbrev pub NoneIsInvalid : Type 0
 NoneIsInvalid =
     (s : Setting) (before after : Standing) (rs : List ℕ) → before.wire ≡ empty_wire → IsPlayed s before after rs →
     (i : ℕ) (end : Footing) → FailsAt (next_claim s.basis s.ops) s.channel (footing_of before) end (rounds_on after.wire) i → ⊥
+
+-- Some of the rounds on a wire were replayed, from the first on, from where a batch began: this is the history that they leave.
+pub record ReplaysInPart (s : Setting) (before : Standing) (w : Wire) (h : List Event) : Type 0 where
+  pub claim : ℕ
+  pub part : IsReplayedInPart (next_claim s.basis s.ops) s.channel (footing_of before) (footing h claim) (rounds_on w)

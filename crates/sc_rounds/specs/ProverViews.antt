@@ -15,6 +15,7 @@ use Rattle.sc_transcript.specs.Data.{wire_in}
 use Rattle.sc_transcript.specs.declared.data.SumcheckData.{SumcheckData}
 use Rattle.sc_rounds.specs.declared.strategy.SumcheckProver.{SumcheckProver}
 use Rattle.sc_rounds.specs.declared.strategy.repr.ReprSumcheckProver.{ReprSumcheckProver}
+use Rattle.sc_rounds.specs.Products.{variables_in, order_in, evals_in, weights_in}
 use Rattle.sc_rounds.specs.Standings.{setting_in, standing_in}
 use Rattle.sc_rounds.specs.Batches.{weights_with, claim_with}
 
@@ -42,6 +43,15 @@ module _ {F EF R : Type 0} {f : FieldOf F} {p : PartialEqOf F} {x : ExtensionOf 
 
   abbrev pub image_standing_of : ReprSumcheckProver F EF R f p x a e q t r k → SumcheckData F EF → List Event → Standing
   image_standing_of s d h = standing_in (λ y. t.to_number (r.number y)) s.poly s.sum h (wire_in f.number e.number d)
+
+module _ {F EF : Type 0} {f : FieldOf F} {p : PartialEqOf F} {x : ExtensionOf EF F} {a : AlgebraOf EF F} {e : FieldOf EF} {q : PartialEqOf EF} where
+  -- A later prover is as an earlier one to all that ask it: it has the same order, as many variables, the same bound tables and the same claim.
+  pub record ShowsTheSame (before after : SumcheckProver F EF f p x a e q) : Type 0 where
+    pub order : order_in after.poly ≡ order_in before.poly
+    pub variables : variables_in after.poly ≡ variables_in before.poly
+    pub evals : evals_in e.number after.poly ≡ evals_in e.number before.poly
+    pub weights : weights_in e.number after.poly ≡ weights_in e.number before.poly
+    pub claim : e.number after.sum ≡ e.number before.sum
 
 -- A batch that was broken off before its first round: it stands as before, but that what comes first may have been taken in.
 abbrev pub IsUnplayed : Standing → Standing → Standing → Type 0

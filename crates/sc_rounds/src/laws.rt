@@ -4,14 +4,14 @@ ghost use Rattle.sc_definitions.specs.Events.{words};
 ghost use Rattle.sc_definitions.specs.Seeds.{quadratic_seed};
 ghost use Rattle.sc_definitions.specs.Tables.{evaluation};
 ghost use Rattle.sc_definitions.specs.Channels.{empty_wire};
-ghost use Rattle.sc_definitions.specs.Standings.{IsPlayed};
 ghost use Rattle.sc_transcript.specs.Data.{wire_in};
 ghost use Rattle.sc_rounds.specs.Products.{variables_in, order_in, evals_in};
 ghost use Rattle.sc_rounds.specs.Batches.{claim_with};
-ghost use Rattle.sc_rounds.specs.ProverViews.{setting_of, standing_of, standing_with};
+ghost use Rattle.sc_rounds.specs.Standings.{MovesBatch};
+ghost use Rattle.sc_rounds.specs.ProverViews.{setting_of, standing_of, standing_with, IsUnplayed};
 ghost use Rattle.sc_rounds.specs.Provers.{IsTrueIfSome};
 ghost use Rattle.sc_transcript.specs.Invalid.{FindsNone};
-ghost use Rattle.sc_rounds.specs.Laws.{BatchesReplay, ReplaysAgree, NoneIsInvalid};
+ghost use Rattle.sc_rounds.specs.Laws.{BatchesReplay, ReplaysAgree, NoneIsInvalid, ReplaysInPart};
 
 use crate::strategy::SumcheckProver;
 use sc_challenger::Challenger;
@@ -35,8 +35,12 @@ pub fn replay_laws<EF: Field>()
 /// constraint, if there is one, is true as [`SumcheckProver::constraint_is_true`] tests. Both challengers have the same rules and the same history.
 ///
 /// The answers are the prover's challenges, the verifier's, and what the verifier leaves of the claim. The challenges are equal, and so are the
-/// histories after them, and the verifier is left with the prover's claim. The verifier refuses no batch that a prover played: a refusal is the want
-/// of memory, or the prover finds no witness, and then the verifier's challenger is as it was.
+/// histories after them, and the verifier is left with the prover's claim.
+///
+/// The verifier refuses no batch that a prover played: a refusal is the want of memory, or the prover finds no witness. After either the prover, its
+/// data and its challenger are as [`SumcheckProver::compute_sumcheck_polynomials`] leaves them, and where it was the verifier that wanted memory the
+/// whole batch is played. Where no witness was found the verifier's challenger is as it was; after the want of memory it is, or some of the rounds are
+/// replayed on it, from the first on.
 pub fn batch_in_step<F: Field, EF: ExtensionField<F>, C: Challenger<F>>(
     alloc: Global,
     prover: &mut SumcheckProver<F, EF>,
@@ -56,11 +60,18 @@ pub fn batch_in_step<F: Field, EF: ExtensionField<F>, C: Challenger<F>>(
     ensures challenges { IfOk result (λ played. map EF.number played.1 ≡ map EF.number played.0) }
     ensures histories { OnOk result (C.history verifier_challenger.new ≡ C.history prover_challenger.new) }
     ensures claims { IfOk result (λ played. EF.number played.2 ≡ EF.number prover.new.sum) }
-    ensures batch { IfOk result (λ played. IsPlayed (setting_of prover.old (C.rules prover_challenger.old) pow_bits)
+    ensures batch { MovesBatch (λ played. map EF.number played.0)
+        (IsUnplayed (standing_of prover.old sumcheck_data.old (C.history prover_challenger.old)) (standing_with prover.old sumcheck_data.old (C.history prover_challenger.old) constraint)
+        (standing_of prover.new sumcheck_data.new (C.history prover_challenger.new)))
+        (setting_of prover.old (C.rules prover_challenger.old) pow_bits)
         (standing_with prover.old sumcheck_data.old (C.history prover_challenger.old ++ words (quadratic_seed EF.DEGREE evaluation pow_bits folding_factor)) constraint)
-        (standing_of prover.new sumcheck_data.new (C.history prover_challenger.new)) (map EF.number played.0)) }
+        (standing_of prover.new sumcheck_data.new (C.history prover_challenger.new)) folding_factor result }
     ensures causes { OnErr result ((result ≡ Err SumcheckError.NoMemory) ⊎ FindsNone result) }
     ensures not_begun { FindsNone result → C.history verifier_challenger.new ≡ C.history verifier_challenger.old }
+    ensures verifier { OnErr result ((C.history verifier_challenger.new ≡ C.history verifier_challenger.old)
+        ⊎ ReplaysInPart (setting_of prover.old (C.rules prover_challenger.old) pow_bits)
+        (standing_with prover.old sumcheck_data.old (C.history prover_challenger.old ++ words (quadratic_seed EF.DEGREE evaluation pow_bits folding_factor)) constraint)
+        (wire_in F.number EF.number sumcheck_data.new) (C.history verifier_challenger.new)) }
     ensures prover_rules { C.rules prover_challenger.new ≡ C.rules prover_challenger.old }
     ensures verifier_rules { C.rules verifier_challenger.new ≡ C.rules verifier_challenger.old }
     ensures order { order_in prover.new.poly ≡ order_in prover.old.poly }

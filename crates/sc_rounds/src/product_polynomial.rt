@@ -29,7 +29,7 @@ pub struct ProductPolynomial<F, EF> {
 
 impl<F: Field, EF: ExtensionField<F>> ProductPolynomial<F, EF> {
     ghost use Rattle.sc_definitions.specs.Channels.{channel};
-    ghost use Rattle.sc_definitions.specs.Standings.{IsPlayed};
+    ghost use Rattle.sc_definitions.specs.Standings.{IsHonestRound, IsPlayed};
     ghost use Rattle.sc_transcript.specs.Data.{wire_in, spare_in};
     ghost use Rattle.sc_transcript.specs.Drivers.{driver_in, channel_of, Continues, HasRoundLeft, IsDone, HasRoom, TakesRoom};
     ghost use Rattle.sc_rounds.specs.Products.{variables_in, order_in, evals_in, weights_in, sum_in};
@@ -169,8 +169,8 @@ impl<F: Field, EF: ExtensionField<F>> ProductPolynomial<F, EF> {
         dot::<EF, EF>(self.evals.as_slice(), weights)
     }
 
-    /// Plays a round: appends the message of the two tables to the data, binds both at its challenge, and moves the sum to the sent polynomial's value
-    /// there, which is the sum of the bound tables. A variable is left, the transcript has a round left, and `sum` is
+    /// Plays a round: appends the message of the two tables to the data, which is what an honest prover sends of them, binds both at its challenge, and
+    /// moves the sum to the sent polynomial's value there, which is the sum of the bound tables. A variable is left, the transcript has a round left, and `sum` is
     /// [`ProductPolynomial::dot_product`].
     ///
     /// The refusals are those of [`SumcheckData::observe_and_sample`], and leave the pair, the data and the sum as they were.
@@ -190,6 +190,11 @@ impl<F: Field, EF: ExtensionField<F>> ProductPolynomial<F, EF> {
         ensures round { Moves EF.number (setting_in (channel_of EF.extension (driver_in transcript.old)) EF.ops self.old)
             (standing_in EF.number self.old sum.old (driver_in transcript.old).history (wire_in F.number EF.number sumcheck_data.old))
             (standing_in EF.number self.new sum.new (driver_in transcript.new).history (wire_in F.number EF.number sumcheck_data.new)) (driver_in transcript.old).played result }
+
+        // In terms of the tables before it: it sends their honest pair, and the value of a bound table is theirs with the challenge placed.
+        ensures honest { IfOk result (λ r. IsHonestRound (setting_in (channel_of EF.extension (driver_in transcript.old)) EF.ops self.old)
+            (standing_in EF.number self.old sum.old (driver_in transcript.old).history (wire_in F.number EF.number sumcheck_data.old))
+            (standing_in EF.number self.new sum.new (driver_in transcript.new).history (wire_in F.number EF.number sumcheck_data.new)) (EF.number r)) }
         ensures not_played { OnErr result ((driver_in transcript.new).played ≡ (driver_in transcript.old).played) }
         ensures kept { OnErr result ((self.new ≡ self.old) × (sum.new ≡ sum.old)) }
         ensures has_room { 1 ≤ spare_in sumcheck_data.old → HasRoom EF.DEGREE (driver_in transcript.old) → result ≢ Err SumcheckError.NoMemory }

@@ -1,5 +1,7 @@
 //! The prover of a sumcheck.
 ghost use Rattle.std.specs.Prelude.{◌≡◌, ◌↔◌, ◌⊎◌, ℕ, suc, ◌+◌, ◌<◌, ◌≤◌, ◌^◌, ◌++◌, Err, IfOk, IfErr, OnOk, OnErr, IsTrue, length, map};
+ghost use Rattle.std.specs.Borrow.{sem};
+ghost use Rattle.std.specs.Io.BufRead.{Rests};
 ghost use Rattle.sc_definitions.specs.Ring.{plus};
 ghost use Rattle.sc_definitions.specs.Tables.{entries, value, inner};
 ghost use Rattle.sc_definitions.specs.Events.{words};
@@ -36,7 +38,8 @@ impl<F: Field, EF: ExtensionField<F>> SumcheckProver<F, EF> {
     ghost use Rattle.sc_rounds.specs.Products.{variables_in, order_in, evals_in, weights_in};
     ghost use Rattle.sc_rounds.specs.Standings.{MovesBatch};
     ghost use Rattle.sc_rounds.specs.Batches.{weights_with, claim_with};
-    ghost use Rattle.sc_rounds.specs.ProverViews.{setting_of, standing_of, standing_with, IsUnplayed};
+    ghost use Rattle.sc_rounds.specs.ProverViews.{setting_of, standing_of, standing_with, IsUnplayed, ShowsTheSame};
+    ghost use Rattle.sc_rounds.specs.contracts.strategy.SumcheckProver.{the_row};
     ghost use Rattle.sc_rounds.specs.Provers.{IsTrueConstraint, IsTrueIfSome};
 
     /// A prover of a claim that is true, as [`SumcheckProver::sum_is_true`] tests.
@@ -135,8 +138,9 @@ impl<F: Field, EF: ExtensionField<F>> SumcheckProver<F, EF> {
         Ok(SumcheckProver::sum_is_true(&combined, sum))
     }
 
-    /// The bound evaluations, row 0 first.
+    /// The bound evaluations, row 0 first. Once they are given back the prover shows what it showed before.
     pub fn evals_view(&mut self) -> &[EF]
+        ensures* kept { sem 𝓛 (Rests (the_row F.row EF.row _ _ _ _ _ _) self.entry (λ after. ShowsTheSame self.old after)) }
         ensures numbers { entries EF.number result.now ≡ evals_in EF.number self.old.poly }
         ensures size { length result.now ≡ 2 ^ variables_in self.old.poly }
     {

@@ -5,7 +5,7 @@ ghost use Rattle.sc_statements.specs.Constraints.{constraint_arity};
 ghost use Rattle.sc_rounds.specs.Products.{variables_in, evals_in};
 ghost use Rattle.sc_rounds.specs.Provers.{IsTrueIfSome};
 
-use super::{Standing, are_standing, have_numbers, of, pair_of, point};
+use super::{PLAYS, Standing, are_pairs, are_standing, have_numbers, of, pair_of, point};
 use sc_challenger::{Challenger, ScriptedChallenger};
 use sc_field::{ExtensionField, F65537, Field, NoMemory};
 use sc_rounds::{
@@ -441,6 +441,11 @@ fn value_at(
     if at.num_variables() != prover.num_variables() {
         return Ok(None);
     }
+    // A look at the evaluations leaves the number of variables as it was: that is what lets the next call stand here.
+    let rows = prover.evals_view().len();
+    if rows == 0 {
+        return Ok(None);
+    }
     Ok(Some(prover.eval(&at).index()))
 }
 
@@ -490,6 +495,36 @@ fn a_true_constraint_is_taken_in(rt: HostRuntime) {
     prover.settle();
     assert!(rt; stands(rt.alloc(), &mut prover, &BOUND) == Ok(true));
     assert!(rt; value_at(rt.alloc(), &mut prover, &[4]) == Ok(Some(11)));
+}
+
+// In either order each round follows on a look at the evaluations, which is what `stands` ends with.
+#[test]
+fn a_look_at_the_evaluations_changes_nothing(rt: HostRuntime) {
+    for wanted in &PLAYS {
+        let mut prover = prover_of(rt.alloc(), wanted.order, &[0, 1, 0, 0]).expect(
+            &rt,
+            "an answer",
+        );
+        let mut data = SumcheckData::new(rt.alloc());
+        let mut challenger = scripted(rt.alloc()).expect(&rt, "an answer");
+        assert!(rt; have_numbers(prover.evals_view(), &[1, 2, 3, 4]));
+        for (challenge, standing) in wanted.after {
+            let drawn = play(
+                &rt,
+                rt.alloc(),
+                &mut prover,
+                &mut data,
+                &mut challenger,
+                1,
+                0,
+                None,
+            );
+            assert!(rt; have_numbers(drawn.as_slice(), &[*challenge]));
+            assert!(rt; stands(rt.alloc(), &mut prover, standing) == Ok(true));
+            assert!(rt; prover.order() == wanted.order);
+        }
+        assert!(rt; are_pairs(data.polynomial_evaluations(), wanted.sent));
+    }
 }
 
 #[test]
