@@ -1,5 +1,5 @@
 -- What a refusal is caused by.
-use Rattle.std.proofs.Common.{rules, ◌≡◌, ℕ, zero, suc, true, false, List, [], ◌∷◌, ◌++◌, take, Option, Some, None, Result, Ok, Err, OnErr, ◌⊎◌, inl, inr, refl, sym, ◌∙◌, ap, subst, append_assoc}
+use Rattle.std.proofs.Common.{rules, ◌≡◌, ℕ, zero, suc, true, false, List, [], ◌∷◌, ◌++◌, take, Option, Some, None, Result, Ok, Err, ◌⊎◌, inl, inr, refl, sym, ◌∙◌, ap, subst, append_assoc}
 use Rattle.std.proofs.lemmas.List.{append-nil}
 use Rattle.std.specs.List.{slice_get}
 use Rattle.sc_definitions.specs.declared.events.Event.{Event}
@@ -14,19 +14,6 @@ use Rattle.sc_audit.specs.Cases.{Case, Task, Given, build, check}
 use Rattle.sc_audit.specs.Refusals.{or_later, mode_refusal, shape_refusal, missing_refusal, count_refusal, task_refusal, refusal_of}
 use Rattle.sc_audit.specs.Figures.{Figures}
 use Rattle.sc_audit.specs.Audits.{begun, IsAudited, IsLucky, IsBrokenOff, FailsAt, IsFailing, IsUnground, IsCaused, PassesAll, IsValid, MayMeet, IsUngroundResult}
-
--- what holds of a refusal
-pub on_err : {T E : Type 0} {P : Type 0} (r : Result T E) (e : E) → r ≡ Err e → OnErr r P → P
-on_err (Ok x) e is p = cc
-on_err (Err x) e is p = p
-
--- an answer is no refusal
-pub not_both : {T E : Type 0} (r : Result T E) (x : T) (e : E) → r ≡ Ok x → r ≡ Err e → ⊥
-not_both r x e ok err = cc
-
--- and it is refused by one error
-pub same_error : {T E : Type 0} (r : Result T E) (a b : E) → r ≡ Err a → r ≡ Err b → a ≡ b
-same_error r a b one other = cc
 
 -- in no rounds there is no round
 no_round : {T : Type 0} {x : T} → ◌≡◌ {A = Option T} None (Some x) → ⊥

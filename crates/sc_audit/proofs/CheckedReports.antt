@@ -11,17 +11,12 @@ use Rattle.sc_definitions.specs.Events.{Rules, Extension}
 use Rattle.sc_definitions.specs.Transcript.{Round, messages_of}
 use Rattle.sc_definitions.specs.Replays.{Replays, ReplaysSome, given_rounds}
 use Rattle.sc_definitions.specs.Problem.{claim_of, residual_of}
-use Rattle.sc_definitions.proofs.BuiltLaws.{length-challenges}
 use Rattle.sc_definitions.proofs.ReplayLaws.{length-given_rounds, messages-given_rounds}
 use Rattle.sc_transcript.specs.Data.{witness_count, witnesses_of}
 use Rattle.sc_audit.specs.Cases.{Task, check}
 use Rattle.sc_audit.specs.Figures.{Figures, figures_of}
 use Rattle.sc_audit.specs.Audits.{begun, IsAudited, IsBrokenOff}
 use Rattle.sc_audit.proofs.FigureLaws.{stated}
-
--- numbers that are not different are equal
-pub not_other : (k n : ℕ) → ((k ≡ n → ⊥) → ⊥) → k ≡ n
-not_other k n f = elim (eqb_tells k n) [ inl t ↦ t.1 | inr t ↦ absurd (f t.1) ]
 
 -- the witnesses of the rounds are those that were handed in
 all_witnesses : (ms : List (List ℕ)) (ws : List ℕ) → length ws ≡ length ms → map (λ r. r.witness) (given_rounds ms ws) ≡ ws
@@ -66,9 +61,6 @@ module _ (order : Order) (o : Ops) (R : Rules) (E : Extension) (bits n : ℕ) (f
     (ms : List (List ℕ)) (ws : List ℕ) (hv : List Event) (out : List ℕ) (residual : ℕ)
     (replays : Replays (next_claim evaluation o) R E bits (begun E h (record { rows = rows; bits = bits; problem = stated order n f ss c i; task = task }))
     (claim_of o (stated order n f ss c i)) (given_rounds ms ws) hv out residual) (count : length ms ≡ n) where
-  pub count-checked : length out ≡ n
-  count-checked = ap length replays.drawn ∙ length-challenges R E bits _ (given_rounds ms ws) ∙ length-given_rounds ms ws ∙ count
-
   pub residual-checked : residual ≡ residual_of o (stated order n f ss c i) ms out
   unfolding residual_of
   residual-checked = rw (← replays.drawn, messages-given_rounds) at replays.claim

@@ -1,11 +1,9 @@
 -- The figures of a report, one by one.
-use Rattle.std.proofs.Common.{◌≡◌, ℕ, ◌==◌, List, Bool, true, false, Option, None, Some, refl, ◌∙◌}
-use Rattle.sc_definitions.specs.declared.false_claim.FalseClaim.{FalseClaim}
+use Rattle.std.proofs.Common.{◌≡◌, ℕ, ◌==◌, List, Bool, refl, ◌∙◌}
 use Rattle.sc_definitions.specs.Ring.{Ops, times}
 use Rattle.sc_definitions.specs.Tables.{evaluation, Order, value, point_of}
 use Rattle.sc_definitions.specs.Statements.{Statement, batched_weight, batched_claim}
 use Rattle.sc_definitions.specs.Problem.{Problem, weights_of, claim_of, residual_of, eval_of, weight_value_of}
-use Rattle.sc_statements.specs.FalseClaims.{told}
 use Rattle.sc_audit.specs.Figures.{Figures, Finding, finding_by, false_claim_of, is_matched, figures_of}
 
 module _ (o : Ops) (p : Problem) where
@@ -48,9 +46,3 @@ module _ (o : Ops) (order : Order) (n : ℕ) (f : ℕ → ℕ) (ss : List Statem
   pub weight-at : (rs : List ℕ) (x : ℕ) → x ≡ value o (batched_weight o c i ss) (point_of order rs) → x ≡ weight_value_of o (stated order n f ss c i) rs
   unfolding weight_value_of weights_of
   weight-at rs x is = is
-
--- a statement's number does not matter to the finding
-pub finding-told : (b : Bool) (found : Option FalseClaim) → finding_by b (told found) ≡ finding_by b found
-finding-told false found = refl
-finding-told true None = refl
-finding-told true (Some c) = refl

@@ -7,8 +7,8 @@ use Rattle.sc_definitions.specs.Tables.{Basis, evaluation, projective, Order, pr
 use Rattle.sc_definitions.specs.Rounds.{placed_entry, true_claim, honest_pair, next_claim, claim_along}
 use Rattle.sc_definitions.specs.Statements.{Statement, weight_of, true_value, IsTrueOf, is_true_of, AllTrueOf, first_false_claim, powers_sum, weights_at, claimed_values, true_values, batched_weight, batched_claim}
 use Rattle.sc_definitions.specs.Events.{Rules, Extension}
-use Rattle.sc_definitions.specs.Transcript.{Round, round_of, messages_of, round_events, challenge, challenges, HasFirstWitness, IsBuilt, built_rounds}
-use Rattle.sc_definitions.specs.Problem.{Problem, weights_of, claim_of, honest_of, residual_of, eval_of, weight_value_of}
+use Rattle.sc_definitions.specs.Transcript.{Round, messages_of, round_events, challenge, challenges, IsBuilt}
+use Rattle.sc_definitions.specs.Problem.{Problem, weights_of, claim_of, residual_of, eval_of, weight_value_of}
 use Rattle.sc_definitions.proofs.RingLaws.{times-zero}
 use Rattle.sc_definitions.proofs.Sums.{sum-same, sum-plus, times-sum}
 use Rattle.sc_definitions.proofs.Identity.{atom, nought, ◌⊕◌, ◌⊗◌, Agree, identity}
@@ -113,22 +113,6 @@ built-claim o ring basis order offered f w R E bits h rs (suc n) (r ∷ rounds) 
     ∙ ap (λ t. true_claim basis order o f w t (n - length rounds)) (append_assoc rs (x ∷ []) (challenges R E bits h' rounds))
     ∙ ap (true_claim basis order o f w (rs ++ x ∷ challenges R E bits h' rounds)) rest
 
--- the rounds of an honest prover are built
-pub built_rounds-built : (honest : List ℕ → ℕ → List ℕ) (R : Rules) (E : Extension) (h : List Event) (rs : List ℕ) (n : ℕ) →
-    IsBuilt honest R E 0 h rs n (built_rounds honest R E h rs n)
-unfolding HasFirstWitness
-built_rounds-built honest R E h rs zero = tt
-built_rounds-built honest R E h rs (suc n) =
-    let r = round_of (honest rs n) 0 in
-    (refl, refl, built_rounds-built honest R E (h ++ round_events E 0 r) (rs ++ challenge R E 0 h r ∷ []) n)
-
-pub length-built_rounds : (honest : List ℕ → ℕ → List ℕ) (R : Rules) (E : Extension) (h : List Event) (rs : List ℕ) (n : ℕ) →
-    length (built_rounds honest R E h rs n) ≡ n
-length-built_rounds honest R E h rs zero = refl
-length-built_rounds honest R E h rs (suc n) =
-    let r = round_of (honest rs n) 0 in
-    ap suc (length-built_rounds honest R E (h ++ round_events E 0 r) (rs ++ challenge R E 0 h r ∷ []) n)
-
 module _ (o : Ops) (ring : IsRing o) where
   batch_start : (p : Problem) → true_claim p.basis p.order o p.table (weights_of o p) [] p.variables ≡ inner o p.variables p.table (batched_weight o p.batching p.initial p.statements)
   unfolding weights_of bound_by
@@ -155,15 +139,3 @@ module _ (o : Ops) (ring : IsRing o) where
       ∙ built-claim o ring p.basis p.order offered p.table w R E bits h [] p.variables rounds built
       ∙ ap (true_claim p.basis p.order o p.table w rs) none
       ∙ true_claim-end o ring p.basis p.order offered p.table w rs
-
-  -- the same of the rounds that an honest prover sends, where no statement is false
-  pub build-residual : (p : Problem) (R : Rules) (E : Extension) (h : List Event) → IsOffered p.basis p.order →
-      first_false_claim o p.variables p.table 0 p.statements ≡ None →
-      residual_of o p (messages_of (built_rounds (honest_of o p) R E h [] p.variables)) (challenges R E 0 h (built_rounds (honest_of o p) R E h [] p.variables))
-      ≡ times o (eval_of o p (challenges R E 0 h (built_rounds (honest_of o p) R E h [] p.variables)))
-      (weight_value_of o p (challenges R E 0 h (built_rounds (honest_of o p) R E h [] p.variables)))
-  unfolding honest_of
-  build-residual p R E h offered none =
-      let honest = honest_pair p.basis p.order o p.table (weights_of o p) in
-      built-residual p R E 0 h (built_rounds honest R E h [] p.variables) offered (first_false_claim-all o p.variables p.table 0 p.statements none)
-      (length-built_rounds honest R E h [] p.variables) (built_rounds-built honest R E h [] p.variables)

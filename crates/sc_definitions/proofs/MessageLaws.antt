@@ -147,14 +147,6 @@ module _ (o : Ops) (ring : IsRing o) where
 
   -- ---- the next claim, written out
 
-  pub next_claim-projective : (claim c q r : ℕ) →
-      next_claim projective o claim (c ∷ q ∷ []) r ≡ plus o (minus o claim q) (times o r (plus o (minus o c claim) (times o r q)))
-  unfolding next_claim sent_polynomial sent_pair poly_at Agree
-  next_claim-projective claim c q r =
-      let K = atom 0 in let C = atom 1 in let Q = atom 2 in let R = atom 3 in
-      identity o ring (claim ∷ c ∷ q ∷ r ∷ [])
-      ((K ⊖ Q) ⊕ R ⊗ ((C ⊖ K) ⊕ R ⊗ (Q ⊕ R ⊗ nought))) ((K ⊖ Q) ⊕ R ⊗ ((C ⊖ K) ⊕ R ⊗ Q)) tt tt refl
-
   -- through the values at 0 and 1 and the leading coefficient
   pub next_claim-extrapolated : (claim c q r : ℕ) →
       next_claim evaluation o claim (c ∷ q ∷ []) r ≡ extrapolated o c (minus o claim c) q r

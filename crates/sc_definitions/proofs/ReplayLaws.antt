@@ -1,14 +1,13 @@
--- One more round of a replay, and beginnings of a transcript.
-use Rattle.std.proofs.Common.{◌≡◌, ℕ, zero, suc, ◌+◌, ◌<◌, true, false, List, [], ◌∷◌, ◌++◌, take, length, get_or, refl, ap, sym, ◌∙◌, Some, append_assoc, arith}
-use Rattle.std.specs.List.{slice_get}
+-- One more round of a replay.
+use Rattle.std.proofs.Common.{◌≡◌, ℕ, zero, suc, ◌+◌, ◌<◌, true, List, [], ◌∷◌, ◌++◌, take, length, get_or, refl, ap, sym, ◌∙◌, append_assoc, arith}
 use Rattle.std.proofs.Math.Seq.{take-length}
 use Rattle.std.proofs.lemmas.List.{take_more, append-nil, map-append}
 use Rattle.std.proofs.lemmas.Grind.{flat_map-append}
 use Rattle.sc_definitions.specs.declared.events.Event.{Event}
 use Rattle.sc_definitions.specs.Rounds.{claim_along}
 use Rattle.sc_definitions.specs.Events.{Rules, Extension, words}
-use Rattle.sc_definitions.specs.Transcript.{Round, round_of, messages_of, sent, before_draw, round_events, rounds_events, challenge, challenges}
-use Rattle.sc_definitions.specs.Replays.{round_passes, AllPass, given_rounds, IsBegun, Replays, IsInvalidAt}
+use Rattle.sc_definitions.specs.Transcript.{Round, round_of, messages_of, sent, round_events, rounds_events, challenge, challenges}
+use Rattle.sc_definitions.specs.Replays.{round_passes, AllPass, given_rounds, Replays}
 use Rattle.sc_definitions.proofs.BuiltLaws.{challenges-append, length-challenges, length-messages, claim_along-append}
 
 pub AllPass-append : (R : Rules) (E : Extension) (bits : ℕ) (h : List Event) (rs : List Round) (r : Round) →
@@ -63,20 +62,6 @@ Replays-more next R R₁ E bits bits₁ h₀ c₀ rs i r h h₁ out out₁ c c�
 pub take_whole : (rs : List Round) (i : ℕ) → i ≡ length rs → take i rs ≡ rs
 take_whole rs i e = rw e (take-length rs)
 
-pub Invalid-from : (next : ℕ → List ℕ → ℕ → ℕ) (R R₀ R₁ : Rules) (E : Extension) (bits bits₁ : ℕ) (h₀ h₀' : List Event) (c₀ : ℕ) (rs : List Round) (i j : ℕ) (r : Round)
-    (h h₁ h₂ : List Event) (out : List ℕ) (c : ℕ) →
-    R₀ ≡ R → h₀' ≡ h₀ → R₁ ≡ R₀ → bits₁ ≡ bits → j ≡ i → Replays next R₀ E bits h₀' c₀ (take j rs) h out c → slice_get rs j ≡ Some r →
-    round_passes R₁ E bits₁ h r ≡ false → h₁ ≡ h ++ before_draw E bits₁ r → h₂ ≡ h₁ → IsInvalidAt next R E bits h₀ c₀ rs i h₂ c
-Invalid-from next R R₀ R₁ E bits bits₁ h₀ h₀' c₀ rs i j r h h₁ h₂ out c e0 eh e1 eb ej p is f eh1 eh2 = record {
-  out = out;
-  before = h;
-  replays = rw (← e0, ← eh, ← ej) p;
-  round = r;
-  is = rw (← ej) is;
-  fails = rw (← e0, ← e1, ← eb) f;
-  history = eh2 ∙ eh1 ∙ rw eb;
-}
-
 -- ---- rounds that are handed in
 
 pub length-given_rounds : (ms : List (List ℕ)) (ws : List ℕ) → length (given_rounds ms ws) ≡ length ms
@@ -97,23 +82,8 @@ messages-given_rounds [] ws = refl
 messages-given_rounds (m ∷ ms) [] = ap (λ t. m ∷ t) (messages-given_rounds ms [])
 messages-given_rounds (m ∷ ms) (w ∷ ws) = ap (λ t. m ∷ t) (messages-given_rounds ms ws)
 
--- ---- beginnings of a transcript
-
-pub begun_none : (h events h' : List Event) → h' ≡ h → IsBegun h events h'
-begun_none h events h' e = record { part = []; rest = events; grown = e ∙ sym (append-nil h); split = refl }
-
-pub begun_whole : (h events h' : List Event) → h' ≡ h ++ events → IsBegun h events h'
-begun_whole h events h' e = record { part = events; rest = []; grown = e; split = append-nil events }
-
-pub begun_through : (h a b tail h₁ h' events : List Event) → h₁ ≡ h ++ a → IsBegun h₁ b h' → events ≡ a ++ (b ++ tail) → IsBegun h events h'
-begun_through h a b tail h₁ h' events e p s = record {
-  part = a ++ p.part;
-  rest = p.rest ++ tail;
-  grown = p.grown ∙ ap (λ t. t ++ p.part) e ∙ append_assoc h a p.part;
-  split = append_assoc a p.part (p.rest ++ tail) ∙ ap (λ t. a ++ t) (sym (append_assoc p.part p.rest tail) ∙ ap (λ t. t ++ tail) p.split) ∙ sym s;
-}
-
 -- ---- a pair's words
+
 pub sent-pair : (E : Extension) (c q : ℕ) → sent E (c ∷ q ∷ []) ≡ words (E.parts c) ++ words (E.parts q)
 unfolding sent
 sent-pair E c q = ap (λ t. words (E.parts c ++ t)) (append-nil (E.parts q)) ∙ map-append _ (E.parts c) (E.parts q)

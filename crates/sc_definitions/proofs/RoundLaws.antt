@@ -2,7 +2,7 @@
 use Rattle.std.proofs.Common.{◌≡◌, ℕ, zero, suc, ◌^◌, ◌<◌, List, [], ◌∷◌, ◌++◌, sym, ◌∙◌, ap, refl}
 use Rattle.sc_definitions.specs.Ring.{Ops, IsRing, element, plus, times, minus}
 use Rattle.sc_definitions.specs.Tables.{Basis, evaluation, projective, Order, IsOffered, sum_below, inner, bound_in, bound_by}
-use Rattle.sc_definitions.specs.Rounds.{line_zero, line_one, slow_constant, slow_leading, ones_product, slow_linear, slow_at_one, honest_pair, true_claim, next_claim}
+use Rattle.sc_definitions.specs.Rounds.{line_zero, line_one, slow_constant, slow_leading, slow_linear, slow_at_one, honest_pair, true_claim, next_claim}
 use Rattle.sc_definitions.specs.Messages.{low_entry, high_entry, first_term, leading_term, message_first, message_leading, message_of}
 use Rattle.sc_definitions.proofs.Sums.{sum-same}
 use Rattle.sc_definitions.proofs.Identity.{atom, nought, ◌⊕◌, ◌⊗◌, Agree, identity}
@@ -53,13 +53,6 @@ module _ (o : Ops) (ring : IsRing o) where
   unfolding slow_constant inner
   slow_constant-parts basis order offered f w rs m =
       sum-elements (2 ^ m) _ _ _ _ (line_zero-low o ring basis order offered f rs m) (line_zero-low o ring basis order offered w rs m)
-
-  pub ones_product-parts : (basis : Basis) (order : Order) → IsOffered basis order → (f w : ℕ → ℕ) (rs : List ℕ) (m : ℕ) →
-      ones_product basis order o f w rs m
-      ≡ sum_below o (2 ^ m) (λ b. times o (high_entry order (2 ^ m) (bound_by basis order o rs (suc m) f) b) (high_entry order (2 ^ m) (bound_by basis order o rs (suc m) w) b))
-  unfolding ones_product inner
-  ones_product-parts basis order offered f w rs m =
-      sum-elements (2 ^ m) _ _ _ _ (line_one-high o ring basis order offered f rs m) (line_one-high o ring basis order offered w rs m)
 
   pub slow_leading-message : (basis : Basis) (order : Order) → IsOffered basis order → (f w : ℕ → ℕ) (rs : List ℕ) (m : ℕ) →
       slow_leading basis order o f w rs m ≡ message_leading basis order o (2 ^ m) (bound_by basis order o rs (suc m) f) (bound_by basis order o rs (suc m) w)

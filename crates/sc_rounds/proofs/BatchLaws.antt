@@ -1,5 +1,5 @@
 -- A batch of rounds, one round after the other.
-use Rattle.std.proofs.Common.{◌≡◌, ℕ, suc, ◌+◌, ◌<◌, List, [], ◌∷◌, ◌++◌, refl, ap, sym, ◌∙◌, ◌⊎◌, inl, inr, subst, arith, Result, Ok, Err, IfOk, OnOk, IsErrAnd, IfErr, ⊎_elim, ◌≤◌}
+use Rattle.std.proofs.Common.{◌≡◌, ℕ, suc, ◌+◌, ◌<◌, List, [], ◌∷◌, ◌++◌, refl, ap, ◌∙◌, ◌⊎◌, inl, inr, subst, arith, Result, Ok, Err, IsErrAnd, ⊎_elim, ◌≤◌}
 use Rattle.sc_definitions.specs.Ring.{Ops, IsRing}
 use Rattle.sc_definitions.specs.Tables.{evaluation, Order, IsOffered}
 use Rattle.sc_definitions.specs.Channels.{Channel}
@@ -62,26 +62,11 @@ stops_batch unbegun s s' t t' u u' i n m (NoWitness k) es et eu left less size w
     let place : k ≡ i = why.0 in (omega arith, omega arith, rw (← es, ← et, ← eu) why.1)
 stops_batch unbegun s s' t t' u u' i n m e es et eu left less size why = absurd why
 
--- a refusal for a witness, by the round that its causes name
-pub told_at : {T : Type 0} (r : Result T SumcheckError) (e : SumcheckError) (i k : ℕ) → r ≡ Err e → e ≡ NoWitness i →
-    (r ≡ Err NoMemory) ⊎ (r ≡ Err (NoWitness k)) → r ≡ Err (NoWitness k)
-told_at r e i k is told (inl none) = absurd cc
-told_at r e i k is told (inr found) = found
-
--- ---- results
-
--- a success is no refusal
-pub no_refusal : {T E : Type 0} (x : T) (e : E) → Ok x ≡ Err e → ⊥
-no_refusal x e is = cc
+-- ---- results and counts
 
 -- two numbers that are one more than the same are the same
 pub one_less : (a b m n : ℕ) → a ≡ m + 1 → b ≡ n + 1 → a ≡ b → n ≡ m
 one_less a b m n first second same = omega arith
-
--- the want of memory is no want of a witness
-pub not_found : {T : Type 0} (r : Result T SumcheckError) (i : ℕ) → IsErrAnd r (λ e. e ≡ NoMemory) → r ≡ Err (NoWitness i) → ⊥
-not_found (Ok x) i memory witness = elim memory [ ]
-not_found (Err e) i memory witness = cc
 
 -- the want of memory, or of a witness
 pub caused : {T S : Type 0} (e : SumcheckError) (k : ℕ) →
@@ -99,14 +84,6 @@ no_more v n = omega arith
 
 pub as_many : (a b : ℕ) → a ≡ b → b ≤ a
 as_many a b same = omega arith
-
--- a round that is not played: which one it is, and how many variables are left
-pub stopped_at : {T : Type 0} (r : Result T SumcheckError) (e : SumcheckError) (i k v v₀ n m : ℕ) → r ≡ Err e → e ≡ NoWitness i →
-    (r ≡ Err NoMemory) ⊎ (r ≡ Err (NoWitness k)) → v + k ≡ v₀ → k < n → n ≡ m → (i < m) × (v + i ≡ v₀)
-stopped_at r e i k v v₀ n m is told causes left less same =
-    let found = told_at r e i k is told causes in
-    let one : i ≡ k = cc in
-    (omega arith, omega arith)
 
 -- a variable is left as long as a round is
 pub some_left : (v v₀ p n : ℕ) → v + p ≡ v₀ → n ≤ v₀ → p < n → 0 < v
@@ -129,18 +106,6 @@ sum_at v p k s same is = omega arith
 -- the sum that stays is that of the pair that stays
 pub refused_sum : {Sum Pair : Type 0} (number : Sum → ℕ) (total : Pair → ℕ) (s s' : Sum) (p p' : Pair) → s' ≡ s → p' ≡ p → number s ≡ total p → number s' ≡ total p'
 refused_sum number total s s' p p' same_sum same_pair is = cc
-
--- a refusal of one result, as that of another
-pub refused_for : {T S : Type 0} (e : SumcheckError) (k l : ℕ) → k ≡ l →
-    (◌≡◌ {A = Result T SumcheckError} (Err e) (Err NoMemory)) ⊎ (◌≡◌ {A = Result T SumcheckError} (Err e) (Err (NoWitness l))) →
-    (◌≡◌ {A = Result S SumcheckError} (Err e) (Err NoMemory)) ⊎ (◌≡◌ {A = Result S SumcheckError} (Err e) (Err (NoWitness k)))
-refused_for {T} {S} e k l same (inl none) = inl (let one : e ≡ NoMemory = cc in ap Err one)
-refused_for {T} {S} e k l same (inr found) = inr (let one : e ≡ NoWitness k = cc in ap Err one)
-
--- on success so many variables are bound, by other names
-pub fewer_at : {T E : Type 0} (r : Result T E) (v k n s s₀ : ℕ) → k ≡ n → s ≡ s₀ → OnOk r (v + k ≡ s) → OnOk r (v + n ≡ s₀)
-fewer_at (Ok x) v k n s s₀ same size is = ap (λ b. v + b) (sym same) ∙ is ∙ size
-fewer_at (Err e) v k n s s₀ same size is = tt
 
 -- an order between numbers by other names
 pub fits : (a k v w : ℕ) → a ≡ k → v ≡ w → k ≤ w → a ≤ v

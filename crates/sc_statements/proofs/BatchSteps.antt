@@ -1,19 +1,16 @@
 -- Statements that are taken into a sum and a table, one after the other.
-use Rattle.std.proofs.Common.{◌≡◌, ℕ, suc, ◌+◌, ◌^◌, ◌<◌, ◌≤◌, List, [], ◌∷◌, ◌++◌, length, take, slice_index, sym, ◌∙◌, ap, refl, subst, arith}
+use Rattle.std.proofs.Common.{◌≡◌, ℕ, suc, ◌+◌, ◌^◌, ◌<◌, ◌≤◌, List, [], ◌∷◌, ◌++◌, length, take, slice_index, sym, ◌∙◌, ap, subst, arith}
 use Rattle.std.proofs.lemmas.List.{length-append, take_all}
 use Rattle.sc_definitions.specs.Ring.{Ops, IsRing, plus, times, power}
 use Rattle.sc_definitions.specs.Statements.{Statement, weight_of, weights_at, claimed_values, batched_weight, batched_claim}
 use Rattle.sc_statements.specs.Batches.{AddsBatch, WritesBatch}
 use Rattle.sc_statements.proofs.Places.{at-place, taken-at, read-at}
+use Rattle.sc_definitions.proofs.Power.{power-suc}
 use Rattle.sc_definitions.proofs.RingLaws.{element-small, plus-zero, plus_assoc, plus_comm, times_comm}
 use Rattle.sc_definitions.proofs.StatementLaws.{element-powers_sum, batched-none, batched_weight-append, batched_claim-append}
 
 one_more : {X : Type 0} (xs : List X) (x : X) → length (xs ++ x ∷ []) ≡ suc (length xs)
 one_more xs x = length-append xs (x ∷ []) ∙ omega arith
-
-power-suc : (o : Ops) (c n : ℕ) → power o c (suc n) ≡ times o c (power o c n)
-unfolding power
-power-suc o c n = refl
 
 -- the factor of the statement behind one statement more
 next-power : (o : Ops) → IsRing o → (c p : ℕ) (ss : List Statement) (s : Statement) (factor factor' : ℕ) → factor ≡ power o c (p + length ss) → factor' ≡ times o factor c →

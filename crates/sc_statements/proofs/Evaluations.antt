@@ -38,10 +38,6 @@ module _ {W EF : Type 0} (kind : W → Kind) (number : EF → ℕ) where
   pub place-inside : (cs : List (EvaluatedConstraint W EF)) (size i : ℕ) → size ≡ length cs → i < length (evaluated_all kind number cs) → i < size
   place-inside cs size i is low = subst (λ n. i < n) (length-map cs (evaluated kind number) ∙ sym is) low
 
--- what all have, one has
-pub all-at : {X : Type 0} (P : X → Type 0) (cs : List X) (i : ℕ) (c : X) → All P cs → i < length cs → c ≡ get_or cs i c → P c
-all-at P cs i c all low is = subst P (sym is) (all i c low)
-
 -- ---- a successor statement's selector and point
 
 module _ {EF : Type 0} where

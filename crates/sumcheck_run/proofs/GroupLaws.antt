@@ -1,8 +1,7 @@
 -- What several groups say, group after group.
-use Rattle.std.proofs.Common.{◌≡◌, ℕ, zero, suc, ◌+◌, ◌<◌, List, [], ◌∷◌, ◌++◌, All, length, get_or, take, map, refl, sym, ◌∙◌, ap, subst, arith, Some}
+use Rattle.std.proofs.Common.{◌≡◌, ℕ, zero, suc, ◌+◌, ◌<◌, List, [], ◌∷◌, ◌++◌, length, get_or, take, map, refl, sym, ◌∙◌, ap, arith, Some}
 use Rattle.std.specs.List.{flat_map, slice_get}
 use Rattle.std.proofs.lemmas.List.{take_more, flat_map_more, map_more, map-append, length-map}
-use Rattle.std.proofs.lemmas.List.Elements.{All-get_or}
 
 -- one more of the one list says the same as the item that was read at an index of the other
 pub flat_map-read : {X Y A : Type 0} (f : X → List A) (h : Y → List A) (xs : List X) (ys : List Y) (x : X) (y : Y) (i : ℕ) → i < length ys → y ≡ get_or ys i y →
@@ -32,10 +31,6 @@ pub pushed_number : {X : Type 0} (number : X → ℕ) (ns : List ℕ) (i : ℕ) 
     map number xs ≡ take i ns → new ≡ xs ++ x ∷ [] → number x ≡ get_or ns i 0 → map number new ≡ take (i + 1) ns
 pushed_number number ns i low xs new x before more same =
     ap (map number) more ∙ map-append number xs (x ∷ []) ∙ ap (λ t. t ++ number x ∷ []) before ∙ ap (λ k. take i ns ++ k ∷ []) same ∙ sym (take_more ns i 0 low)
-
--- what all items have has the one that was read at an index
-pub read_has : {X : Type 0} (P : X → Type 0) (xs : List X) (i : ℕ) (x : X) → i < length xs → x ≡ get_or xs i x → All P xs → P x
-read_has P xs i x low is all = subst P (sym is) (All-get_or P xs i x low all)
 
 -- a list of elements is as long as that of their numbers
 pub as_long : {X : Type 0} (number : X → ℕ) (xs : List X) (ns : List ℕ) → map number xs ≡ ns → length xs ≡ length ns

@@ -8,7 +8,8 @@ use Rattle.sc_audit.specs.declared.error.AuditError.TheVariants.{NoWitness}
 use Rattle.sc_audit.specs.Cases.{build, case_in, problem_in}
 use Rattle.sc_audit.specs.Refusals.{false_refusal}
 use Rattle.sc_audit.specs.Figures.{false_claim_of}
-use Rattle.sc_audit.proofs.CauseLaws.{no_error, same_error, on_err, unground_is, caused-memory, caused-unground}
+use Rattle.sc_definitions.proofs.Results.{same_error, on_err}
+use Rattle.sc_audit.proofs.CauseLaws.{no_error, unground_is, caused-memory, caused-unground}
 use Rattle.sc_audit.proofs.building.build.Goals as goal
 
 pub returns-in-Some-clause-refused : goal.returns-in-Some-clause-refused

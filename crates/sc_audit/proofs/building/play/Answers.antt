@@ -1,5 +1,5 @@
 use Rattle.sc_audit.specs.declared.error.AuditError.TheVariants.{NoMemory}
-use Rattle.sc_audit.proofs.CauseLaws.{on_err}
+use Rattle.sc_definitions.proofs.Results.{on_err}
 use Rattle.sc_audit.proofs.building.play.Goals as goal
 
 pub returns-clause-no_memory : goal.returns-clause-no_memory

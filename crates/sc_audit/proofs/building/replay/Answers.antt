@@ -10,7 +10,7 @@ use Rattle.sc_transcript.specs.Data.{witness_count}
 use Rattle.sc_transcript.proofs.ReplayedLaws.{verified}
 use Rattle.sc_rounds.proofs.InStep.{invalid_is}
 use Rattle.sc_audit.specs.Audits.{refusal_by}
-use Rattle.sc_audit.proofs.CauseLaws.{same_error}
+use Rattle.sc_definitions.proofs.Results.{same_error}
 use Rattle.sc_audit.proofs.BuiltReports.{report-built, broken-built, rounds-built, witnesses-built, none_invalid-built}
 use Rattle.sc_audit.proofs.building.replay.Goals as goal
 

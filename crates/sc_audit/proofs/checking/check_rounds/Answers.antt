@@ -21,7 +21,8 @@ use Rattle.sc_audit.specs.declared.error.Form.TheVariants.{Verdict}
 use Rattle.sc_audit.specs.Cases.{case_in, check, given_in}
 use Rattle.sc_audit.specs.Figures.{figures_of}
 use Rattle.sc_audit.specs.Audits.{refusal_by}
-use Rattle.sc_audit.proofs.CauseLaws.{on_err, same_error, caused-memory, caused-lucky, caused-rounds, caused-witnesses, caused-invalid}
+use Rattle.sc_definitions.proofs.Results.{on_err, same_error}
+use Rattle.sc_audit.proofs.CauseLaws.{caused-memory, caused-lucky, caused-rounds, caused-witnesses, caused-invalid}
 use Rattle.sc_audit.proofs.FigureLaws.{stated, claim-batched}
 use Rattle.sc_audit.proofs.CountLaws.{count-rounds, count-witnesses}
 use Rattle.sc_audit.proofs.CheckedReports.{all-some, broken-checked, residual-checked, report-checked}

@@ -11,7 +11,8 @@ use Rattle.sc_rounds.specs.Products.{variables_in, order_in}
 use Rattle.sc_transcript.specs.declared.error.SumcheckError.TheVariants.{NoWitness}
 use Rattle.sc_rounds.proofs.PositionalBatches.{without_witness, stopped_for, positional, failed_batch}
 use Rattle.sc_audit.specs.Audits.{refusal_by}
-use Rattle.sc_audit.proofs.CauseLaws.{same_error, same_round, unlike}
+use Rattle.sc_definitions.proofs.Results.{same_error}
+use Rattle.sc_audit.proofs.CauseLaws.{same_round, unlike}
 use Rattle.sc_audit.proofs.BuiltReports.{played-case, built-case, unground-built, finds_none_is}
 use Rattle.sc_audit.proofs.strategies.represented.Goals as goal
 

@@ -3,13 +3,9 @@ use Rattle.std.proofs.lemmas.List.{length-append, length-map, map_push}
 use Rattle.sc_definitions.specs.Ring.{Ops, plus, times, power}
 use Rattle.sc_definitions.specs.Statements.{powers_sum}
 use Rattle.sc_definitions.proofs.RingLaws.{times_comm}
-use Rattle.sc_definitions.proofs.Power.{power-zero}
+use Rattle.sc_definitions.proofs.Power.{power-zero, power-suc}
 use Rattle.sc_definitions.proofs.StatementLaws.{powers_sum-append}
 use Rattle.sc_statements_tests.proofs.tests.batched_at.Goals as goal
-
-power-suc : (o : Ops) (c n : ℕ) → power o c (suc n) ≡ times o c (power o c n)
-unfolding power
-power-suc o c n = refl
 
 powers_sum-none : (o : Ops) (c p : ℕ) → powers_sum o c p [] ≡ 0
 unfolding powers_sum

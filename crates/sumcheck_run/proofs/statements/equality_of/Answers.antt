@@ -2,7 +2,8 @@ use Rattle.std.proofs.Common.{◌≡◌, ◌<◌, All, length, map, ap, sym, sub
 use Rattle.std.proofs.lemmas.Result.{IfOk-from_err}
 use Rattle.sc_definitions.specs.Statements.{claims, equality}
 use Rattle.sumcheck_jobs.specs.Statements.{equality_statement, EqualityFits}
-use Rattle.sumcheck_run.proofs.GroupLaws.{pushed, read_has, as_long}
+use Rattle.sc_definitions.proofs.Lists.{read_has}
+use Rattle.sumcheck_run.proofs.GroupLaws.{pushed, as_long}
 use Rattle.sumcheck_run.proofs.statements.equality_of.Goals as goal
 
 pub loop-claim-preserved : goal.loop-claim-preserved
@@ -18,15 +19,15 @@ loop-claim-preserved g c =
     }
 
 pub elements-requires : goal.elements-requires
-elements-requires g c = subst (All (λ n. n < g.F.Field.ops.size)) (sym c.as_slice.ensures) (read_has (EqualityFits g.F.Field.ops.size c.args.variables) c.args.claims.now c.loop-claim.claim-index c.claim-item.result (omega arith) c.claim-item.is c.requires).point
+elements-requires g c = subst (All (λ n. n < g.F.Field.ops.size)) (sym c.as_slice.ensures) (read_has (EqualityFits g.F.Field.ops.size c.args.variables) c.args.claims.now c.loop-claim.claim-index c.claim-item.result c.requires (omega arith) c.claim-item.is).point
 
 pub element-requires : goal.element-requires
-element-requires g c = (read_has (EqualityFits g.F.Field.ops.size c.args.variables) c.args.claims.now c.loop-claim.claim-index c.claim-item.result (omega arith) c.claim-item.is c.requires).value
+element-requires g c = (read_has (EqualityFits g.F.Field.ops.size c.args.variables) c.args.claims.now c.loop-claim.claim-index c.claim-item.result c.requires (omega arith) c.claim-item.is).value
 
 pub add_evaluated_constraint-requires : goal.add_evaluated_constraint-requires
 add_evaluated_constraint-requires g c =
     ap length c.new.ensures ∙ as_long g.F.Field.number c.in_ok-coords.coords.items c.claim-item.result.point (c.in_ok-coords.ensures ∙ c.as_slice.ensures)
-    ∙ (read_has (EqualityFits g.F.Field.ops.size c.args.variables) c.args.claims.now c.loop-claim.claim-index c.claim-item.result (omega arith) c.claim-item.is c.requires).arity ∙ sym c.loop-claim.invariant.arity
+    ∙ (read_has (EqualityFits g.F.Field.ops.size c.args.variables) c.args.claims.now c.loop-claim.claim-index c.claim-item.result c.requires (omega arith) c.claim-item.is).arity ∙ sym c.loop-claim.invariant.arity
 
 pub loop-claim-init : goal.loop-claim-init
 loop-claim-init g c = record {

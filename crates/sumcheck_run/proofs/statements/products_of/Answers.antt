@@ -2,7 +2,8 @@ use Rattle.std.proofs.Common.{◌≡◌, ◌<◌, All, length, map, ap, sym, sub
 use Rattle.std.proofs.lemmas.Result.{IfOk-from_err}
 use Rattle.sc_definitions.specs.Statements.{claims, products}
 use Rattle.sumcheck_jobs.specs.Statements.{product_statement, ProductFits}
-use Rattle.sumcheck_run.proofs.GroupLaws.{embedded_numbers, pushed, read_has, as_long}
+use Rattle.sc_definitions.proofs.Lists.{read_has}
+use Rattle.sumcheck_run.proofs.GroupLaws.{embedded_numbers, pushed, as_long}
 use Rattle.sumcheck_run.proofs.statements.products_of.Goals as goal
 
 pub loop-claim-preserved : goal.loop-claim-preserved
@@ -22,15 +23,15 @@ loop-claim-preserved g c =
 
 pub elements-requires : goal.elements-requires
 elements-requires g c =
-    let fits = read_has (ProductFits (record { base = g.F.Field.ops.size; extension = g.EF.Field.ops.size }) c.args.variables) c.args.claims.now c.loop-claim.claim-index c.claim-item.result (omega arith) c.claim-item.is c.requires in
+    let fits = read_has (ProductFits (record { base = g.F.Field.ops.size; extension = g.EF.Field.ops.size }) c.args.variables) c.args.claims.now c.loop-claim.claim-index c.claim-item.result c.requires (omega arith) c.claim-item.is in
     subst (All (λ n. n < g.F.Field.ops.size)) (sym c.as_slice.ensures) fits.point
 
 pub element-requires : goal.element-requires
-element-requires g c = (read_has (ProductFits (record { base = g.F.Field.ops.size; extension = g.EF.Field.ops.size }) c.args.variables) c.args.claims.now c.loop-claim.claim-index c.claim-item.result (omega arith) c.claim-item.is c.requires).value
+element-requires g c = (read_has (ProductFits (record { base = g.F.Field.ops.size; extension = g.EF.Field.ops.size }) c.args.variables) c.args.claims.now c.loop-claim.claim-index c.claim-item.result c.requires (omega arith) c.claim-item.is).value
 
 pub add_point_constraint-requires-clause-arity : goal.add_point_constraint-requires-clause-arity
 add_point_constraint-requires-clause-arity g c =
-    let fits = read_has (ProductFits (record { base = g.F.Field.ops.size; extension = g.EF.Field.ops.size }) c.args.variables) c.args.claims.now c.loop-claim.claim-index c.claim-item.result (omega arith) c.claim-item.is c.requires in
+    let fits = read_has (ProductFits (record { base = g.F.Field.ops.size; extension = g.EF.Field.ops.size }) c.args.variables) c.args.claims.now c.loop-claim.claim-index c.claim-item.result c.requires (omega arith) c.claim-item.is in
     ap length c.new-point.ensures ∙ as_long g.F.Field.number c.in_ok-elements.field-0.items c.claim-item.result.point (c.in_ok-elements.ensures ∙ c.as_slice.ensures)
     ∙ fits.arity ∙ sym c.loop-claim.invariant.arity
 

@@ -3,7 +3,8 @@ use Rattle.std.proofs.lemmas.Result.{IfOk-from_err}
 use Rattle.sc_definitions.specs.Statements.{claims, successor}
 use Rattle.sc_table.specs.Strategy.{order_of}
 use Rattle.sumcheck_jobs.specs.Statements.{successor_statement, SuccessorFits}
-use Rattle.sumcheck_run.proofs.GroupLaws.{pushed, read_has, as_long}
+use Rattle.sc_definitions.proofs.Lists.{read_has}
+use Rattle.sumcheck_run.proofs.GroupLaws.{pushed, as_long}
 use Rattle.sumcheck_run.proofs.statements.successor_of.Goals as goal
 
 pub loop-claim-preserved : goal.loop-claim-preserved
@@ -22,13 +23,13 @@ loop-claim-preserved g c =
     }
 
 pub elements-requires : goal.elements-requires
-elements-requires g c = subst (All (λ n. n < g.F.Field.ops.size)) (sym c.as_slice.ensures) (read_has (SuccessorFits g.F.Field.ops.size c.args.variables) c.args.claims.now c.loop-claim.claim-index c.claim-item.result (omega arith) c.claim-item.is c.requires).selector
+elements-requires g c = subst (All (λ n. n < g.F.Field.ops.size)) (sym c.as_slice.ensures) (read_has (SuccessorFits g.F.Field.ops.size c.args.variables) c.args.claims.now c.loop-claim.claim-index c.claim-item.result c.requires (omega arith) c.claim-item.is).selector
 
 pub elements-requires-in-loop-claim : goal.elements-requires-in-loop-claim
-elements-requires-in-loop-claim g c = subst (All (λ n. n < g.F.Field.ops.size)) (sym c.as_slice-in-loop-claim.ensures) (read_has (SuccessorFits g.F.Field.ops.size c.args.variables) c.args.claims.now c.loop-claim.claim-index c.claim-item.result (omega arith) c.claim-item.is c.requires).point
+elements-requires-in-loop-claim g c = subst (All (λ n. n < g.F.Field.ops.size)) (sym c.as_slice-in-loop-claim.ensures) (read_has (SuccessorFits g.F.Field.ops.size c.args.variables) c.args.claims.now c.loop-claim.claim-index c.claim-item.result c.requires (omega arith) c.claim-item.is).point
 
 pub element-value-requires : goal.element-value-requires
-element-value-requires g c = (read_has (SuccessorFits g.F.Field.ops.size c.args.variables) c.args.claims.now c.loop-claim.claim-index c.claim-item.result (omega arith) c.claim-item.is c.requires).value
+element-value-requires g c = (read_has (SuccessorFits g.F.Field.ops.size c.args.variables) c.args.claims.now c.loop-claim.claim-index c.claim-item.result c.requires (omega arith) c.claim-item.is).value
 
 pub add_evaluated_constraint-requires : goal.add_evaluated_constraint-requires
 add_evaluated_constraint-requires g c =
@@ -36,7 +37,7 @@ add_evaluated_constraint-requires g c =
     let claim = c.claim-item.result in
     let selector : length c.new-selector.result ≡ length claim.selector = ap length c.new-selector.ensures ∙ as_long N c.in_ok-elements.field-0.items claim.selector (c.in_ok-elements.ensures ∙ c.as_slice.ensures) in
     let point : length c.new-point.result ≡ length claim.point = ap length c.new-point.ensures ∙ as_long N c.in_ok-elements-2.field-0.items claim.point (c.in_ok-elements-2.ensures ∙ c.as_slice-in-loop-claim.ensures) in
-    ap (λ k. k + length c.new-point.result) selector ∙ ap (λ k. length claim.selector + k) point ∙ (read_has (SuccessorFits g.F.Field.ops.size c.args.variables) c.args.claims.now c.loop-claim.claim-index c.claim-item.result (omega arith) c.claim-item.is c.requires).arity ∙ sym c.loop-claim.invariant.arity
+    ap (λ k. k + length c.new-point.result) selector ∙ ap (λ k. length claim.selector + k) point ∙ (read_has (SuccessorFits g.F.Field.ops.size c.args.variables) c.args.claims.now c.loop-claim.claim-index c.claim-item.result c.requires (omega arith) c.claim-item.is).arity ∙ sym c.loop-claim.invariant.arity
 
 pub loop-claim-init : goal.loop-claim-init
 loop-claim-init g c = record {

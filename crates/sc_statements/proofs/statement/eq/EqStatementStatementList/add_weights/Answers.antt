@@ -4,7 +4,8 @@ use Rattle.sc_definitions.specs.Ring.{plus, times}
 use Rattle.sc_definitions.specs.Statements.{weight_of}
 use Rattle.sc_table.specs.Polys.{table_of}
 use Rattle.sc_statements.specs.EqStatements.{point_kind}
-use Rattle.sc_statements.proofs.Evaluations.{read-evaluated, place-inside, all-at}
+use Rattle.sc_definitions.proofs.Lists.{read_has}
+use Rattle.sc_statements.proofs.Evaluations.{read-evaluated, place-inside}
 use Rattle.sc_statements.proofs.statement.eq.EqStatementStatementList.add_weights.Goals as goal
 
 pub returns-clause-table : goal.returns-clause-table
@@ -26,6 +27,6 @@ add_to-requires g c =
     let self = c.args.self.now in
     let one = c.index.result.now in
     length-map one.weights g.EF.Field.number
-    ∙ all-at (λ d. length d.weights ≡ self.num_variables) self.constraints.items c.args.index one self.fits
+    ∙ read_has (λ d. length d.weights ≡ self.num_variables) self.constraints.items c.args.index one self.fits
     (place-inside (point_kind g.EF.Field.number) g.EF.Field.number self.constraints.items (length self.constraints.items) c.args.index refl c.requires.index) c.index.ensures
     ∙ sym c.requires.arity

@@ -3,7 +3,8 @@ use Rattle.std.proofs.lemmas.List.{length-map}
 use Rattle.sc_definitions.specs.Tables.{value}
 use Rattle.sc_definitions.specs.Statements.{weight_of}
 use Rattle.sc_statements.specs.EqStatements.{point_kind}
-use Rattle.sc_statements.proofs.Evaluations.{read-evaluated, place-inside, all-at}
+use Rattle.sc_definitions.proofs.Lists.{read_has}
+use Rattle.sc_statements.proofs.Evaluations.{read-evaluated, place-inside}
 use Rattle.sc_statements.proofs.statement.eq.EqStatementStatementList.weight_at.Goals as goal
 
 pub returns : goal.returns
@@ -24,6 +25,6 @@ value_at-requires g c =
     let self = c.args.self.now in
     let one = c.index.result.now in
     length-map one.weights g.EF.Field.number
-    ∙ all-at (λ d. length d.weights ≡ self.num_variables) self.constraints.items c.args.index one self.fits
+    ∙ read_has (λ d. length d.weights ≡ self.num_variables) self.constraints.items c.args.index one self.fits
     (place-inside (point_kind g.EF.Field.number) g.EF.Field.number self.constraints.items (length self.constraints.items) c.args.index refl c.requires.index) c.index.ensures
     ∙ sym c.requires.arity

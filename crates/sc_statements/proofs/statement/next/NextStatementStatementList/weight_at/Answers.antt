@@ -3,7 +3,8 @@ use Rattle.std.proofs.lemmas.List.{length-map}
 use Rattle.sc_definitions.specs.Tables.{value}
 use Rattle.sc_definitions.specs.Statements.{weight_of}
 use Rattle.sc_statements.specs.NextStatements.{next_kind}
-use Rattle.sc_statements.proofs.Evaluations.{read-evaluated, place-inside, all-at}
+use Rattle.sc_definitions.proofs.Lists.{read_has}
+use Rattle.sc_statements.proofs.Evaluations.{read-evaluated, place-inside}
 use Rattle.sc_statements.proofs.statement.next.NextStatementStatementList.weight_at.Goals as goal
 
 pub returns : goal.returns
@@ -24,6 +25,6 @@ value_at-requires g c =
     let self = c.args.self.now in
     let one = c.index.result.now in
     ap (λ k. k + length (map g.EF.Field.number one.weights.point)) (length-map one.weights.selector g.EF.Field.number) ∙ ap (λ k. length one.weights.selector + k) (length-map one.weights.point g.EF.Field.number)
-    ∙ all-at (λ d. length d.weights.selector + length d.weights.point ≡ self.num_variables) self.constraints.items c.args.index one self.fits
+    ∙ read_has (λ d. length d.weights.selector + length d.weights.point ≡ self.num_variables) self.constraints.items c.args.index one self.fits
     (place-inside (next_kind g.EF.Field.number) g.EF.Field.number self.constraints.items (length self.constraints.items) c.args.index refl c.requires.index) c.index.ensures
     ∙ sym c.requires.arity

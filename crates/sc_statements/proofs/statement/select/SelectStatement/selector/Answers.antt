@@ -1,7 +1,7 @@
 use Rattle.std.proofs.Common.{◌≡◌, ℕ, ◌-◌, ◌<◌, ◌≤◌, length, get_or, ◌∙◌, ap, arith}
 use Rattle.std.proofs.lemmas.List.{length-map}
 use Rattle.sc_statements.proofs.Selecting.{point-inside, scalar-at, point-at}
-use Rattle.sc_statements.proofs.Evaluations.{all-at}
+use Rattle.sc_definitions.proofs.Lists.{read_has}
 use Rattle.sc_statements.proofs.statement.select.SelectStatement.selector.Goals as goal
 
 pub index-requires-else-index-scalars : goal.index-requires-else-index-scalars
@@ -40,5 +40,5 @@ returns-else-index-scalars-clause-arity g c =
     let scalars : c.len-scalars.result ≡ length self.vars.items = c.len-scalars.ensures ∙ self.vars.ok.0 in
     let past : length self.vars.items ≤ c.args.index = omega (arith, scalars, c.if-index-scalars.false) in
     length-map one.now of
-    ∙ all-at (λ p. length p ≡ self.num_variables) self.points.items (c.args.index - c.len-scalars.result) one.now self.fits
+    ∙ read_has (λ p. length p ≡ self.num_variables) self.points.items (c.args.index - c.len-scalars.result) one.now self.fits
     (omega (arith, point-inside of f.number self c.args.index c.requires past, scalars)) c.index-else-index-scalars.ensures
