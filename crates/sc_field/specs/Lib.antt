@@ -1,7 +1,6 @@
 pub mod F257Laws
 pub mod F257x2Laws
 pub mod Laws
-pub mod Memory
 pub mod Own
 pub mod Powers
 pub mod PrimeLaws

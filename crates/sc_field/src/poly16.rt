@@ -7,9 +7,9 @@ ghost use Rattle.sc_field.specs.PrimeLaws.{eqb_iff};
 ghost use Rattle.sc_field.specs.SixteenLaws.{polynomials_field, polynomials_represent_tower, sixteen_two};
 
 use crate::field::Field;
-use crate::memory::NoMemory;
 use crate::representation::{FromTable, IntoTranscriptField};
 use crate::tower16::Tower16;
+use sc_memory::NoMemory;
 use std::alloc::Global;
 
 // The product of a and b is number 16 a + b.

@@ -4,7 +4,7 @@ ghost use Rattle.sc_definitions.specs.Ring.{IsRepresentation};
 ghost use Rattle.sc_field.specs.Own.{own_representation};
 
 use crate::field::Field;
-use crate::memory::NoMemory;
+use sc_memory::NoMemory;
 use std::alloc::Global;
 
 /// A field that represents another one, `EF`: each element of either has its image in the other, and

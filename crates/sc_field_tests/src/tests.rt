@@ -9,7 +9,7 @@ mod sixteen;
 
 use sc_field::{
     Algebra, ExtensionField, F65537, Field, FromTable, IntoTranscriptField, NoMemory, field_laws,
-    power_laws, sum_laws, with_room,
+    power_laws, sum_laws,
 };
 use std::alloc::Global;
 
@@ -104,10 +104,4 @@ fn maps_no_whole_table(rt: HostRuntime) {
 fn laws_are_calls(_rt: HostRuntime) {
     sum_laws::<F65537>();
     power_laws::<F65537>();
-}
-
-#[test]
-fn there_is_room_in_an_empty_list(rt: HostRuntime) {
-    let list: Vec<F65537> = with_room(rt.alloc(), 3).expect(&rt, "room");
-    assert_eq!(rt; (list.len(), list.capacity() >= 3), (0, true));
 }

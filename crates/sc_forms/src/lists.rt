@@ -4,7 +4,7 @@ ghost use Rattle.serde_json.specs.View.{view};
 ghost use Rattle.sc_forms.specs.Forms.{all_of, list_form, list_of_length_form, pair_form};
 
 use crate::{Form, Misread};
-use sc_table::Row;
+use sc_memory::Row;
 use serde_json::Value;
 use std::alloc::Global;
 

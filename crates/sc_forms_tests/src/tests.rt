@@ -6,7 +6,7 @@ use sc_forms::{
     AtMost, Below, Form, ListOf, ListOfLength, Literal, Misread, NoForm, NoValue, PairOf, Unsigned,
     is_object, member, read_value,
 };
-use sc_table::Row;
+use sc_memory::Row;
 use serde_json::Value;
 use std::alloc::Global;
 use std::process::Abort;

@@ -6,7 +6,8 @@ ghost use Rattle.sc_streams.specs.Faults.{Counts, raised};
 
 use crate::stream::count_fault;
 use crate::{Failed, Sink, Source};
-use std::alloc::{AllocError, Global};
+use sc_memory::{NoMemory, with_room};
+use std::alloc::Global;
 
 /// Bytes in memory, whose reads never fail.
 #[derive(Drop)]
@@ -147,7 +148,7 @@ impl MemSink {
 
     /// An empty sink for at most `capacity` bytes that fails at the listed calls. The memory for all of
     /// them is taken here, and the error is want of it.
-    pub fn new(alloc: Global, capacity: usize, fails: Vec<u64>) -> Result<MemSink, AllocError>
+    pub fn new(alloc: Global, capacity: usize, fails: Vec<u64>) -> Result<MemSink, NoMemory>
         ensures empty { IfOk result (λ s. sink_bytes s ≡ []) }
         ensures capacity { IfOk result (λ s. sink_capacity s ≡ capacity) }
         ensures fails { IfOk result (λ s. sink_fails s ≡ fails.items) }
@@ -155,7 +156,7 @@ impl MemSink {
         ensures faults { IfOk result (λ s. sink_faults s ≡ 0) }
     {
         Ok(MemSink {
-            bytes: Vec::with_capacity(alloc, capacity)?,
+            bytes: with_room(alloc, capacity)?,
             capacity,
             fails,
             calls: 0,

@@ -3,7 +3,8 @@ use crate::{
     Failed, MemSink, MemSource, PlainSource, ReadFault, Sink, Source, StdSink, StdSource, read_all,
     write_all,
 };
-use std::alloc::{AllocError, Global};
+use sc_memory::NoMemory;
+use std::alloc::Global;
 use std::io::{self, Error, ErrorKind, Read, Write};
 
 // A reader and a writer that is interrupted so many times, and then moves one byte at a call.
@@ -169,7 +170,7 @@ fn a_write_fault_in_mid_stream_is_told(rt: HostRuntime) {
 }
 
 // 70,000 bytes, not all alike.
-fn many(alloc: Global) -> Result<Vec<u8>, AllocError> {
+fn many(alloc: Global) -> Result<Vec<u8>, NoMemory> {
     let mut bytes = Vec::new(alloc);
     for i in 0..70_000u32 {
         bytes.push((i % 251) as u8)?;

@@ -1,7 +1,7 @@
 //! The grids of small-value rounds.
 ghost use Rattle.std.specs.Prelude.{◌≡◌, []};
 
-use sc_table::Row;
+use sc_memory::Row;
 use std::alloc::Global;
 
 /// The grid of one round. Round l, counted from 1, has 3^(l - 1) values in each list, one for each choice of a digit 0, 1 or infinity for each of

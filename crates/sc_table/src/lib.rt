@@ -9,14 +9,13 @@ mod lagrange;
 mod laws;
 mod point;
 mod poly;
-mod row;
 mod strategy;
 
 pub use lagrange::{extrapolate_01inf, lagrange_weights_01inf};
 pub use laws::strategy_laws;
 pub use point::Point;
 pub use poly::{Poly, eval_slice};
-pub use row::Row;
+pub use sc_memory::Row;
 pub use strategy::{
     Basis, RoundMessage, Strategy, VariableOrder, sumcheck_coefficients_prefix,
     sumcheck_coefficients_prefix_projective, sumcheck_coefficients_suffix,

@@ -4,9 +4,9 @@ ghost use Rattle.std.specs.Prelude.{◌≡◌, length, IfOk};
 
 use sc_field::{F65537, Field, NoMemory};
 use sc_table::{
-    Basis, Point, Poly, RoundMessage, Row, VariableOrder, extrapolate_01inf,
-    lagrange_weights_01inf, strategy_laws, sumcheck_coefficients_prefix,
-    sumcheck_coefficients_prefix_projective, sumcheck_coefficients_suffix,
+    Basis, Point, Poly, RoundMessage, VariableOrder, extrapolate_01inf, lagrange_weights_01inf,
+    strategy_laws, sumcheck_coefficients_prefix, sumcheck_coefficients_prefix_projective,
+    sumcheck_coefficients_suffix,
 };
 use std::alloc::Global;
 
@@ -39,14 +39,6 @@ fn message(c_a: u64, c_inf: u64) -> RoundMessage<F65537> {
 // The table 1, 2, 3, 4.
 fn four(alloc: Global) -> Result<Poly<F65537>, NoMemory> {
     Ok(Poly::new(elements(alloc, &[1, 2, 3, 4])?))
-}
-
-#[test]
-fn a_row_keeps_its_items(rt: HostRuntime) {
-    let row = Row::new(elements(rt.alloc(), &[7, 8, 9]).expect(&rt, "an answer"));
-    assert_eq!(rt; row.len(), 3);
-    assert!(rt; have_numbers(row.as_slice(), &[7, 8, 9]));
-    assert!(rt; have_numbers(&row.into_vec(), &[7, 8, 9]));
 }
 
 #[test]

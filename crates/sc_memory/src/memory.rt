@@ -2,13 +2,15 @@
 ghost use Rattle.std.specs.Prelude.{◌≡◌, ◌≤◌, [], IfOk, vec_capacity};
 
 use std::alloc::{AllocError, AllocFailed, Global};
+use thiserror::Error;
 
 /// A call wanted more memory than there was.
-#[derive(Clone, Copy, Debug, PartialEq, Eq)]
+#[derive(Clone, Copy, Debug, PartialEq, Eq, Error)]
+#[error("out of memory")]
 pub struct NoMemory;
 
 impl From<AllocError> for NoMemory {
-    ghost use Rattle.sc_field.specs.Memory.{no_memory};
+    ghost use Rattle.sc_memory.specs.Memory.{no_memory};
 
     ghost from_gives = { λ _ e. e ≡ no_memory };
 
@@ -18,7 +20,7 @@ impl From<AllocError> for NoMemory {
 }
 
 impl<T: Drop> From<AllocFailed<T>> for NoMemory {
-    ghost use Rattle.sc_field.specs.Memory.{no_memory};
+    ghost use Rattle.sc_memory.specs.Memory.{no_memory};
 
     ghost from_gives = { λ _ e. e ≡ no_memory };
 

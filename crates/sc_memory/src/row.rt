@@ -37,12 +37,4 @@ impl<T> Row<T> {
     {
         self.items.len()
     }
-
-    /// The items themselves, in order.
-    pub fn into_vec(self) -> Vec<T>
-        ensures { result.items ≡ self }
-    {
-        let Row { items } = self;
-        items
-    }
 }

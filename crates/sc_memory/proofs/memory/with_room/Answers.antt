@@ -1,5 +1,5 @@
 use Rattle.std.proofs.lemmas.Result.{IfOk-from_err}
-use Rattle.sc_field.proofs.memory.with_room.Goals as goal
+use Rattle.sc_memory.proofs.memory.with_room.Goals as goal
 
 -- a refusal tells nothing of an answer
 pub returns-in_err-with_capacity-clause-empty : goal.returns-in_err-with_capacity-clause-empty
