@@ -7,10 +7,8 @@ mod integers;
 mod pairs;
 mod sixteen;
 
-use sc_field::{
-    Algebra, ExtensionField, F65537, Field, FromTable, IntoTranscriptField, NoMemory, field_laws,
-    power_laws, sum_laws,
-};
+use sc_field::laws::{field_laws, power_laws, sum_laws};
+use sc_field::{Algebra, ExtensionField, F65537, Field, FromTable, IntoTranscriptField, NoMemory};
 use std::alloc::Global;
 
 // Element number 15, which every field has.

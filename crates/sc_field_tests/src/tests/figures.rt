@@ -1,5 +1,6 @@
 //! Operations on elements by their numbers, and what they give.
-use sc_field::{Field, field_laws};
+use sc_field::Field;
+use sc_field::laws::field_laws;
 use std::process::Abort;
 
 // An operation on the elements of these numbers.
