@@ -8,13 +8,11 @@
 mod form;
 mod input;
 mod lists;
-mod literal;
 mod no_form;
 mod numbers;
 
 pub use form::{Form, Misread, is_object, member};
 pub use input::{NoValue, read_value};
 pub use lists::{ListOf, ListOfLength, PairOf};
-pub use literal::Literal;
 pub use no_form::NoForm;
-pub use numbers::{AtMost, Below, Unsigned};
+pub use numbers::{AtMost, Below};

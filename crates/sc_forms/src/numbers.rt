@@ -1,44 +1,22 @@
 // Forms of unsigned numbers.
-ghost use Rattle.std.specs.Prelude.{◌≡◌, ◌<◌, ◌≤◌, ◌^◌, None, Some, IfOk, IsErrOf};
+ghost use Rattle.std.specs.Prelude.{◌≡◌, ◌<◌, ◌≤◌, None, Some, IfOk, IsErrOf};
 ghost use Rattle.serde_json.specs.View.{view};
-ghost use Rattle.sc_forms.specs.Forms.{unsigned_form, below_form, at_most_form};
+ghost use Rattle.sc_forms.specs.Forms.{below_form, at_most_form};
 
 use crate::{Form, Misread};
 use serde_json::Value;
 use std::alloc::Global;
 
-/// An unsigned number below 2^64: digits without a sign, a fraction or an exponent.
-#[derive(Clone, Copy, Debug, PartialEq, Eq)]
-pub struct Unsigned;
-
-/// An unsigned number below a bound.
+/// An unsigned number below a bound: digits without a sign, a fraction or an exponent.
 #[derive(Clone, Copy, Debug, PartialEq, Eq)]
 pub struct Below {
     pub bound: u64,
 }
 
-/// An unsigned number that is at most another.
+/// An unsigned number that is at most another: digits without a sign, a fraction or an exponent.
 #[derive(Clone, Copy, Debug, PartialEq, Eq)]
 pub struct AtMost {
     pub most: u64,
-}
-
-impl Form for Unsigned {
-    type Out = u64;
-
-    ghost reads = { λ _. unsigned_form };
-
-    ghost fits = { λ _ n. n < 2 ^ 64 };
-
-    /// It takes no memory.
-    fn read(&self, _alloc: Global, value: &Value) -> Result<u64, Misread>
-        ensures ok { IfOk result (λ n. unsigned_form (view value.now) ≡ Some n) }
-        ensures not_of_form { IsErrOf result Misread.NotOfForm → unsigned_form (view value.now) ≡ None }
-        ensures fits { IfOk result (λ n. n < 2 ^ 64) }
-        ensures memory { ¬ IsErrOf result Misread.NoMemory }
-    {
-        value.as_u64().ok_or(Misread::NotOfForm)
-    }
 }
 
 impl Form for Below {
