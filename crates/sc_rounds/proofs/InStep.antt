@@ -1,5 +1,5 @@
 -- A replay of the rounds that a prover played.
-use Rattle.std.proofs.Common.{◌≡◌, ℕ, zero, suc, ◌+◌, true, false, List, [], ◌∷◌, ◌++◌, length, take, refl, ap, sym, subst, ◌∙◌, Some, Result, Ok, Err, OnErr, IsErrAnd, ◌⊎◌, inl, inr, append_assoc, if◌then◌else◌, ne_eqb, arith}
+use Rattle.std.proofs.Common.{◌≡◌, ℕ, zero, suc, ◌+◌, true, false, List, [], ◌∷◌, ◌++◌, length, take, refl, ap, sym, subst, ◌∙◌, Some, Result, Ok, Err, IfErr, IsErrAnd, ◌⊎◌, inl, inr, append_assoc, if◌then◌else◌, ne_eqb, arith}
 use Rattle.std.proofs.lemmas.List.{append-nil, length-map}
 use Rattle.std.specs.List.{slice_get}
 use Rattle.sc_definitions.specs.declared.events.Event.{Event}
@@ -11,12 +11,12 @@ use Rattle.sc_definitions.specs.Channels.{Channel, Wire, empty_wire, with_rounds
 use Rattle.sc_definitions.specs.Standings.{Setting, Standing, footing_of, IsPlayed}
 use Rattle.sc_definitions.proofs.BuiltLaws.{length-messages}
 use Rattle.sc_transcript.specs.declared.error.SumcheckError.{SumcheckError}
-use Rattle.sc_transcript.specs.declared.error.SumcheckError.TheVariants.{RoundCountMismatch, InvalidPowWitness, PowWitnessCountMismatch, NoWitness, NoMemory}
-use Rattle.sc_transcript.specs.Invalid.{FindsNone}
+use Rattle.sc_transcript.specs.declared.error.SumcheckError.TheVariants.{RoundCountMismatch, MissingSumcheckData, InvalidPowWitness, MissingPowWitness, PowWitnessCountMismatch, WireSizeMismatch, EvenCharacteristic, MaskTooShort, NoRounds, OpeningShapeMismatch, NoWitness, NoMemory}
+use Rattle.sc_transcript.specs.Invalid.{IsInvalid}
 use Rattle.sc_transcript.specs.Replayed.{LeavesReplay}
 use Rattle.sc_transcript.specs.Data.{witness_count, witnesses_of}
-use Rattle.sc_rounds.specs.Laws.{rounds_on, ReplaysInPart}
-use Rattle.sc_rounds.specs.Standings.{IsBatchStopped, MovesBatch}
+use Rattle.sc_rounds.specs.Laws.{rounds_on, ReplaysInPart, IsOutOfStep}
+use Rattle.sc_rounds.specs.Standings.{Batch, BreaksOff}
 
 -- ---- the rounds of what was appended
 
@@ -49,6 +49,22 @@ count_witnesses (suc bits) rounds =
     ∙ sym (ap (λ b. if b then 0 else length rounds) (ne_eqb (suc bits) 0 (λ e. absurd (omega (arith, e)))))
 
 -- ---- no witness of a built round fails
+
+-- the refusal for a witness names a round and a difficulty
+pub invalid_is : {T : Type 0} (r : Result T SumcheckError) → IsInvalid r → (i : ℕ) × (d : ℕ) × (r ≡ Err (InvalidPowWitness i d))
+invalid_is (Ok x) p = absurd p
+invalid_is (Err (InvalidPowWitness i d)) p = (i, d, refl)
+invalid_is (Err (RoundCountMismatch a b)) p = absurd p
+invalid_is (Err (MissingSumcheckData a)) p = absurd p
+invalid_is (Err (MissingPowWitness a b)) p = absurd p
+invalid_is (Err (PowWitnessCountMismatch a b)) p = absurd p
+invalid_is (Err (WireSizeMismatch a b c)) p = absurd p
+invalid_is (Err EvenCharacteristic) p = absurd p
+invalid_is (Err (MaskTooShort a)) p = absurd p
+invalid_is (Err NoRounds) p = absurd p
+invalid_is (Err (OpeningShapeMismatch a b c d e)) p = absurd p
+invalid_is (Err (NoWitness a)) p = absurd p
+invalid_is (Err NoMemory) p = absurd p
 
 passes_first : (R : Rules) (E : Extension) (bits : ℕ) (h : List Event) (r : Round) → HasFirstWitness R E bits h r → round_passes R E bits h r ≡ true
 unfolding HasFirstWitness round_passes
@@ -83,28 +99,15 @@ none_failing next honest R E bits h n claim given rounds same built i hv c inval
     ap (λ t. round_passes R E bits t there.round) there.replays.history ∙ passes_at honest R E bits h [] n rounds i there.round built there.is in
     let clash : true ≡ false = sym passes ∙ there.fails in cc
 
--- a batch's refusal that is passed on
-pub passed_on : {X : Type 0} (number : X → List ℕ) (r : Result X SumcheckError) (e : SumcheckError) (unbegun : Type 0) (s : Setting) (t u : Standing) (n : ℕ) →
-    IsErrAnd r (λ x. x ≡ e) → IsBatchStopped unbegun s t u n e → MovesBatch number unbegun s t u n r
-passed_on number (Ok x) e unbegun s t u n is why = absurd is
-passed_on number (Err x) e unbegun s t u n is why = subst (λ y. IsBatchStopped unbegun s t u n y) (sym is) why
+-- what holds of an error holds of a result that passes it on
+pub err_as : {T E : Type 0} (P : E → Type 0) (r : Result T E) (e : E) → IsErrAnd r (λ x. x ≡ e) → P e → IfErr r P
+err_as P (Ok x) e is p = tt
+err_as P (Err x) e is p = subst P (sym is) p
 
--- what a batch is refused with
-pub refused_with : {X : Type 0} (number : X → List ℕ) (r : Result X SumcheckError) (unbegun : Type 0) (s : Setting) (t u : Standing) (n : ℕ) →
-    MovesBatch number unbegun s t u n r → OnErr r ((r ≡ Err NoMemory) ⊎ FindsNone r)
-refused_with number (Ok x) unbegun s t u n why = tt
-refused_with number (Err NoMemory) unbegun s t u n why = inl refl
-refused_with number (Err (NoWitness i)) unbegun s t u n why = inr tt
-refused_with number (Err e) unbegun s t u n why = absurd why
-
--- the want of memory is no want of a witness
-pub finds_memory : {X : Type 0} (r : Result X SumcheckError) → IsErrAnd r (λ x. x ≡ NoMemory) → FindsNone r → ⊥
-finds_memory (Ok x) is none = none
-finds_memory {X = X} (Err e) is none = (let P : SumcheckError → Type 0 = λ x. FindsNone {T = X} (Err x) in subst P is none)
-
-pub whatever_err : {X E : Type 0} (P : Type 0) (r : Result X E) → P → OnErr r P
-whatever_err P (Ok x) p = tt
-whatever_err P (Err e) p = p
+-- the prover's refusal: the verifier has not begun
+pub not_begun : (b : Batch) (u : Standing) (h : List Event) (e : SumcheckError) → BreaksOff b u e → IsOutOfStep b u h h e
+not_begun b u h NoMemory why = (why, inl refl)
+not_begun b u h e why = (why, refl)
 
 -- ---- both sides
 
@@ -155,6 +158,9 @@ module _ (s : Setting) (t u : Standing) (rs : List ℕ) (c : Channel) (start : F
 
     pub same_claims : end.claim ≡ u.claim
     same_claims = moved.claim ∙ ap (claim_along (next_claim s.basis s.ops) t.claim (messages_of played.rounds)) (sym played.drawn) ∙ sym played.claim
+
+    pub same_ends : end ≡ footing_of u
+    same_ends = λ i. record { history = same_histories i; claim = same_claims i }
 
   -- no round of it is refused
   pub none_invalid : (i : ℕ) (end : Footing) → FailsAt (next_claim s.basis s.ops) c start end (rounds_on u.wire) i → ⊥

@@ -1,11 +1,14 @@
 -- Laws of batches and their replays, in every setting: what a batch has put on an empty wire is replayed.
-use Rattle.std.specs.Prelude.{◌≡◌, ℕ, List}
+use Rattle.std.specs.Prelude.{◌≡◌, ◌⊎◌, ℕ, List}
 use Rattle.sc_definitions.specs.declared.events.Event.{Event}
 use Rattle.sc_definitions.specs.Rounds.{next_claim}
 use Rattle.sc_definitions.specs.Transcript.{Round}
 use Rattle.sc_definitions.specs.Replays.{given_rounds}
 use Rattle.sc_definitions.specs.Channels.{Wire, empty_wire, Footing, footing, IsReplayed, IsReplayedInPart, FailsAt}
 use Rattle.sc_definitions.specs.Standings.{Setting, Standing, footing_of, IsPlayed}
+use Rattle.sc_transcript.specs.declared.error.SumcheckError.{SumcheckError}
+use Rattle.sc_transcript.specs.declared.error.SumcheckError.TheVariants.{NoMemory}
+use Rattle.sc_rounds.specs.Standings.{Batch, BreaksOff}
 
 -- the rounds of a wire
 abbrev pub rounds_on : Wire → List Round
@@ -30,7 +33,21 @@ NoneIsInvalid =
     (s : Setting) (before after : Standing) (rs : List ℕ) → before.wire ≡ empty_wire → IsPlayed s before after rs →
     (i : ℕ) (end : Footing) → FailsAt (next_claim s.basis s.ops) s.channel (footing_of before) end (rounds_on after.wire) i → ⊥
 
--- Some of the rounds on a wire were replayed, from the first on, from where a batch began: this is the history that they leave.
-pub record ReplaysInPart (s : Setting) (before : Standing) (w : Wire) (h : List Event) : Type 0 where
+-- ---- a prover and a verifier
+
+-- They are in step: a batch was played, and its replay has the same challenges and ends where it ends.
+pub record IsInStep (b : Batch) (after : Standing) (rs out : List ℕ) (end : Footing) : Type 0 where
+  pub played : IsPlayed b.setting b.start after rs
+  pub challenges : out ≡ rs
+  pub ends : end ≡ footing_of after
+
+-- Some of the rounds that a batch has put on an empty wire were replayed, from the first on: this is the history that they leave.
+pub record ReplaysInPart (s : Setting) (start : Standing) (w : Wire) (h : List Event) : Type 0 where
   pub claim : ℕ
-  pub part : IsReplayedInPart (next_claim s.basis s.ops) s.channel (footing_of before) (footing h claim) (rounds_on w)
+  pub part : IsReplayedInPart (next_claim s.basis s.ops) s.channel (footing_of start) (footing h claim) (rounds_on w)
+
+-- Why they are not, and what that leaves: the prover stopped, or after the want of memory may have played all; the verifier's history h is as it was, but
+-- that after the want of memory some of the rounds may be replayed.
+abbrev pub IsOutOfStep : Batch → Standing → List Event → List Event → SumcheckError → Type 0
+IsOutOfStep b after h h' NoMemory = BreaksOff b after NoMemory × ((h' ≡ h) ⊎ ReplaysInPart b.setting b.start after.wire h')
+IsOutOfStep b after h h' e = BreaksOff b after e × (h' ≡ h)

@@ -1,8 +1,8 @@
 -- Where the rounds of a prover stand.
-use Rattle.std.specs.Prelude.{◌≡◌, ◌⊎◌, ℕ, List, Option}
+use Rattle.std.specs.Prelude.{◌≡◌, ℕ, List, ◌++◌, Option}
 use Rattle.std.specs.declared.cmp.PartialEq.{Ghosts as PartialEqOf}
 use Rattle.sc_definitions.specs.declared.events.Event.{Event}
-use Rattle.sc_definitions.specs.Events.{Rules}
+use Rattle.sc_definitions.specs.Events.{Rules, words}
 use Rattle.sc_definitions.specs.Tables.{rows_of}
 use Rattle.sc_definitions.specs.Channels.{channel}
 use Rattle.sc_definitions.specs.Standings.{Setting, Standing, entries_of}
@@ -12,11 +12,13 @@ use Rattle.sc_field.specs.declared.algebra.ExtensionField.{Ghosts as ExtensionOf
 use Rattle.sc_field.specs.declared.representation.FromTable.{Ghosts as FromTableOf}
 use Rattle.sc_statements.specs.declared.constraint.Constraint.{Constraint}
 use Rattle.sc_transcript.specs.Data.{wire_in}
+use Rattle.sc_transcript.specs.Shapes.{seed_of}
+use Rattle.sc_transcript.specs.declared.transcript.SumcheckShape.{SumcheckShape}
 use Rattle.sc_transcript.specs.declared.data.SumcheckData.{SumcheckData}
 use Rattle.sc_rounds.specs.declared.strategy.SumcheckProver.{SumcheckProver}
 use Rattle.sc_rounds.specs.declared.strategy.repr.ReprSumcheckProver.{ReprSumcheckProver}
 use Rattle.sc_rounds.specs.Products.{variables_in, order_in, evals_in, weights_in}
-use Rattle.sc_rounds.specs.Standings.{setting_in, standing_in}
+use Rattle.sc_rounds.specs.Standings.{setting_in, standing_in, Batch}
 use Rattle.sc_rounds.specs.Batches.{weights_with, claim_with}
 
 module _ {F EF : Type 0} {f : FieldOf F} {p : PartialEqOf F} {x : ExtensionOf EF F} {a : AlgebraOf EF F} {e : FieldOf EF} {q : PartialEqOf EF} where
@@ -33,6 +35,17 @@ module _ {F EF : Type 0} {f : FieldOf F} {p : PartialEqOf F} {x : ExtensionOf EF
   standing_with s d h c = record (standing_of s d h) {
     weights = entries_of (standing_of s d h).variables (weights_with e.ops (λ y. a.embedding (f.number y)) e.number c (rows_of (standing_of s d h).weights));
     claim = claim_with e.ops (λ y. a.embedding (f.number y)) e.number c (standing_of s d h).claim;
+  }
+
+  -- the batch of a shape, with a constraint if there is one, that is asked of a prover where a challenger answers by these rules and has this history; the
+  -- seed is that over an extension of a degree
+  abbrev pub batch_of : SumcheckProver F EF f p x a e q → SumcheckData F EF → Option (Constraint F EF) → Rules → List Event → ℕ → SumcheckShape → Batch
+  batch_of s d c R h degree shape = record {
+    setting = setting_of s R shape.pow_bits;
+    asked = standing_of s d h;
+    taken = standing_with s d h c;
+    start = standing_with s d (h ++ words (seed_of degree shape)) c;
+    rounds = shape.num_rounds;
   }
 
 module _ {F EF R : Type 0} {f : FieldOf F} {p : PartialEqOf F} {x : ExtensionOf EF F} {a : AlgebraOf EF F} {e : FieldOf EF} {q : PartialEqOf EF}
@@ -52,7 +65,3 @@ module _ {F EF : Type 0} {f : FieldOf F} {p : PartialEqOf F} {x : ExtensionOf EF
     pub evals : evals_in e.number after.poly ≡ evals_in e.number before.poly
     pub weights : weights_in e.number after.poly ≡ weights_in e.number before.poly
     pub claim : e.number after.sum ≡ e.number before.sum
-
--- A batch that was broken off before its first round: it stands as before, but that what comes first may have been taken in.
-abbrev pub IsUnplayed : Standing → Standing → Standing → Type 0
-IsUnplayed before with after = (after ≡ before) ⊎ (after ≡ with)

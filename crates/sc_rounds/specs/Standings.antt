@@ -53,3 +53,27 @@ Moves number s before after i (Err e) = IsHalted s before after i e
 abbrev pub MovesBatch : {X : Type 0} → (X → List ℕ) → Type 0 → Setting → Standing → Standing → ℕ → Result X SumcheckError → Type 0
 MovesBatch challenges unbegun s before after rounds (Ok x) = IsPlayed s before after (challenges x)
 MovesBatch challenges unbegun s before after rounds (Err e) = IsBatchStopped unbegun s before after rounds e
+
+-- ---- a batch that is asked of a prover
+
+-- What stays, where the prover stands, where it stands with a constraint taken in, if there is one, where the first round begins, which is behind the
+-- seed, and how many rounds are asked for.
+pub record Batch : Type 0 where
+  pub setting : Setting
+  pub asked : Standing
+  pub taken : Standing
+  pub start : Standing
+  pub rounds : ℕ
+
+-- it was broken off before its first round: the prover stands as it was asked, but that the constraint may have been taken in
+abbrev pub IsUnplayed : Batch → Standing → Type 0
+IsUnplayed b after = (after ≡ b.asked) ⊎ (after ≡ b.taken)
+
+-- why it stops, and what that leaves
+abbrev pub BreaksOff : Batch → Standing → SumcheckError → Type 0
+BreaksOff b after = IsBatchStopped (IsUnplayed b after) b.setting b.start after b.rounds
+
+-- what it leaves, by its result
+abbrev pub LeavesBatch : {X : Type 0} → (X → List ℕ) → Batch → Standing → Result X SumcheckError → Type 0
+LeavesBatch challenges b after (Ok x) = IsPlayed b.setting b.start after (challenges x)
+LeavesBatch challenges b after (Err e) = BreaksOff b after e

@@ -1,17 +1,13 @@
 //! Laws of batches, as contracts: a caller calls the function and has them.
-ghost use Rattle.std.specs.Prelude.{◌≡◌, ◌⊎◌, ◌+◌, ◌≤◌, [], ◌++◌, Err, IfOk, OnOk, OnErr, map};
-ghost use Rattle.sc_definitions.specs.Events.{words};
-ghost use Rattle.sc_definitions.specs.Seeds.{quadratic_seed};
-ghost use Rattle.sc_definitions.specs.Tables.{evaluation};
-ghost use Rattle.sc_definitions.specs.Channels.{empty_wire};
+ghost use Rattle.std.specs.Prelude.{◌≡◌, ◌+◌, ◌≤◌, IfOk, IfErr, OnOk, map};
+ghost use Rattle.sc_definitions.specs.Channels.{empty_wire, footing};
 ghost use Rattle.sc_transcript.specs.Data.{wire_in};
+ghost use Rattle.sc_transcript.specs.Shapes.{shape_of};
 ghost use Rattle.sc_rounds.specs.Products.{variables_in, order_in, evals_in};
 ghost use Rattle.sc_rounds.specs.Batches.{claim_with};
-ghost use Rattle.sc_rounds.specs.Standings.{MovesBatch};
-ghost use Rattle.sc_rounds.specs.ProverViews.{setting_of, standing_of, standing_with, IsUnplayed};
+ghost use Rattle.sc_rounds.specs.ProverViews.{standing_of, batch_of};
 ghost use Rattle.sc_rounds.specs.Provers.{IsTrueIfSome};
-ghost use Rattle.sc_transcript.specs.Invalid.{FindsNone};
-ghost use Rattle.sc_rounds.specs.Laws.{BatchesReplay, ReplaysAgree, NoneIsInvalid, ReplaysInPart};
+ghost use Rattle.sc_rounds.specs.Laws.{BatchesReplay, ReplaysAgree, NoneIsInvalid, IsInStep, IsOutOfStep};
 
 use crate::strategy::SumcheckProver;
 use sc_challenger::Challenger;
@@ -57,21 +53,14 @@ pub fn batch_in_step<F: Field, EF: ExtensionField<F>, C: Challenger<F>>(
     requires rules { C.rules verifier_challenger.old ≡ C.rules prover_challenger.old }
     requires history { C.history verifier_challenger.old ≡ C.history prover_challenger.old }
     requires empty { wire_in F.number EF.number sumcheck_data.old ≡ empty_wire }
-    ensures challenges { IfOk result (λ played. map EF.number played.1 ≡ map EF.number played.0) }
-    ensures histories { OnOk result (C.history verifier_challenger.new ≡ C.history prover_challenger.new) }
-    ensures claims { IfOk result (λ played. EF.number played.2 ≡ EF.number prover.new.sum) }
-    ensures batch { MovesBatch (λ played. map EF.number played.0)
-        (IsUnplayed (standing_of prover.old sumcheck_data.old (C.history prover_challenger.old)) (standing_with prover.old sumcheck_data.old (C.history prover_challenger.old) constraint)
-        (standing_of prover.new sumcheck_data.new (C.history prover_challenger.new)))
-        (setting_of prover.old (C.rules prover_challenger.old) pow_bits)
-        (standing_with prover.old sumcheck_data.old (C.history prover_challenger.old ++ words (quadratic_seed EF.DEGREE evaluation pow_bits folding_factor)) constraint)
-        (standing_of prover.new sumcheck_data.new (C.history prover_challenger.new)) folding_factor result }
-    ensures causes { OnErr result ((result ≡ Err SumcheckError.NoMemory) ⊎ FindsNone result) }
-    ensures not_begun { FindsNone result → C.history verifier_challenger.new ≡ C.history verifier_challenger.old }
-    ensures verifier { OnErr result ((C.history verifier_challenger.new ≡ C.history verifier_challenger.old)
-        ⊎ ReplaysInPart (setting_of prover.old (C.rules prover_challenger.old) pow_bits)
-        (standing_with prover.old sumcheck_data.old (C.history prover_challenger.old ++ words (quadratic_seed EF.DEGREE evaluation pow_bits folding_factor)) constraint)
-        (wire_in F.number EF.number sumcheck_data.new) (C.history verifier_challenger.new)) }
+    ensures step { IfOk result (λ x. IsInStep
+        (batch_of prover.old sumcheck_data.old constraint (C.rules prover_challenger.old) (C.history prover_challenger.old) EF.DEGREE (shape_of folding_factor pow_bits Basis.Evaluation))
+        (standing_of prover.new sumcheck_data.new (C.history prover_challenger.new))
+        (map EF.number x.0) (map EF.number x.1) (footing (C.history verifier_challenger.new) (EF.number x.2))) }
+    ensures broken { IfErr result (IsOutOfStep
+        (batch_of prover.old sumcheck_data.old constraint (C.rules prover_challenger.old) (C.history prover_challenger.old) EF.DEGREE (shape_of folding_factor pow_bits Basis.Evaluation))
+        (standing_of prover.new sumcheck_data.new (C.history prover_challenger.new))
+        (C.history verifier_challenger.old) (C.history verifier_challenger.new)) }
     ensures prover_rules { C.rules prover_challenger.new ≡ C.rules prover_challenger.old }
     ensures verifier_rules { C.rules verifier_challenger.new ≡ C.rules verifier_challenger.old }
     ensures order { order_in prover.new.poly ≡ order_in prover.old.poly }

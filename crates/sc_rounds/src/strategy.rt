@@ -36,9 +36,10 @@ pub struct SumcheckProver<F: Field, EF: ExtensionField<F>> {
 
 impl<F: Field, EF: ExtensionField<F>> SumcheckProver<F, EF> {
     ghost use Rattle.sc_rounds.specs.Products.{variables_in, order_in, evals_in, weights_in};
-    ghost use Rattle.sc_rounds.specs.Standings.{MovesBatch};
+    ghost use Rattle.sc_transcript.specs.Shapes.{shape_of};
+    ghost use Rattle.sc_rounds.specs.Standings.{LeavesBatch};
     ghost use Rattle.sc_rounds.specs.Batches.{weights_with, claim_with};
-    ghost use Rattle.sc_rounds.specs.ProverViews.{setting_of, standing_of, standing_with, IsUnplayed, ShowsTheSame};
+    ghost use Rattle.sc_rounds.specs.ProverViews.{standing_of, batch_of, ShowsTheSame};
     ghost use Rattle.sc_rounds.specs.contracts.strategy.SumcheckProver.{the_row};
     ghost use Rattle.sc_rounds.specs.Provers.{IsTrueConstraint, IsTrueIfSome};
 
@@ -195,12 +196,9 @@ impl<F: Field, EF: ExtensionField<F>> SumcheckProver<F, EF> {
         ensures rules { C.rules challenger.new ≡ C.rules challenger.old }
         ensures order { order_in self.new.poly ≡ order_in self.old.poly }
         ensures fewer { OnOk result (variables_in self.new.poly + folding_factor ≡ variables_in self.old.poly) }
-        ensures batch { MovesBatch (map EF.number)
-            (IsUnplayed (standing_of self.old sumcheck_data.old (C.history challenger.old)) (standing_with self.old sumcheck_data.old (C.history challenger.old) constraint)
-            (standing_of self.new sumcheck_data.new (C.history challenger.new)))
-            (setting_of self.old (C.rules challenger.old) pow_bits)
-            (standing_with self.old sumcheck_data.old (C.history challenger.old ++ words (quadratic_seed EF.DEGREE evaluation pow_bits folding_factor)) constraint)
-            (standing_of self.new sumcheck_data.new (C.history challenger.new)) folding_factor result }
+        ensures batch { LeavesBatch (map EF.number)
+            (batch_of self.old sumcheck_data.old constraint (C.rules challenger.old) (C.history challenger.old) EF.DEGREE (shape_of folding_factor pow_bits Basis.Evaluation))
+            (standing_of self.new sumcheck_data.new (C.history challenger.new)) result }
         ensures left { variables_in self.old.poly ≤ variables_in self.new.poly + folding_factor }
     {
         self.take_in_if_some(alloc, constraint)?;

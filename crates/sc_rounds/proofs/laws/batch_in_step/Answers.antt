@@ -1,4 +1,4 @@
-use Rattle.std.proofs.Common.{◌≡◌, ℕ, List, Err, refl, ◌++◌, inl, inr, ap, sym, ◌∙◌}
+use Rattle.std.proofs.Common.{List, refl, ◌++◌, inr, ap, sym, ◌∙◌}
 use Rattle.std.proofs.lemmas.Result.{IfOk-from_err}
 use Rattle.std.proofs.lemmas.List.{length-map}
 use Rattle.sc_definitions.specs.Tables.{evaluation}
@@ -7,7 +7,8 @@ use Rattle.sc_definitions.specs.Seeds.{quadratic_seed}
 use Rattle.sc_definitions.specs.declared.events.Event.{Event}
 use Rattle.sc_definitions.specs.Channels.{channel}
 use Rattle.sc_rounds.proofs.TakenLaws.{claim_begun, same_footing}
-use Rattle.sc_rounds.proofs.InStep.{message_count, found_count, same_challenges, same_histories, same_claims, wants_memory, passed_on, refused_with, finds_memory, whatever_err}
+use Rattle.sc_transcript.specs.declared.error.SumcheckError.TheVariants.{NoMemory}
+use Rattle.sc_rounds.proofs.InStep.{message_count, found_count, same_challenges, same_ends, wants_memory, err_as, not_begun}
 use Rattle.sc_rounds.proofs.laws.batch_in_step.Goals as goal
 
 -- the prover's call asks for what the caller gives
@@ -28,15 +29,9 @@ verify_rounds-requires g c = rw c.requires.rules c.requires.difficulty
 pub returns-in_err-drawn : goal.returns-in_err-drawn
 returns-in_err-drawn g c =
     let none = c.from_residual.ensures.0 in
-    let batch = passed_on _ _ _ _ _ _ _ _ c.from_residual.ensures.1 c.in_err-drawn.ensures.batch in
     record {
-      challenges = IfOk-from_err _ _ none;
-      histories = IfOk-from_err _ _ none;
-      claims = IfOk-from_err _ _ none;
-      batch = batch;
-      causes = refused_with _ _ _ _ _ _ _ batch;
-      not_begun = λ found. refl;
-      verifier = whatever_err _ _ (inl refl);
+      step = IfOk-from_err _ _ none;
+      broken = err_as _ _ _ c.from_residual.ensures.1 (not_begun _ _ _ _ c.in_err-drawn.ensures.batch);
       prover_rules = c.in_err-drawn.ensures.rules;
       verifier_rules = refl;
       order = c.in_err-drawn.ensures.order;
@@ -58,16 +53,9 @@ returns-in_err-replayed g c =
     let witnessed = kept.pow_witnesses.ok.0 ∙ sym (length-map _ _) ∙ found_count _ _ _ _ C _ c.requires.empty same begun played c.args.folding_factor c.in_ok-drawn.ensures.fewer in
     let told = wants_memory _ _ _ _ C _ c.requires.empty same begun played N _ _ c.args.folding_factor _ _ c.in_err-replayed.field-0.0 _ counted witnessed c.in_err-replayed.ensures.left in
     let none = c.from_residual-in_err-replayed.ensures.0 in
-    let memory = rw told.0 at c.from_residual-in_err-replayed.ensures.1 in
-    let batch = passed_on _ _ _ _ _ _ _ _ memory (inr (record { rs = _; played = played })) in
     record {
-      challenges = IfOk-from_err _ _ none;
-      histories = IfOk-from_err _ _ none;
-      claims = IfOk-from_err _ _ none;
-      batch = batch;
-      causes = refused_with _ _ _ _ _ _ _ batch;
-      not_begun = λ found. absurd (finds_memory _ memory found);
-      verifier = whatever_err _ _ told.1;
+      step = IfOk-from_err _ _ none;
+      broken = err_as _ _ NoMemory (rw told.0 at c.from_residual-in_err-replayed.ensures.1) (inr (record { rs = _; played = played }), told.1);
       prover_rules = c.in_ok-drawn.ensures.rules;
       verifier_rules = c.in_err-replayed.ensures.rules;
       order = c.in_ok-drawn.ensures.order;
@@ -86,13 +74,12 @@ returns g c =
     let played = c.in_ok-drawn.ensures.batch in
     let replayed = c.in_ok-replayed.ensures.left.1 in
     record {
-      challenges = same_challenges _ _ _ _ C _ c.requires.empty same begun played _ _ replayed;
-      histories = same_histories _ _ _ _ C _ c.requires.empty same begun played _ _ replayed;
-      claims = same_claims _ _ _ _ C _ c.requires.empty same begun played _ _ replayed;
-      batch = played;
-      causes = tt;
-      not_begun = λ found. absurd found;
-      verifier = tt;
+      step = record {
+        played = played;
+        challenges = same_challenges _ _ _ _ C _ c.requires.empty same begun played _ _ replayed;
+        ends = same_ends _ _ _ _ C _ c.requires.empty same begun played _ _ replayed;
+      };
+      broken = tt;
       prover_rules = c.in_ok-drawn.ensures.rules;
       verifier_rules = c.in_ok-replayed.ensures.rules;
       order = c.in_ok-drawn.ensures.order;
