@@ -6,3 +6,4 @@ pub mod GroupSteps
 pub mod FalseGroups
 pub mod BatchValues
 pub mod Selecting
+pub mod RowLaws

@@ -9,3 +9,4 @@ pub mod Groups
 pub mod Constraints
 pub mod Batches
 pub mod FalseClaims
+pub mod Rows

@@ -8,6 +8,7 @@
 mod claim;
 mod constraint;
 mod evaluated;
+pub mod laws;
 mod list;
 mod statement;
 mod weights;

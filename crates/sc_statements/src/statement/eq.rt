@@ -3,7 +3,7 @@
 ghost use Rattle.std.specs.Prelude.{◌≡◌, ◌+◌, ◌<◌, ◌↔◌, [], ◌∷◌, ◌++◌, All, length, map, slice_index, IsTrue, IfOk, OnOk, OnErr, true, false};
 ghost use Rattle.std.specs.Iterator.{YieldsFirstBy, item_count};
 ghost use Rattle.sc_definitions.specs.Ring.{plus, power};
-ghost use Rattle.sc_definitions.specs.Statements.{equality, claims, arity_of, AllTrueOf, true_values, claimed_values, batched_claim};
+ghost use Rattle.sc_definitions.specs.Statements.{equality, claims, arity_of, AllTrueOf, true_values, claimed_values, weights_at, batched_claim};
 ghost use Rattle.sc_table.specs.Polys.{variables_of, table_of};
 ghost use Rattle.sc_statements.specs.Batches.{AddsBatch, WritesBatch, IsUnchanged};
 
@@ -31,6 +31,7 @@ impl<EF: Field> EqStatement<EF> {
     ghost use Rattle.sc_statements.specs.EqStatements.{eq_arity, eq_statements};
     ghost use Rattle.sc_statements.specs.EqIterators.{pairs_left};
     ghost use Rattle.sc_statements.specs.Weights.{weight_values, weights_from};
+    ghost use Rattle.sc_statements.specs.Rows.{IsRow, row_number};
 
     /// No statement yet, on tables of `num_variables` variables.
     pub fn initialize(alloc: Global, num_variables: usize) -> Self
@@ -80,8 +81,13 @@ impl<EF: Field> EqStatement<EF> {
     /// points. `row` has as many coordinates as the tables have variables.
     pub fn weights_at<'a>(&'a self, row: &'a Point<EF>) -> EqWeights<'a, EF>
         requires { length row.now ≡ eq_arity self.now }
-        ensures { weights_from EF.ops (map EF.number result.row.now) (eq_statements EF.number result.statements.now) result.index
+        ensures values { weights_from EF.ops (map EF.number result.row.now) (eq_statements EF.number result.statements.now) result.index
             ≡ weight_values EF.ops (map EF.number row.now) (eq_statements EF.number self.now) }
+
+        // At a point of zeros and ones they are the weights of the row that it is.
+        ensures at_rows { IsRow (map EF.number row.now) →
+            weights_from EF.ops (map EF.number result.row.now) (eq_statements EF.number result.statements.now) result.index
+            ≡ weights_at EF.ops (eq_statements EF.number self.now) (row_number (map EF.number row.now)) }
     {
         Weights::new(self, row)
     }

@@ -2,7 +2,7 @@
 
 ghost use Rattle.std.specs.Prelude.{◌≡◌, ◌+◌, ◌<◌, ◌↔◌, [], ◌∷◌, ◌++◌, length, map, slice_index, All, IsTrue, IsOk, IfOk, OnOk, OnErr};
 ghost use Rattle.sc_definitions.specs.Ring.{plus};
-ghost use Rattle.sc_definitions.specs.Statements.{successor, claims, AllTrueOf, true_values, claimed_values, batched_claim};
+ghost use Rattle.sc_definitions.specs.Statements.{successor, claims, AllTrueOf, true_values, claimed_values, weights_at, batched_claim};
 ghost use Rattle.sc_table.specs.Polys.{variables_of, table_of};
 ghost use Rattle.sc_table.specs.Strategy.{order_of};
 ghost use Rattle.sc_statements.specs.Batches.{AddsBatch};
@@ -32,6 +32,7 @@ pub type NextWeights<'a, EF> = Weights<'a, NextStatement<EF>, EF>;
 impl<EF: Field> NextStatement<EF> {
     ghost use Rattle.sc_statements.specs.NextStatements.{next_arity, next_statements, selector_of, point_of};
     ghost use Rattle.sc_statements.specs.Weights.{weight_values, weights_from};
+    ghost use Rattle.sc_statements.specs.Rows.{IsRow, row_number};
 
     /// No statement yet, on tables of `num_variables` variables.
     pub fn initialize(alloc: Global, num_variables: usize) -> Self
@@ -69,8 +70,13 @@ impl<EF: Field> NextStatement<EF> {
     /// successor's value of the point at the rest. `row` has as many coordinates as the tables have variables.
     pub fn weights_at<'a>(&'a self, row: &'a Point<EF>) -> NextWeights<'a, EF>
         requires { length row.now ≡ next_arity self.now }
-        ensures { weights_from EF.ops (map EF.number result.row.now) (next_statements EF.number result.statements.now) result.index
+        ensures values { weights_from EF.ops (map EF.number result.row.now) (next_statements EF.number result.statements.now) result.index
             ≡ weight_values EF.ops (map EF.number row.now) (next_statements EF.number self.now) }
+
+        // At a point of zeros and ones they are the weights of the row that it is.
+        ensures at_rows { IsRow (map EF.number row.now) →
+            weights_from EF.ops (map EF.number result.row.now) (next_statements EF.number result.statements.now) result.index
+            ≡ weights_at EF.ops (next_statements EF.number self.now) (row_number (map EF.number row.now)) }
     {
         Weights::new(self, row)
     }

@@ -3,7 +3,7 @@
 ghost use Rattle.std.specs.Prelude.{◌≡◌, ◌+◌, ◌<◌, ◌↔◌, [], ◌∷◌, ◌++◌, length, map, slice_index, IsTrue, IsOk, IfOk, OnOk, OnErr, ◌*◌, vec_len, All};
 ghost use Rattle.std.specs.Iterator.{YieldsFirstBy, item_count};
 ghost use Rattle.sc_definitions.specs.Ring.{plus};
-ghost use Rattle.sc_definitions.specs.Statements.{powers, products, claims, arity_of, AllTrueOf, true_values, claimed_values, batched_claim};
+ghost use Rattle.sc_definitions.specs.Statements.{powers, products, claims, arity_of, AllTrueOf, true_values, claimed_values, weights_at, batched_claim};
 ghost use Rattle.sc_table.specs.Polys.{variables_of, table_of};
 ghost use Rattle.sc_statements.specs.Batches.{AddsBatch};
 
@@ -35,6 +35,7 @@ impl<F: Field, EF: ExtensionField<F>> SelectStatement<F, EF> {
     ghost use Rattle.sc_statements.specs.SelectStatements.{select_arity, select_statements, scalars_of, points_of, SelectsAt};
     ghost use Rattle.sc_statements.specs.SelectIterators.{scalars_left, scalar_statements};
     ghost use Rattle.sc_statements.specs.Weights.{weight_values, weights_from};
+    ghost use Rattle.sc_statements.specs.Rows.{IsRow, row_number};
 
     /// No statement yet, on tables of `num_variables` variables.
     pub fn initialize(alloc: Global, num_variables: usize) -> Self
@@ -119,8 +120,13 @@ impl<F: Field, EF: ExtensionField<F>> SelectStatement<F, EF> {
     /// The value at `row` of each statement's weight table, in order. `row` has as many coordinates as the tables have variables.
     pub fn weights_at<'a>(&'a self, row: &'a Point<EF>) -> SelectWeights<'a, F, EF>
         requires { length row.now ≡ select_arity self.now }
-        ensures { weights_from EF.ops (map EF.number result.row.now) (select_statements (λ x. EF.embedding (F.number x)) EF.number result.statements.now) result.index
+        ensures values { weights_from EF.ops (map EF.number result.row.now) (select_statements (λ x. EF.embedding (F.number x)) EF.number result.statements.now) result.index
             ≡ weight_values EF.ops (map EF.number row.now) (select_statements (λ x. EF.embedding (F.number x)) EF.number self.now) }
+
+        // At a point of zeros and ones they are the weights of the row that it is.
+        ensures at_rows { IsRow (map EF.number row.now) →
+            weights_from EF.ops (map EF.number result.row.now) (select_statements (λ x. EF.embedding (F.number x)) EF.number result.statements.now) result.index
+            ≡ weights_at EF.ops (select_statements (λ x. EF.embedding (F.number x)) EF.number self.now) (row_number (map EF.number row.now)) }
     {
         Weights::new(self, row)
     }
