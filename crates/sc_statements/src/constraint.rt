@@ -1,6 +1,6 @@
 //! Groups of statements, batched under the powers of one challenge.
 
-ghost use Rattle.std.specs.Prelude.{◌≡◌, ℕ, ◌+◌, ◌^◌, ◌<◌, ◌≤◌, All, length, map, IfOk, OnOk, OnErr};
+ghost use Rattle.std.specs.Prelude.{◌≡◌, ℕ, ◌+◌, ◌^◌, ◌<◌, ◌≤◌, All, length, map, IsOk, IfOk, OnOk, OnErr};
 ghost use Rattle.sc_definitions.specs.Ring.{plus, power};
 ghost use Rattle.sc_definitions.specs.Tables.{value};
 ghost use Rattle.sc_definitions.specs.Statements.{first_false_claim, batched_weight, batched_claim};
@@ -131,7 +131,9 @@ impl<F: Field, EF: ExtensionField<F>> Constraint<F, EF> {
     }
 
     /// Adds the batched weights to the rows of a table, which has as many variables as the statements
-    /// say, and the batched claim to the sum. After `NoMemory` both have those of the first groups.
+    /// say, and the batched claim to the sum.
+    ///
+    /// No memory is taken, so `NoMemory` never comes; after it both would have those of the first groups.
     pub fn combine(
         &self,
         alloc: Global,
@@ -146,6 +148,7 @@ impl<F: Field, EF: ExtensionField<F>> Constraint<F, EF> {
         ensures refused { OnErr result (AddsPrefix (group_statements (λ x. EF.embedding (F.number x)) EF.number) EF.ops (constraint_arity self.now)
             (constraint_challenge EF.number self.now) (constraint_power self.now) (constraint_groups self.now)
             (table_of EF.number combined.old) (table_of EF.number combined.new) (EF.number eval.old) (EF.number eval.new)) }
+        ensures answered { IsOk result }
     {
         let mut coefficient = self.first_coefficient();
         for group in &self.statements {

@@ -1,11 +1,11 @@
 //! The kinds of statements, and groups of one kind.
 
-ghost use Rattle.std.specs.Prelude.{◌≡◌, ℕ, ◌+◌, ◌↔◌, [], length, map, IsTrue, IfOk, OnErr};
+ghost use Rattle.std.specs.Prelude.{◌≡◌, ℕ, ◌+◌, ◌↔◌, [], length, map, IsTrue, IsOk, IfOk};
 ghost use Rattle.sc_definitions.specs.Ring.{plus, power};
 ghost use Rattle.sc_definitions.specs.Tables.{value};
 ghost use Rattle.sc_definitions.specs.Statements.{first_false_claim, batched_weight, batched_claim};
 ghost use Rattle.sc_table.specs.Polys.{variables_of, table_of};
-ghost use Rattle.sc_statements.specs.Batches.{AddsBatch, IsUnchanged};
+ghost use Rattle.sc_statements.specs.Batches.{AddsBatch};
 
 mod eq;
 mod next;
@@ -122,7 +122,7 @@ impl<F: Field, EF: ExtensionField<F>> Statements<F, EF> {
         }
     }
 
-    // As `add_values`, and the weights are added to the rows of a table. `NoMemory` leaves both as they were.
+    // As `add_values`, and the weights are added to the rows of a table. `NoMemory` never comes.
     pub(crate) fn add_batch(
         &self,
         _alloc: Global,
@@ -138,8 +138,7 @@ impl<F: Field, EF: ExtensionField<F>> Statements<F, EF> {
             (table_of EF.number weights.old) (table_of EF.number weights.new) (EF.number sum.old) (EF.number sum.new)) }
         ensures next { IfOk result (λ next. (p : ℕ) → EF.number first ≡ power EF.ops (EF.number challenge) p →
             EF.number next ≡ power EF.ops (EF.number challenge) (p + length (group_statements (λ x. EF.embedding (F.number x)) EF.number self.now))) }
-        ensures refused { OnErr result (IsUnchanged (group_arity self.now)
-            (table_of EF.number weights.old) (table_of EF.number weights.new) (EF.number sum.old) (EF.number sum.new)) }
+        ensures answered { IsOk result }
     {
         let next = match self {
             Statements::Eq(statement) => list::add_batch(statement, weights, sum, challenge, first),

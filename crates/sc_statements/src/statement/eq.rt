@@ -1,6 +1,6 @@
 //! Equality statements: that a table has given values at given points.
 
-ghost use Rattle.std.specs.Prelude.{◌≡◌, ◌+◌, ◌<◌, ◌↔◌, [], ◌∷◌, ◌++◌, All, length, map, slice_index, IsTrue, IfOk, OnOk, OnErr, true, false};
+ghost use Rattle.std.specs.Prelude.{◌≡◌, ◌+◌, ◌<◌, ◌↔◌, [], ◌∷◌, ◌++◌, All, length, map, slice_index, IsTrue, IsOk, IfOk, OnOk, OnErr, true, false};
 ghost use Rattle.std.specs.Iterator.{YieldsFirstBy, item_count};
 ghost use Rattle.sc_definitions.specs.Ring.{plus, power};
 ghost use Rattle.sc_definitions.specs.Statements.{equality, claims, arity_of, AllTrueOf, true_values, claimed_values, weights_at, batched_claim};
@@ -186,7 +186,7 @@ impl<EF: Field> EqStatement<EF> {
     /// values either way. Where there is no statement, both stay under either flag.
     ///
     /// The weights are made where they are added, in time linear in the table's length for each
-    /// statement, so no memory is taken; `NoMemory` would leave both as they were.
+    /// statement, so no memory is taken; `NoMemory` never comes.
     pub fn combine_hypercube<Base: Field, const INITIALIZED: bool>(
         &self,
         _alloc: Global,
@@ -206,8 +206,7 @@ impl<EF: Field> EqStatement<EF> {
             (table_of EF.number acc_weights.new) (EF.number acc_sum.old) (EF.number acc_sum.new)) }
         ensures empty { eq_statements EF.number self.now ≡ [] → IsUnchanged (eq_arity self.now)
             (table_of EF.number acc_weights.old) (table_of EF.number acc_weights.new) (EF.number acc_sum.old) (EF.number acc_sum.new) }
-        ensures refused { OnErr result (IsUnchanged (eq_arity self.now)
-            (table_of EF.number acc_weights.old) (table_of EF.number acc_weights.new) (EF.number acc_sum.old) (EF.number acc_sum.new)) }
+        ensures answered { IsOk result }
     {
         if self.is_empty() {
             return Ok(());
