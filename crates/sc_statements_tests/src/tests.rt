@@ -11,6 +11,7 @@ mod kinds;
 
 use sc_field::{F65537, Field, NoMemory};
 use sc_statements::EqStatement;
+use sc_statements::laws::row_laws;
 use sc_table::{Point, Poly};
 use std::alloc::Global;
 use std::process::Abort;
@@ -198,6 +199,7 @@ static WEIGHTS: [([u64; 2], &[u64], u64); 2] = [
 
 #[test]
 fn weights_at_rows_and_elsewhere(rt: HostRuntime) {
+    row_laws::<F65537>();
     assert_weights(&rt, &claims(&rt, &RIGHT), &WEIGHTS);
 }
 

@@ -56,6 +56,16 @@ static TWO_VALUES: [Successor; 2] = [
     },
 ];
 
+// At 7 in the slot of a selector at 5 that stands first.
+static FIRST_SLOT: [Successor; 1] = [Successor {
+    selector: &[5],
+    has_selector: true,
+    coords: &[7],
+    claimed: 12,
+    order: VariableOrder::Prefix,
+    actual: 12,
+}];
+
 // The statement of these values on two variables. One on another number is left out.
 fn successors<R: Abort + AllocGlobal>(rt: &R, values: &[Successor]) -> NextStatement<F65537>
     ensures { next_arity result ≡ 2 }
@@ -119,6 +129,22 @@ fn a_value_through_the_successor_map(rt: HostRuntime) {
 #[test]
 fn a_false_value_through_the_successor_map(rt: HostRuntime) {
     assert_successors(&rt, &TWO_VALUES, false);
+}
+
+#[test]
+fn a_selector_that_stands_first(rt: HostRuntime) {
+    assert_successors(&rt, &FIRST_SLOT, true);
+    let mut weights = Poly::zero(rt.alloc(), 2).expect(&rt, "a table");
+    let mut sum = F65537::ZERO;
+    let combined = successors(&rt, &FIRST_SLOT).combine(
+        rt.alloc(),
+        &mut weights,
+        &mut sum,
+        of(9),
+        0,
+    );
+    assert_eq!(rt; (combined, sum.index()), (Ok(()), 12));
+    assert!(rt; have_numbers(weights.as_slice(), &[0, 65533, 0, 5]));
 }
 
 #[test]
@@ -188,6 +214,23 @@ fn scalars_select(rt: HostRuntime) {
     assert_last(&rt, &statement);
 }
 
+// The values 1 and 49 that the scalars 0 and 2 select, with 10 and 100 as their coefficients: 10 times the weights 1, 0, 0, 0 and 100 times the
+// weights 1, 2, 4, 8 come to what is there.
+#[test]
+fn scalars_are_batched(rt: HostRuntime) {
+    let statement: SelectStatement<F65537, F65537> = SelectStatement::new(
+        rt.alloc(),
+        2,
+        elements(&rt, &[0, 2]),
+        elements(&rt, &[1, 49]),
+    );
+    let mut weights = table(&rt, 2, &[1, 2, 3, 4]);
+    let mut sum = of(5);
+    let combined = statement.combine(rt.alloc(), &mut weights, &mut sum, of(10), 1);
+    assert_eq!(rt; (combined, sum.index()), (Ok(()), 4915));
+    assert!(rt; have_numbers(weights.as_slice(), &[111, 202, 403, 804]));
+}
+
 // Asserts the claimed value and the true one of the last of three statements.
 fn assert_third<R: Abort + AllocGlobal>(rt: &R, statement: &SelectStatement<F65537, F65537>)
     requires { select_arity statement.now ≡ 2 }
@@ -209,13 +252,13 @@ fn assert_last<R: Abort + AllocGlobal>(rt: &R, statement: &SelectStatement<F6553
     assert_eq!(rt; (pairs[2].0.index(), pairs[2].1.index()), (3, 141));
 }
 
-// The statement of the value 7 that the direct point (0, 3) selects.
-fn a_direct_point<R: Abort + AllocGlobal>(rt: &R) -> SelectStatement<F65537, F65537>
+// The statement of a value that the direct point (0, 3) selects.
+fn a_direct_point<R: Abort + AllocGlobal>(rt: &R, claimed: u64) -> SelectStatement<F65537, F65537>
     ensures { select_arity result ≡ 2 }
 {
     let mut statement = SelectStatement::initialize(rt.alloc(), 2);
     statement
-        .add_point_constraint(point(rt, &[0, 3]), of(7))
+        .add_point_constraint(point(rt, &[0, 3]), of(claimed))
         .expect(rt, "a statement");
     statement
 }
@@ -224,12 +267,33 @@ fn a_direct_point<R: Abort + AllocGlobal>(rt: &R) -> SelectStatement<F65537, F65
 fn direct_points_select(rt: HostRuntime) {
     let none = SelectStatement::initialize(rt.alloc(), 2);
     assert_told(&rt, &none, (0, true, false, false, true));
-    assert_told(&rt, &a_direct_point(&rt), (1, false, false, true, true));
+    let (right, wrong) = (a_direct_point(&rt, 7), a_direct_point(&rt, 8));
+    assert_told(&rt, &right, (1, false, false, true, true));
+    assert_told(&rt, &wrong, (1, false, false, true, false));
+    assert_direct(&rt, &wrong, (8, 7));
+}
+
+// Asserts the claimed value and the true one of the only statement.
+fn assert_direct<R: Abort + AllocGlobal>(
+    rt: &R,
+    statement: &SelectStatement<F65537, F65537>,
+    values: (u64, u64),
+)
+    requires { select_arity statement.now ≡ 2 }
+{
+    assert_eq!(rt; statement.len(), 1);
+    let actual = statement
+        .true_value(rt.alloc(), 0, &four(rt))
+        .expect(rt, "a value");
+    assert_eq!(rt;
+        (statement.claimed_value(0).index(), actual.index()),
+        values
+    );
 }
 
 #[test]
 fn direct_points_are_batched(rt: HostRuntime) {
-    let statement = a_direct_point(&rt);
+    let statement = a_direct_point(&rt, 7);
     let mut weights = Poly::zero(rt.alloc(), 2).expect(&rt, "a table");
     let mut sum = F65537::ZERO;
     let combined = statement.combine(rt.alloc(), &mut weights, &mut sum, of(5), 0);
@@ -240,7 +304,7 @@ fn direct_points_are_batched(rt: HostRuntime) {
 
 #[test]
 fn a_direct_points_weight_at_a_row(rt: HostRuntime) {
-    let (statement, row) = (a_direct_point(&rt), point(&rt, &[3, 4]));
+    let (statement, row) = (a_direct_point(&rt, 7), point(&rt, &[3, 4]));
     assert_weights(&rt, statement.weights_at(&row), &[65519]);
 }
 
