@@ -8,13 +8,16 @@ ghost use Rattle.sc_forms.specs.declared.form.Misread.TheVariants.{NoMemory};
 
 use serde_json::Value;
 use std::alloc::{AllocError, AllocFailed, Global};
+use thiserror::Error;
 
 /// Why a value was not read.
-#[derive(Clone, Copy, Debug, PartialEq, Eq)]
+#[derive(Clone, Copy, Debug, PartialEq, Eq, Error)]
 pub enum Misread {
     /// The value is not of the form.
+    #[error("the value is not of the form")]
     NotOfForm,
     /// There was no memory for what it is read as.
+    #[error("out of memory")]
     NoMemory,
 }
 

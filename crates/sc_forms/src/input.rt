@@ -5,13 +5,16 @@ ghost use Rattle.sc_forms.specs.Values.{value_of};
 
 use serde_json::Value;
 use std::alloc::Global;
+use thiserror::Error;
 
 /// Why bytes were not read as a value.
-#[derive(Clone, Copy, Debug, PartialEq, Eq)]
+#[derive(Clone, Copy, Debug, PartialEq, Eq, Error)]
 pub enum NoValue {
     /// They are not one JSON value.
+    #[error("the bytes are not one JSON value")]
     Bad,
     /// There was no memory for the value.
+    #[error("out of memory")]
     NoMemory,
 }
 

@@ -325,3 +325,21 @@ static NEVER_READ: [&str; 4] = ["\"next\"", "9", "null", "{}"];
 fn no_value_is_of_no_form(rt: HostRuntime) {
     assert_refused(&rt, rt.alloc(), &NoForm, &NEVER_READ);
 }
+
+#[test]
+fn errors_have_texts(rt: HostRuntime) {
+    for (error, want) in [
+        (Misread::NotOfForm, "the value is not of the form"),
+        (Misread::NoMemory, "out of memory"),
+    ] {
+        let text = error.to_string(rt.alloc()).expect(&rt, "a text");
+        assert_eq!(rt; text.as_str(), want);
+    }
+    for (error, want) in [
+        (NoValue::Bad, "the bytes are not one JSON value"),
+        (NoValue::NoMemory, "out of memory"),
+    ] {
+        let text = error.to_string(rt.alloc()).expect(&rt, "a text");
+        assert_eq!(rt; text.as_str(), want);
+    }
+}

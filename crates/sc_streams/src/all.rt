@@ -5,16 +5,19 @@ ghost use Rattle.sc_streams.specs.Faults.{HasRisen, Counts};
 
 use crate::{Failed, Sink, Source};
 use std::alloc::Global;
+use thiserror::Error;
 
 // The most bytes that one read asks for.
 const PIECE: usize = 65_536;
 
 /// Why an input was not read.
-#[derive(Clone, Copy, Debug, PartialEq, Eq)]
+#[derive(Clone, Copy, Debug, PartialEq, Eq, Error)]
 pub enum ReadFault {
     /// The source failed, and has counted it.
+    #[error("a read failed")]
     Failed,
     /// There was no memory for the bytes.
+    #[error("out of memory")]
     NoMemory,
 }
 

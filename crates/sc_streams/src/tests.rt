@@ -1,4 +1,5 @@
-// What no clause says: how often an interrupted call is tried again, and that calls succeed.
+// What no clause says: how often an interrupted call is tried again, the texts of errors, and that
+// calls succeed.
 use crate::{
     Failed, MemSink, MemSource, PlainSource, ReadFault, Sink, Source, StdSink, StdSource, read_all,
     write_all,
@@ -199,4 +200,17 @@ fn bytes_come_to_a_sink_unchanged(rt: HostRuntime) {
     ];
     assert_eq!(rt; told, [Ok(()), Ok(())]);
     assert!(rt; sink.bytes() == bytes.as_slice() && written.writer == bytes);
+}
+
+#[test]
+fn errors_have_texts(rt: HostRuntime) {
+    let failed = Failed.to_string(rt.alloc()).expect(&rt, "a text");
+    assert_eq!(rt; failed.as_str(), "a read or a write failed");
+    for (fault, want) in [
+        (ReadFault::Failed, "a read failed"),
+        (ReadFault::NoMemory, "out of memory"),
+    ] {
+        let text = fault.to_string(rt.alloc()).expect(&rt, "a text");
+        assert_eq!(rt; text.as_str(), want);
+    }
 }

@@ -6,6 +6,7 @@ ghost use Rattle.sumcheck_jobs.specs.Members.{member_name, needed};
 use sc_forms::{Form, Misread, member};
 use serde_json::Value;
 use std::alloc::Global;
+use thiserror::Error;
 
 /// A member of a job, or the job as a whole.
 #[derive(Clone, Copy, Debug, PartialEq, Eq)]
@@ -23,18 +24,24 @@ pub enum Member {
 }
 
 /// Why a value is no job that is built: the first member that is not of its built form.
-#[derive(Clone, Copy, Debug, PartialEq, Eq)]
+#[derive(Clone, Copy, Debug, PartialEq, Eq, Error)]
 pub enum Misfit {
     /// The member is missing, or not of its form.
+    #[error("`{}` is missing, or not of its form", .0.name())]
     Bad(Member),
     /// The member is of a form that is not built yet.
+    #[error("`{}` is of a form that is not built yet", .0.name())]
     Unbuilt(Member),
 }
 
 /// Why a job was not read.
-#[derive(Clone, Copy, Debug, PartialEq, Eq)]
+#[derive(Clone, Copy, Debug, PartialEq, Eq, Error)]
 pub enum Unread {
+    /// The value is no job that is built.
+    #[error(transparent)]
     Misfit(Misfit),
+    /// There was no memory for the job.
+    #[error("out of memory")]
     NoMemory,
 }
 
