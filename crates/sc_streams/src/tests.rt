@@ -1,4 +1,4 @@
-// What no clause says: how often an interrupted call is tried again, the texts of errors, and that
+// What no clause says: how often an interrupted call is tried again, that no other failure is, the texts of errors, and that
 // calls succeed.
 use crate::{
     Failed, MemSink, MemSource, PlainSource, ReadFault, Sink, Source, StdSink, StdSource, read_all,
@@ -41,6 +41,50 @@ impl Write for Interrupted {
     fn write(&mut self, buf: &[u8]) -> io::Result<usize> {
         if self.is_interrupted() {
             return Err(Error::from(ErrorKind::Interrupted));
+        }
+        Ok(buf.len().min(1))
+    }
+
+    fn flush(&mut self) -> io::Result<()> {
+        Ok(())
+    }
+}
+
+// A reader and a writer whose first call fails in this way, and that counts its calls. Each later call moves one byte.
+#[derive(Drop)]
+struct FailsOnce {
+    kind: ErrorKind,
+    calls: u32,
+}
+
+impl FailsOnce {
+    fn new(kind: ErrorKind) -> Self {
+        FailsOnce { kind, calls: 0 }
+    }
+
+    fn fails(&mut self) -> bool {
+        self.calls = self.calls.saturating_add(1);
+        self.calls == 1
+    }
+}
+
+impl Read for FailsOnce {
+    fn read(&mut self, buf: &mut [u8]) -> io::Result<usize> {
+        if self.fails() {
+            return Err(Error::from(self.kind));
+        }
+        if buf.is_empty() {
+            return Ok(0);
+        }
+        buf[0] = 7;
+        Ok(1)
+    }
+}
+
+impl Write for FailsOnce {
+    fn write(&mut self, buf: &[u8]) -> io::Result<usize> {
+        if self.fails() {
+            return Err(Error::from(self.kind));
         }
         Ok(buf.len().min(1))
     }
@@ -96,6 +140,54 @@ fn each_failed_call_counts_once(rt: HostRuntime) {
         assert_eq!(rt; source.read(&mut [0; 4]), want);
     }
     assert_eq!(rt; source.faults, 2);
+}
+
+static OTHER_KINDS: [ErrorKind; 7] = [
+    ErrorKind::WouldBlock,
+    ErrorKind::TimedOut,
+    ErrorKind::BrokenPipe,
+    ErrorKind::PermissionDenied,
+    ErrorKind::UnexpectedEof,
+    ErrorKind::OutOfMemory,
+    ErrorKind::Other,
+];
+
+#[test]
+fn a_read_that_fails_otherwise_is_asked_once(rt: HostRuntime) {
+    for kind in &OTHER_KINDS {
+        let mut source = StdSource::new(FailsOnce::new(*kind));
+        let read = source.read(&mut [0; 4]);
+        assert_eq!(rt;
+            (read, source.faults, source.reader.calls),
+            (Err(Failed), 1, 1),
+            "{kind:?}"
+        );
+        let again = source.read(&mut [0; 4]);
+        assert_eq!(rt;
+            (again, source.faults, source.reader.calls),
+            (Ok(1), 1, 2),
+            "{kind:?}"
+        );
+    }
+}
+
+#[test]
+fn a_write_that_fails_otherwise_is_asked_once(rt: HostRuntime) {
+    for kind in &OTHER_KINDS {
+        let mut sink = StdSink::new(FailsOnce::new(*kind));
+        let written = sink.write(b"ab");
+        assert_eq!(rt;
+            (written, sink.faults, sink.writer.calls),
+            (Err(Failed), 1, 1),
+            "{kind:?}"
+        );
+        let again = sink.write(b"ab");
+        assert_eq!(rt;
+            (again, sink.faults, sink.writer.calls),
+            (Ok(1), 1, 2),
+            "{kind:?}"
+        );
+    }
 }
 
 #[test]
