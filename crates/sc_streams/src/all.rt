@@ -40,6 +40,9 @@ pub fn read_all<S: Source>(
     ensures given { S.given source.new ≤ S.given source.old + (limit + 1) }
     ensures dry { S.dry source.new ≤ S.dry source.old + 1 }
 
+    // Nothing is read once the source told a fault.
+    ensures late { S.late source.new (S.faults source.old) ≤ S.late source.old (S.faults source.old) }
+
     // `Failed` is told exactly where the source told a fault.
     ensures failed { IsErrOf result ReadFault.Failed → HasRisen (S.faults source.old) (S.faults source.new) }
     ensures quiet { ¬ IsErrOf result ReadFault.Failed → S.faults source.new ≡ S.faults source.old }
@@ -61,12 +64,13 @@ pub fn read_all<S: Source>(
     Ok(bytes)
 }
 
-/// Writes a whole text. It stops at the first fault, and the sink has then taken a proper prefix of the
-/// text.
+/// Writes a whole text. It stops at the first fault, writes nothing more, and the sink has then taken a
+/// proper prefix of the text.
 pub fn write_all<K: Sink>(sink: &mut K, text: &[u8]) -> Result<(), Failed>
     ensures ok { OnOk result (Appends (K.taken sink.old) (K.taken sink.new) text.now) }
     ensures err { OnErr result ((n : ℕ) × (n < length text.now)
         × Appends (K.taken sink.old) (K.taken sink.new) (take n text.now)) }
+    ensures late { K.late sink.new (K.faults sink.old) ≤ K.late sink.old (K.faults sink.old) }
     ensures faults { Counts (K.faults sink.old) (K.faults sink.new) result }
 {
     let mut done = 0;

@@ -8,6 +8,7 @@ invariant-pieces g l = record {
   given : g.S.Source.given l.source ≤ g.S.Source.given l.initial.source + length l.bytes.items;
   dry : g.S.Source.dry l.source ≤ g.S.Source.dry l.initial.source;
   size : length l.bytes.items ≤ l.limit + 1;
+  late : g.S.Source.late l.source (g.S.Source.faults l.initial.source) ≤ g.S.Source.late l.initial.source (g.S.Source.faults l.initial.source);
   faults : g.S.Source.faults l.source ≡ g.S.Source.faults l.initial.source;
 }
 
