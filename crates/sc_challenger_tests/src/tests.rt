@@ -322,3 +322,16 @@ fn sets_labels(rt: HostRuntime) {
     let wanted = text(&rt, rt.alloc(), &NO_STEPS);
     assert!(rt; seed(&rt, rt.alloc(), &separator) == wanted);
 }
+
+static REFUSALS: [(GrindError, &str); 2] = [
+    (GrindError::NoWitness, "no element of the field passes"),
+    (GrindError::NoMemory, "out of memory"),
+];
+
+#[test]
+fn a_refusal_to_grind_says_why(rt: HostRuntime) {
+    for (error, wanted) in &REFUSALS {
+        let text = error.to_string(rt.alloc()).expect(&rt, "a text");
+        assert!(rt; text.as_str() == *wanted, "{text}");
+    }
+}
