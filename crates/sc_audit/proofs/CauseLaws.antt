@@ -9,7 +9,7 @@ use Rattle.sc_definitions.specs.Transcript.{Round, round_events, rounds_events}
 use Rattle.sc_definitions.specs.Replays.{round_passes, AllPass, given_rounds}
 use Rattle.sc_audit.specs.declared.error.AuditError.{AuditError}
 use Rattle.sc_audit.specs.declared.error.AuditError.TheVariants.{Unbuilt, JobShape, StrategyUnfit, FalseClaim, MissingSumcheckData, NoWitness, RoundCountMismatch, PowWitnessCountMismatch, InvalidPowWitness, NoMemory}
-use Rattle.sc_audit.specs.declared.error.Form.TheVariants.{Mode, Verdict}
+use Rattle.sc_audit.specs.declared.error.Form.TheVariants.{Mode, Groups, Verdict}
 use Rattle.sc_audit.specs.Cases.{Case, Task, Given, build, check}
 use Rattle.sc_audit.specs.Refusals.{or_later, mode_refusal, shape_refusal, missing_refusal, count_refusal, task_refusal, refusal_of}
 use Rattle.sc_audit.specs.Figures.{Figures}
@@ -86,6 +86,7 @@ module _ (o : Ops) (R : Rules) (E : Extension) (size : ℕ) (h : List Event) (k 
   caused-nothing : (bits : ℕ) (e : AuditError) → IsCaused (count_refusal 0 bits nothing) o R E size h k (check (Some nothing)) e h' →
       IsCaused (missing_refusal 0) o R E size h k (check None) e h'
   caused-nothing bits (Unbuilt Mode) found = absurd (unrefused bits (Unbuilt Mode) found.0)
+  caused-nothing bits (Unbuilt Groups) found = found
   caused-nothing bits (Unbuilt Verdict) found = record { report = found.report; audited = no_proof o R E h k found.report h' found.audited; lucky = found.lucky }
   caused-nothing bits (JobShape fault) found = absurd (unrefused bits (JobShape fault) found.0)
   caused-nothing bits (StrategyUnfit fault) found = absurd (unrefused bits (StrategyUnfit fault) found.0)
@@ -138,6 +139,7 @@ not_failing o R E h k i h' (check (Some given)) all fails =
 pub valid-answered : (o : Ops) (R : Rules) (E : Extension) (size : ℕ) (h : List Event) (k : Case) (h' : List Event) (e : AuditError) →
     IsValid o R E h k → IsCaused (refusal_of o R.max_bits k) o R E size h k k.task e h' → MayMeet e
 valid-answered o R E size h k h' (Unbuilt Mode) valid found = (let clash = sym valid.fits ∙ found.0 in cc)
+valid-answered o R E size h k h' (Unbuilt Groups) valid found = found
 valid-answered o R E size h k h' (Unbuilt Verdict) valid found = tt
 valid-answered o R E size h k h' (JobShape fault) valid found = (let clash = sym valid.fits ∙ found.0 in cc)
 valid-answered o R E size h k h' (StrategyUnfit fault) valid found = (let clash = sym valid.fits ∙ found.0 in cc)

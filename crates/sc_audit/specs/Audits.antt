@@ -13,7 +13,7 @@ use Rattle.sc_transcript.specs.declared.error.SumcheckError.{SumcheckError}
 use Rattle.sc_transcript.specs.declared.error.SumcheckError.TheVariants as replay
 use Rattle.sc_audit.specs.declared.error.AuditError.{AuditError}
 use Rattle.sc_audit.specs.declared.error.AuditError.TheVariants.{Unbuilt, JobShape, StrategyUnfit, FalseClaim, MissingSumcheckData, RoundCountMismatch, PowWitnessCountMismatch, InvalidPowWitness, NoWitness, NoMemory}
-use Rattle.sc_audit.specs.declared.error.Form.TheVariants.{Mode, Verdict}
+use Rattle.sc_audit.specs.declared.error.Form.TheVariants.{Mode, Groups, Verdict}
 use Rattle.sc_audit.specs.Cases.{Case, Given, Task, build, check}
 use Rattle.sc_audit.specs.Refusals.{refusal_of}
 use Rattle.sc_audit.specs.Figures.{Figures, lucky, figures_of}
@@ -92,9 +92,10 @@ IsUnground o R E size h c (build strategy) i = FindsNone o R E size h c i
 IsUnground o R E size h c (check proof) i = ⊥
 
 -- The answer e has its cause in the case, and leaves h' of the history h. `first` is the refusal before a round is played, if there is one; it leaves
--- the history as it was. The base field has `size` elements.
+-- the history as it was. The base field has `size` elements. What is refused of groups alone is not answered.
 abbrev pub IsCaused : Option AuditError → Ops → Rules → Extension → ℕ → List Event → Case → Task → AuditError → List Event → Type 0
 IsCaused first o R E size h c task (Unbuilt Mode) h' = (first ≡ Some (Unbuilt Mode)) × (h' ≡ h)
+IsCaused first o R E size h c task (Unbuilt Groups) h' = ⊥
 IsCaused first o R E size h c task (Unbuilt Verdict) h' = IsLucky o R E h c task h'
 IsCaused first o R E size h c task (JobShape fault) h' = (first ≡ Some (JobShape fault)) × (h' ≡ h)
 IsCaused first o R E size h c task (StrategyUnfit fault) h' = (first ≡ Some (StrategyUnfit fault)) × (h' ≡ h)
@@ -120,6 +121,7 @@ pub record IsValid (o : Ops) (R : Rules) (E : Extension) (h : List Event) (c : C
 -- what can keep a valid case from its report: want of memory; a round of a build without a witness; a verdict that is not built yet
 abbrev pub MayMeet : AuditError → Type 0
 MayMeet (Unbuilt Mode) = ⊥
+MayMeet (Unbuilt Groups) = ⊥
 MayMeet (Unbuilt Verdict) = Unit {0}
 MayMeet (NoWitness i) = Unit {0}
 MayMeet NoMemory = Unit {0}

@@ -2,13 +2,10 @@
 use sc_field::NoMemory;
 use thiserror::Error;
 
-/// Why there is no report. The refusals are tested in this order, but that [`AuditError::NoMemory`] may come before any other. Rounds and statements
-/// are counted from 0.
+/// Why there is no report. The refusals are tested in this order, but that [`AuditError::NoMemory`] may come before any other, and that
+/// [`AuditError::Unbuilt`] has a place for each of its forms. Rounds and statements are counted from 0.
 #[derive(Clone, Copy, Debug, PartialEq, Eq, Error)]
 pub enum AuditError {
-    /// The job asks for something that is not built yet. A mode is refused before everything else, a verdict behind everything else.
-    #[error("the job asks for what is not built yet: {0}")]
-    Unbuilt(Form),
     /// Table, difficulty and statements do not fit together.
     #[error("the job's shape is refused: {0}")]
     JobShape(ShapeFault),
@@ -53,6 +50,9 @@ pub enum AuditError {
     /// A call wanted more memory than there was.
     #[error("out of memory")]
     NoMemory,
+    /// The job asks for something that is not built yet. A mode is refused before everything else, a verdict behind everything else.
+    #[error("the job asks for what is not built yet: {0}")]
+    Unbuilt(Form),
 }
 
 /// Why a job's shape is refused.
@@ -89,6 +89,9 @@ pub enum Form {
     /// The strategy of a build.
     #[error("the strategy")]
     Mode,
+    /// Successor statements in rounds on small values. It is not answered yet, since no such rounds are built: they are refused for their mode.
+    #[error("the statements of a group")]
+    Groups,
     /// The verdict on rounds whose residual is right although a statement is false.
     #[error("the verdict")]
     Verdict,

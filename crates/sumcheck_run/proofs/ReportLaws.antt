@@ -13,7 +13,7 @@ use Rattle.sc_definitions.specs.Problem.{honest_of}
 use Rattle.sc_table.specs.Strategy.{order_of}
 use Rattle.sc_audit.specs.declared.error.AuditError.{AuditError}
 use Rattle.sc_audit.specs.declared.error.AuditError.TheVariants.{Unbuilt, JobShape, StrategyUnfit, FalseClaim, MissingSumcheckData, RoundCountMismatch, PowWitnessCountMismatch, InvalidPowWitness, NoWitness, NoMemory}
-use Rattle.sc_audit.specs.declared.error.Form.TheVariants.{Mode, Verdict}
+use Rattle.sc_audit.specs.declared.error.Form.TheVariants.{Mode, Groups, Verdict}
 use Rattle.sc_audit.specs.Cases.{Case, Task, build, check}
 use Rattle.sc_audit.specs.Refusals.{refusal_of}
 use Rattle.sc_audit.specs.Figures.{Figures, holds, figures_of}
@@ -124,6 +124,7 @@ module _ (o : Ops) (R : Rules) (E : Extension) (size : ℕ) (h : List Event) (c 
     caused-reply : (e : AuditError) (h' : List Event) → e ≢ NoMemory → refusal_of o R.max_bits c ≡ None →
         IsCaused (refusal_of o R.max_bits c) o R E size h c c.task e h' → refusal_reply e ≡ case_reply o R E size h c
     caused-reply (Unbuilt Mode) h' some none cause = refused-reply (Unbuilt Mode) cause.0
+    caused-reply (Unbuilt Groups) h' some none cause = absurd cause
     caused-reply (Unbuilt Verdict) h' some none cause = lucky-reply ring offered h' none cause
     caused-reply (JobShape fault) h' some none cause = refused-reply (JobShape fault) cause.0
     caused-reply (StrategyUnfit fault) h' some none cause = refused-reply (StrategyUnfit fault) cause.0

@@ -92,6 +92,7 @@ pub(crate) fn unbuilt_text(alloc: Global, form: Form) -> Result<String, AllocErr
 {
     match form {
         Form::Mode => String::from_str(alloc, "unbuilt mode"),
+        Form::Groups => String::from_str(alloc, "unbuilt groups"),
         Form::Verdict => String::from_str(alloc, "unbuilt verdict"),
     }
 }

@@ -1,6 +1,7 @@
 //! Rounds that are built on a representation and without one, with figures from a script that is no part of this.
 use super::{BASIS, CHALLENGE_OF_TWO, Case, Figures, HEAD, TWO_ROUNDS, VALUES_OF_TWO, assert_over};
-use sc_audit::{AuditError, Strategy, build_laws};
+use sc_audit::laws::build_laws;
+use sc_audit::{AuditError, Strategy};
 use sc_definitions::Event::{Draw, Word};
 use sc_field::{F257, F257x2, Poly16, Tower16};
 use sc_table::VariableOrder;

@@ -1,4 +1,4 @@
-use Rattle.std.proofs.Common.{◌≡◌, Err, ℕ, map, length, None, refl, sym, ◌∙◌, ap, inl, inr}
+use Rattle.std.proofs.Common.{◌≡◌, Err, Some, ℕ, map, length, None, refl, sym, ◌∙◌, ap, inl, inr}
 use Rattle.std.proofs.lemmas.List.{length-map}
 use Rattle.std.specs.Prelude.{vec_len}
 use Rattle.std.proofs.lemmas.Bool.Decides.{eqb_tells}
@@ -120,6 +120,8 @@ returns-in-Err-clause-caused g c = λ e is.
     let p = stated (order_of job.order) n f (constraint_statements (λ x. g.EF.Algebra.embedding (g.F.Field.number x)) N job.constraint) (constraint_challenge N job.constraint) (constraint_power job.constraint) in
     let proof = c.args.proof.now in
     let given = given_in g.F.Field.number N proof in
+    let R = g.C.Challenger.rules c.args.challenger.now in
+    let task = check (Some given) in
     let seed = ap (λ d. words (quadratic_seed d evaluation bits c.num_variables.result)) (sym g.met.EF.ExtensionField.degree_is)
     ∙ ap (λ k. words (quadratic_seed E.degree evaluation bits k)) c.num_variables.ensures in
     let claim : N c.combine_evals.new.eval ≡ claim_of o p =
@@ -134,7 +136,7 @@ returns-in-Err-clause-caused g c = λ e is.
           let refused = replayed.rounds.1 apart.1 in
           let error_is : c.in-Err.error ≡ replay.RoundCountMismatch c.num_variables.result (vec_len proof.polynomial_evaluations) = same_error _ _ _ refl refused in
           let e_is : e ≡ RoundCountMismatch n (length given.messages) = sym same ∙ told ∙ ap refusal_by error_is ∙ ap (λ k. RoundCountMismatch k (vec_len proof.polynomial_evaluations)) vars ∙ ap (RoundCountMismatch n) (sym ms) in
-          caused-rounds _ _ _ _ g.F.Field.ops.size _ (case_in g.F.Field.number N g.EF.Algebra.embedding job) _ e _ n (length given.messages) e_is (count-rounds n bits given (λ equal. apart.1 (sym ms ∙ equal ∙ sym vars)))
+          caused-rounds _ o R E g.F.Field.ops.size _ (case_in g.F.Field.number N g.EF.Algebra.embedding job) _ e task n (length given.messages) e_is (count-rounds n bits given (λ equal. apart.1 (sym ms ∙ equal ∙ sym vars)))
           (replayed.counted (inl apart.1)).0
       | inl rounds ↦ elim (eqb_tells (vec_len proof.pow_witnesses) (witness_count bits c.num_variables.result)) [
         | inr apart ↦
@@ -142,7 +144,7 @@ returns-in-Err-clause-caused g c = λ e is.
             let error_is : c.in-Err.error ≡ replay.PowWitnessCountMismatch (witness_count bits c.num_variables.result) (vec_len proof.pow_witnesses) = same_error _ _ _ refl refused in
             let e_is : e ≡ PowWitnessCountMismatch (witness_count bits n) (length given.witnesses) =
             sym same ∙ told ∙ ap refusal_by error_is ∙ ap (λ k. PowWitnessCountMismatch (witness_count bits k) (vec_len proof.pow_witnesses)) vars ∙ ap (PowWitnessCountMismatch (witness_count bits n)) (sym ws) in
-            caused-witnesses _ _ _ _ g.F.Field.ops.size _ (case_in g.F.Field.number N g.EF.Algebra.embedding job) _ e _ (witness_count bits n) (length given.witnesses) e_is
+            caused-witnesses _ o R E g.F.Field.ops.size _ (case_in g.F.Field.number N g.EF.Algebra.embedding job) _ e task (witness_count bits n) (length given.witnesses) e_is
             (count-witnesses n bits given (ms ∙ rounds.1 ∙ vars) (λ equal. apart.1 (sym ws ∙ equal ∙ ap (witness_count bits) (sym vars))))
             (replayed.counted (inr apart.1)).0
         | inl found ↦ elim replayed.causes [
@@ -154,14 +156,14 @@ returns-in-Err-clause-caused g c = λ e is.
                   let error_is : c.in-Err.error ≡ replay.NoMemory = same_error _ _ _ refl memory in
                   let none = sym same ∙ told ∙ ap refusal_by error_is in
                   elim (replayed.no_memory memory) [
-                    | inl untouched ↦ caused-memory _ _ _ _ g.F.Field.ops.size _ (case_in g.F.Field.number N g.EF.Algebra.embedding job) _ e _ none (inl untouched.0)
-                    | inr some ↦ caused-memory _ _ _ _ g.F.Field.ops.size _ (case_in g.F.Field.number N g.EF.Algebra.embedding job) _ e _ none (inr (broken-checked (order_of job.order) o _ E job.pow_bits n _ _ _ _ _ (length job.table.items) _ _ _ _ _ (rw (seed, claim) at some) (ms ∙ rounds.1 ∙ vars)))
+                    | inl untouched ↦ caused-memory _ o R E g.F.Field.ops.size _ (case_in g.F.Field.number N g.EF.Algebra.embedding job) _ e task none (inl untouched.0)
+                    | inr some ↦ caused-memory _ o R E g.F.Field.ops.size _ (case_in g.F.Field.number N g.EF.Algebra.embedding job) _ e task none (inr (broken-checked (order_of job.order) o _ E job.pow_bits n _ _ _ _ _ (length job.table.items) _ _ _ _ _ (rw (seed, claim) at some) (ms ∙ rounds.1 ∙ vars)))
                   ]
               | inr invalid ↦
                   let named = invalid_is _ invalid in
                   let error_is : c.in-Err.error ≡ replay.InvalidPowWitness named.0 named.1 = same_error _ _ _ refl named.2 in
                   let at = replayed.invalid named.0 named.1 named.2 in
-                  caused-invalid _ _ _ _ g.F.Field.ops.size _ (case_in g.F.Field.number N g.EF.Algebra.embedding job) _ e given named.0 named.1 (sym same ∙ told ∙ ap refusal_by error_is) at.0 (record { claim = N c.verify_rounds.new.claimed_sum; at = rw (seed, claim) at at.1 })
+                  caused-invalid _ o R E g.F.Field.ops.size _ (case_in g.F.Field.number N g.EF.Algebra.embedding job) _ e given named.0 named.1 (sym same ∙ told ∙ ap refusal_by error_is) at.0 (record { claim = N c.verify_rounds.new.claimed_sum; at = rw (seed, claim) at at.1 })
             ]
           ]
         ]
