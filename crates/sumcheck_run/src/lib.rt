@@ -20,6 +20,6 @@ pub use reply::{Answer, Outcome};
 pub use report::judge_job;
 pub use sc_streams::{Failed, MemSink, MemSource, PlainSource, Sink, Source, StdSink, StdSource};
 pub use sumcheck_jobs::{
-    Challenger, EqualityClaim, Group, Job, Member, Misfit, Mode, ProductClaim, Proof, ScalarClaim,
-    Script, SuccessorClaim, Unread, read_job,
+    Challenger, EqualityClaim, FieldName, Group, Job, Member, Misfit, Mode, ProductClaim, Proof,
+    ScalarClaim, Script, Sizes, SuccessorClaim, Unread, read_job,
 };
