@@ -77,6 +77,8 @@ fn read_input<S: Source>(alloc: Global, reads: bool, source: &mut S) -> Result<V
         → HasRisen (S.faults source.old) (S.faults source.new) }
     ensures quiet { (IsErrOf result ReadFault.Failed → ⊥)
         → S.faults source.new ≡ S.faults source.old }
+    ensures late { S.late source.new (S.faults source.old)
+        ≤ S.late source.old (S.faults source.old) }
 {
     if !reads {
         return Ok(Vec::new(alloc));
@@ -86,7 +88,9 @@ fn read_input<S: Source>(alloc: Global, reads: bool, source: &mut S) -> Result<V
 
 // Makes the reply to an input that was read, and writes it. Nothing is written before the reply is whole.
 fn respond<K: Sink>(alloc: Global, command: Option<Command>, input: Vec<u8>, sink: &mut K) -> Status
-    ensures { Responds K.taken K.faults (reply_of command input.items) sink.old sink.new result.code }
+    ensures responds { Responds K.taken K.faults (reply_of command input.items)
+        sink.old sink.new result.code }
+    ensures late { K.late sink.new (K.faults sink.old) ≤ K.late sink.old (K.faults sink.old) }
 {
     let Ok(answer) = answer(alloc, command, input) else {
         return Status { code: 8 };
@@ -145,9 +149,14 @@ pub fn run<S: Source, K: Sink>(
     // A fault is told only where the count rose, and a count that rose is told.
     ensures read_fault { result.code ≡ 6 → HasRisen (S.faults source.old) (S.faults source.new) }
     ensures write_fault { result.code ≡ 7 → HasRisen (K.faults sink.old) (K.faults sink.new) }
-    ensures read_told { S.faults source.old < S.faults source.new
-        → (result.code ≡ 6) ⊎ (result.code ≡ 8) }
+    ensures read_told { S.faults source.old < S.faults source.new → result.code ≡ 6 }
     ensures write_told { K.faults sink.old < K.faults sink.new → result.code ≡ 7 }
+
+    // It stops at the first fault: no call finds a count above the one that it began with.
+    ensures no_late_read { S.late source.new (S.faults source.old)
+        ≤ S.late source.old (S.faults source.old) }
+    ensures no_late_write { K.late sink.new (K.faults sink.old)
+        ≤ K.late sink.old (K.faults sink.old) }
 {
     let command = read_command(words);
     let input = match read_input(alloc, needs_input(command), source) {

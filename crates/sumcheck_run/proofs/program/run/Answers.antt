@@ -1,4 +1,4 @@
-use Rattle.std.proofs.Common.{◌∙◌, ap, refl, inl, inr}
+use Rattle.std.proofs.Common.{◌∙◌, ap, refl, inl, inr, arith}
 use Rattle.std.proofs.lemmas.Bool.{leb-true}
 use Rattle.sumcheck_run.specs.Program.{reads_input}
 use Rattle.sumcheck_run.proofs.RunLaws.{ran, ran_answered, ran_cut_short, ran_silent, ran_code, ran_usage, ran_no_command, ran_headline, ran_write_fault, ran_write_told, not_six, at_most_eight, differ, too_high, never_rises, told, must_read}
@@ -9,7 +9,7 @@ returns g c =
     let read = c.in-Ok.ensures in
     let is = c.read_command-command.ensures in
     let needs = c.needs_input.ensures in
-    let r = ran g.K.Sink.taken g.K.Sink.faults _ _ _ _ _ _ _ _ _ is needs read.read c.respond.ensures in
+    let r = ran g.K.Sink.taken g.K.Sink.faults _ _ _ _ _ _ _ _ _ is needs read.read c.respond.ensures.responds in
     record {
       answered = ran_answered r;
       cut_short = ran_cut_short r;
@@ -25,6 +25,8 @@ returns g c =
       write_fault = ran_write_fault r;
       read_told = never_rises _ _ (read.quiet (λ e. cc));
       write_told = ran_write_told r;
+      no_late_read = read.late;
+      no_late_write = c.respond.ensures.late;
     }
 
 -- The source failed, and nothing was written.
@@ -47,8 +49,10 @@ returns-in-Err-Failed g c =
       dry = read.dry;
       read_fault = λ _. risen;
       write_fault = differ 6 7 refl;
-      read_told = λ _. inl refl;
+      read_told = λ _. refl;
       write_told = never_rises _ _ refl;
+      no_late_read = read.late;
+      no_late_write = omega arith;
     }
 
 -- There was no memory for the input.
@@ -70,6 +74,8 @@ returns-in-Err-NoMemory g c =
       dry = read.dry;
       read_fault = differ 8 6 refl;
       write_fault = differ 8 7 refl;
-      read_told = λ _. inr refl;
+      read_told = never_rises _ _ (read.quiet (λ e. cc));
       write_told = never_rises _ _ refl;
+      no_late_read = read.late;
+      no_late_write = omega arith;
     }
