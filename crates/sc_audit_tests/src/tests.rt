@@ -5,6 +5,7 @@ ghost use Rattle.sc_statements.specs.EqStatements.{eq_arity};
 mod refusals;
 mod reports;
 mod seventeen;
+mod texts;
 
 use sc_audit::{AuditError, Job, Mode, Report, Strategy, Verdict, audit};
 use sc_challenger::{Challenger, Event, ScriptedChallenger};
