@@ -5,7 +5,7 @@ ghost use Rattle.sumcheck_run.specs.Program.{command_of, reads_input};
 /// What the program is asked for.
 #[derive(Clone, Copy, Debug, PartialEq, Eq)]
 pub enum Command {
-    /// Builds the job that the input describes, and reports on it.
+    /// Builds the rounds of the job that the input describes, or checks those of the proof that came with it, and reports on them.
     Audit,
 }
 
