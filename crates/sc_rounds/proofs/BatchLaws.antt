@@ -79,9 +79,6 @@ caused {T} {S} e k (inr found) = inr (let same : e ≡ NoWitness k = cc in rw sa
 pub bound_at_most : (v v₀ p n m : ℕ) → v + p ≡ v₀ → p < n → n ≡ m → v₀ ≤ v + m
 bound_at_most v v₀ p n m left less same = omega arith
 
-pub no_more : (v n : ℕ) → v ≤ v + n
-no_more v n = omega arith
-
 pub as_many : (a b : ℕ) → a ≡ b → b ≤ a
 as_many a b same = omega arith
 

@@ -1,5 +1,5 @@
 -- One round on a pair of tables, from what its calls answer.
-use Rattle.std.proofs.Common.{◌≡◌, ℕ, zero, suc, ◌+◌, ◌-◌, ◌*◌, ◌/◌, ◌%◌, ◌^◌, ◌<◌, List, [], ◌∷◌, length, map, ap, sym, ◌∙◌, subst, arith, Result, Ok, Err, IfOk}
+use Rattle.std.proofs.Common.{◌≡◌, ℕ, zero, suc, ◌+◌, ◌-◌, ◌*◌, ◌/◌, ◌%◌, ◌^◌, ◌<◌, List, [], ◌∷◌, length, map, ap, sym, ◌∙◌, subst, arith, Result, Ok, Err}
 use Rattle.std.proofs.Math.Nat.{pow-suc}
 use Rattle.std.proofs.lemmas.List.{length-map}
 use Rattle.std.proofs.lemmas.Grind.{same_number_lists}
@@ -9,7 +9,7 @@ use Rattle.sc_definitions.specs.Messages.{message_first, message_leading, messag
 use Rattle.sc_definitions.specs.Rounds.{next_claim}
 use Rattle.sc_definitions.specs.Transcript.{round_of}
 use Rattle.sc_definitions.specs.Channels.{IsSent, NoWitnessFound, with_rounds}
-use Rattle.sc_definitions.specs.Standings.{Setting, Standing, half_rows, message_in, IsRound, IsHonestRound}
+use Rattle.sc_definitions.specs.Standings.{Setting, Standing, half_rows, message_in, IsRound}
 use Rattle.sc_definitions.proofs.Sums.{sum-same}
 use Rattle.sc_definitions.proofs.MessageLaws.{inner-bound_in}
 use Rattle.sc_definitions.proofs.StandingLaws.{IsSized, entries-is}
@@ -19,7 +19,7 @@ use Rattle.sc_transcript.specs.declared.error.SumcheckError.TheVariants.{NoMemor
 use Rattle.sc_transcript.specs.Drivers.{IsRefused}
 use Rattle.sc_rounds.specs.declared.product_polynomial.ProductPolynomial.{ProductPolynomial}
 use Rattle.sc_rounds.specs.Products.{variables_in}
-use Rattle.sc_rounds.specs.Standings.{IsHalted, Moves}
+use Rattle.sc_rounds.specs.Standings.{IsHalted, Moves, MovesHonestly}
 
 -- a power of two with a variable left is even
 pub even_power : (n v : ℕ) → 0 < v → n ≡ 2 ^ v → n % 2 ≡ 0
@@ -121,6 +121,6 @@ sum_after order o ring n m f w claim values r f' w' claim' more true_sum message
 
 -- a round as the tables before it tell it
 pub moved-honest : {X : Type 0} (number : X → ℕ) (s : Setting) → IsRing s.ops → IsOffered s.basis s.order → (t u : Standing) (i : ℕ) (r : Result X SumcheckError) →
-    Moves number s t u i r → IfOk r (λ x. IsHonestRound s t u (number x))
-moved-honest number s ring offered t u i (Ok x) p = honest-round s ring offered t u (number x) p
-moved-honest number s ring offered t u i (Err e) p = tt
+    Moves number s t u i r → MovesHonestly number s t u i r
+moved-honest number s ring offered t u i (Ok x) p = (p, honest-round s ring offered t u (number x) p)
+moved-honest number s ring offered t u i (Err e) p = p

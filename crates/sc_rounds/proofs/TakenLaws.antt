@@ -1,5 +1,5 @@
 -- A constraint that is taken in.
-use Rattle.std.proofs.Common.{◌≡◌, ℕ, ◌^◌, ◌<◌, List, Option, Result, Ok, Err, OnOk, OnErr, ap, sym, ◌∙◌}
+use Rattle.std.proofs.Common.{◌≡◌, ℕ, ◌^◌, ◌<◌, List, Option, ap, sym, ◌∙◌}
 use Rattle.sc_definitions.specs.declared.events.Event.{Event}
 use Rattle.sc_definitions.specs.Channels.{footing}
 use Rattle.sc_definitions.specs.Ring.{Ops, IsRing, plus, times}
@@ -11,11 +11,6 @@ use Rattle.sc_definitions.proofs.StatementLaws.{element-powers_sum}
 use Rattle.sc_statements.specs.declared.constraint.Constraint.{Constraint}
 use Rattle.sc_statements.specs.Batches.{AddsBatch}
 use Rattle.sc_rounds.specs.Batches.{claim_with}
-
--- what holds in both cases of a result holds
-pub ok_or_err : {T E : Type 0} {A B C P : Type 0} (r : Result T E) → OnOk r A → OnErr r B → OnErr r C → (A → P) → (B → C → P) → P
-ok_or_err (Ok x) a b c f g = f a
-ok_or_err (Err e) a b c f g = g b c
 
 -- a claim that is known, with a constraint taken in
 pub claim_begun : {F EF : Type 0} (o : Ops) (of : F → ℕ) (number : EF → ℕ) (constraint : Option (Constraint F EF)) (known claim taken : ℕ) → known ≡ claim →

@@ -42,7 +42,6 @@ module _ {F EF : Type 0} {f : FieldOf F} {p : PartialEqOf F} {x : ExtensionOf EF
   abbrev pub batch_of : SumcheckProver F EF f p x a e q → SumcheckData F EF → Option (Constraint F EF) → Rules → List Event → ℕ → SumcheckShape → Batch
   batch_of s d c R h degree shape = record {
     setting = setting_of s R shape.pow_bits;
-    asked = standing_of s d h;
     taken = standing_with s d h c;
     start = standing_with s d (h ++ words (seed_of degree shape)) c;
     rounds = shape.num_rounds;

@@ -1,12 +1,20 @@
 -- Where rounds on a pair of tables stand, and what is left where they are refused.
-use Rattle.std.specs.Prelude.{◌≡◌, ◌⊎◌, ℕ, ◌+◌, ◌<◌, List, map, Result, Ok, Err}
+use Rattle.std.specs.Prelude.{◌≡◌, ◌⊎◌, ℕ, ◌+◌, ◌<◌, ◌≤◌, List, map, Result, Ok, Err}
+use Rattle.std.specs.declared.cmp.PartialEq.{Ghosts as PartialEqOf}
 use Rattle.sc_definitions.specs.declared.events.Event.{Event}
 use Rattle.sc_definitions.specs.Ring.{Ops}
+use Rattle.sc_definitions.specs.Events.{Extension}
+use Rattle.sc_field.specs.declared.field.Field.{Ghosts as FieldOf}
+use Rattle.sc_challenger.specs.declared.challenger.Challenger.{Ghosts as ChallengerOf}
 use Rattle.sc_definitions.specs.Tables.{evaluation}
 use Rattle.sc_definitions.specs.Channels.{Channel, Wire}
-use Rattle.sc_definitions.specs.Standings.{Setting, Standing, IsRound, IsPlayed, IsPlayedInPart, IsRoundWithoutWitness, IsPlayedWithoutWitness}
+use Rattle.sc_definitions.specs.Standings.{Setting, Standing, IsRound, IsHonestRound, IsPlayed, IsPlayedInPart, IsRoundWithoutWitness, IsPlayedWithoutWitness}
 use Rattle.sc_transcript.specs.declared.error.SumcheckError.{SumcheckError}
 use Rattle.sc_transcript.specs.declared.error.SumcheckError.TheVariants.{NoWitness, NoMemory}
+use Rattle.sc_transcript.specs.declared.transcript.ProverTranscript.{ProverTranscript}
+use Rattle.sc_transcript.specs.declared.data.SumcheckData.{SumcheckData}
+use Rattle.sc_transcript.specs.Drivers.{Driver, driver_in, channel_of, TakesRoom}
+use Rattle.sc_transcript.specs.Data.{wire_in}
 use Rattle.sc_rounds.specs.declared.product_polynomial.ProductPolynomial.{ProductPolynomial}
 use Rattle.sc_rounds.specs.Products.{variables_in, order_in}
 
@@ -24,6 +32,15 @@ standing_in number p sum h wire = record {
   history = h;
   wire = wire;
 }
+
+module _ {C F EF EG : Type 0} {c : ChallengerOf C F} {f : FieldOf F} {q : PartialEqOf F} where
+  -- the same where the pair is played in a transcript, whose elements have these parts
+  abbrev pub setting_on : {G : Type 0} → Extension → Ops → ProductPolynomial G EF → ProverTranscript C F EG c f q → Setting
+  setting_on E o p t = setting_in (channel_of E (driver_in t)) o p
+
+  -- the same where the pair and its sum, by one numbering, are played in a transcript onto data, whose elements have another one
+  abbrev pub standing_on : {G : Type 0} → (EF → ℕ) → (EG → ℕ) → ProductPolynomial G EF → EF → ProverTranscript C F EG c f q → SumcheckData F EG → Standing
+  standing_on number sent p sum t d = standing_in number p sum (driver_in t).history (wire_in f.number sent d)
 
 -- why round i is refused, and what that leaves
 abbrev pub IsHalted : Setting → Standing → Standing → ℕ → SumcheckError → Type 0
@@ -49,6 +66,21 @@ abbrev pub Moves : {X : Type 0} → (X → ℕ) → Setting → Standing → Sta
 Moves number s before after i (Ok r) = IsRound s before after (number r)
 Moves number s before after i (Err e) = IsHalted s before after i e
 
+-- the same, with how the tables before it tell it
+abbrev pub MovesHonestly : {X : Type 0} → (X → ℕ) → Setting → Standing → Standing → ℕ → Result X SumcheckError → Type 0
+MovesHonestly number s before after i (Ok r) = IsRound s before after (number r) × IsHonestRound s before after (number r)
+MovesHonestly number s before after i (Err e) = IsHalted s before after i e
+
+-- one round more was played where there is an answer, and none where there is not
+abbrev pub Counts : {X E : Type 0} → Driver → Driver → Result X E → Type 0
+Counts before after (Ok x) = after.played ≡ before.played + 1
+Counts before after (Err e) = after.played ≡ before.played
+
+-- a round takes no more of the room of its driver, over an extension of a degree, and of its data than its own; a refused one takes none of the data's
+abbrev pub TakesItsRoom : {X E : Type 0} → ℕ → Driver → Driver → ℕ → ℕ → Result X E → Type 0
+TakesItsRoom degree before after spare spare' (Ok x) = TakesRoom degree before after × (spare ≤ spare' + 1)
+TakesItsRoom degree before after spare spare' (Err e) = spare ≤ spare'
+
 -- what a batch of so many rounds leaves, by its result
 abbrev pub MovesBatch : {X : Type 0} → (X → List ℕ) → Type 0 → Setting → Standing → Standing → ℕ → Result X SumcheckError → Type 0
 MovesBatch challenges unbegun s before after rounds (Ok x) = IsPlayed s before after (challenges x)
@@ -56,22 +88,17 @@ MovesBatch challenges unbegun s before after rounds (Err e) = IsBatchStopped unb
 
 -- ---- a batch that is asked of a prover
 
--- What stays, where the prover stands, where it stands with a constraint taken in, if there is one, where the first round begins, which is behind the
--- seed, and how many rounds are asked for.
+-- What stays, where the prover stands with a constraint taken in, if there is one, where the first round begins, which is behind the seed, and how many
+-- rounds are asked for.
 pub record Batch : Type 0 where
   pub setting : Setting
-  pub asked : Standing
   pub taken : Standing
   pub start : Standing
   pub rounds : ℕ
 
--- it was broken off before its first round: the prover stands as it was asked, but that the constraint may have been taken in
-abbrev pub IsUnplayed : Batch → Standing → Type 0
-IsUnplayed b after = (after ≡ b.asked) ⊎ (after ≡ b.taken)
-
--- why it stops, and what that leaves
+-- why it stops, and what that leaves: one that was broken off before its seed has the constraint taken in
 abbrev pub BreaksOff : Batch → Standing → SumcheckError → Type 0
-BreaksOff b after = IsBatchStopped (IsUnplayed b after) b.setting b.start after b.rounds
+BreaksOff b after = IsBatchStopped (after ≡ b.taken) b.setting b.start after b.rounds
 
 -- what it leaves, by its result
 abbrev pub LeavesBatch : {X : Type 0} → (X → List ℕ) → Batch → Standing → Result X SumcheckError → Type 0

@@ -1,5 +1,5 @@
 //! A table and its weights, on which rounds are played.
-ghost use Rattle.std.specs.Prelude.{◌≡◌, ◌≢◌, ◌⊎◌, ℕ, Err, suc, ◌+◌, ◌<◌, ◌≤◌, ◌^◌, [], ◌∷◌, ◌++◌, IfOk, IfErr, OnOk, OnErr, length, map, vec_capacity};
+ghost use Rattle.std.specs.Prelude.{◌≡◌, ◌≢◌, ◌⊎◌, ℕ, Err, suc, ◌+◌, ◌<◌, ◌≤◌, ◌^◌, [], ◌∷◌, ◌++◌, IsOk, IfOk, IfErr, OnOk, OnErr, length, map, vec_capacity};
 ghost use Rattle.sc_definitions.specs.Ring.{plus, times};
 ghost use Rattle.sc_definitions.specs.Tables.{entries, value, sum_below, inner};
 ghost use Rattle.sc_table.specs.Polys.{variables_of, table_of};
@@ -29,11 +29,11 @@ pub struct ProductPolynomial<F, EF> {
 
 impl<F: Field, EF: ExtensionField<F>> ProductPolynomial<F, EF> {
     ghost use Rattle.sc_definitions.specs.Channels.{channel};
-    ghost use Rattle.sc_definitions.specs.Standings.{IsHonestRound, IsPlayed};
+    ghost use Rattle.sc_definitions.specs.Standings.{IsPlayed};
     ghost use Rattle.sc_transcript.specs.Data.{wire_in, spare_in};
-    ghost use Rattle.sc_transcript.specs.Drivers.{driver_in, channel_of, Continues, HasRoundLeft, IsDone, HasRoom, TakesRoom};
+    ghost use Rattle.sc_transcript.specs.Drivers.{driver_in, Continues, HasRoundLeft, IsDone, HasRoom};
     ghost use Rattle.sc_rounds.specs.Products.{variables_in, order_in, evals_in, weights_in, sum_in};
-    ghost use Rattle.sc_rounds.specs.Standings.{setting_in, standing_in, Moves, IsStopped, MovesBatch};
+    ghost use Rattle.sc_rounds.specs.Standings.{setting_in, standing_in, setting_on, standing_on, Moves, MovesHonestly, Counts, TakesItsRoom, IsStopped, MovesBatch};
     ghost use Rattle.sc_rounds.specs.Batches.{IsUnbegun};
 
     /// The pair of these tables, which have as many variables.
@@ -107,7 +107,7 @@ impl<F: Field, EF: ExtensionField<F>> ProductPolynomial<F, EF> {
 
     /// Adds the batch of a constraint on as many variables: its weights to the weights, and its claim to the sum. The evaluations stay.
     ///
-    /// A refusal leaves the pair and the sum as they were.
+    /// The weights are added to in their place: no memory is taken, and `NoMemory` never comes.
     pub fn combine(
         &mut self,
         alloc: Global,
@@ -118,18 +118,12 @@ impl<F: Field, EF: ExtensionField<F>> ProductPolynomial<F, EF> {
         ensures variables { variables_in self.new ≡ variables_in self.old }
         ensures order { order_in self.new ≡ order_in self.old }
         ensures evals { evals_in EF.number self.new ≡ evals_in EF.number self.old }
-        ensures ok { OnOk result (AddsBatch EF.ops (variables_in self.old) (constraint_challenge EF.number constraint.now) (constraint_power constraint.now)
+        ensures added { AddsBatch EF.ops (variables_in self.old) (constraint_challenge EF.number constraint.now) (constraint_power constraint.now)
             (constraint_statements (λ x. EF.embedding (F.number x)) EF.number constraint.now)
-            (weights_in EF.number self.old) (weights_in EF.number self.new) (EF.number sum.old) (EF.number sum.new)) }
-        ensures refused { OnErr result (self.new ≡ self.old) }
-        ensures refused_sum { OnErr result (sum.new ≡ sum.old) }
+            (weights_in EF.number self.old) (weights_in EF.number self.new) (EF.number sum.old) (EF.number sum.new) }
+        ensures answered { IsOk result }
     {
-        let mut weights = self.weights.copy(alloc)?;
-        let mut total = *sum;
-        constraint.combine(alloc, &mut weights, &mut total)?;
-        self.weights = weights;
-        *sum = total;
-        Ok(())
+        constraint.combine(alloc, &mut self.weights, sum)
     }
 
     // The order, the evaluations and the weights.
@@ -186,21 +180,15 @@ impl<F: Field, EF: ExtensionField<F>> ProductPolynomial<F, EF> {
         ensures continues { Continues (driver_in transcript.old) (driver_in transcript.new) }
         ensures order { order_in self.new ≡ order_in self.old }
         ensures sum { EF.number sum.new ≡ sum_in EF.ops EF.number self.new }
-        ensures played { OnOk result ((driver_in transcript.new).played ≡ (driver_in transcript.old).played + 1) }
-        ensures round { Moves EF.number (setting_in (channel_of EF.extension (driver_in transcript.old)) EF.ops self.old)
-            (standing_in EF.number self.old sum.old (driver_in transcript.old).history (wire_in F.number EF.number sumcheck_data.old))
-            (standing_in EF.number self.new sum.new (driver_in transcript.new).history (wire_in F.number EF.number sumcheck_data.new)) (driver_in transcript.old).played result }
+        ensures counts { Counts (driver_in transcript.old) (driver_in transcript.new) result }
 
-        // In terms of the tables before it: it sends their honest pair, and the value of a bound table is theirs with the challenge placed.
-        ensures honest { IfOk result (λ r. IsHonestRound (setting_in (channel_of EF.extension (driver_in transcript.old)) EF.ops self.old)
-            (standing_in EF.number self.old sum.old (driver_in transcript.old).history (wire_in F.number EF.number sumcheck_data.old))
-            (standing_in EF.number self.new sum.new (driver_in transcript.new).history (wire_in F.number EF.number sumcheck_data.new)) (EF.number r)) }
-        ensures not_played { OnErr result ((driver_in transcript.new).played ≡ (driver_in transcript.old).played) }
+        // The message that is sent is the honest pair of the tables before, and the value of a bound table is theirs with the challenge placed.
+        ensures round { MovesHonestly EF.number (setting_on EF.extension EF.ops self.old transcript.old)
+            (standing_on EF.number EF.number self.old sum.old transcript.old sumcheck_data.old)
+            (standing_on EF.number EF.number self.new sum.new transcript.new sumcheck_data.new) (driver_in transcript.old).played result }
         ensures kept { OnErr result ((self.new ≡ self.old) × (sum.new ≡ sum.old)) }
         ensures has_room { 1 ≤ spare_in sumcheck_data.old → HasRoom EF.DEGREE (driver_in transcript.old) → result ≢ Err SumcheckError.NoMemory }
-        ensures takes_room { OnOk result (TakesRoom EF.DEGREE (driver_in transcript.old) (driver_in transcript.new)) }
-        ensures room { OnOk result (spare_in sumcheck_data.old ≤ spare_in sumcheck_data.new + 1) }
-        ensures room_kept { OnErr result (spare_in sumcheck_data.old ≤ spare_in sumcheck_data.new) }
+        ensures room { TakesItsRoom EF.DEGREE (driver_in transcript.old) (driver_in transcript.new) (spare_in sumcheck_data.old) (spare_in sumcheck_data.new) result }
     {
         self.round_in::<F, EF, C>(sumcheck_data, transcript, sum)
     }
@@ -220,16 +208,13 @@ impl<F: Field, EF: ExtensionField<F>> ProductPolynomial<F, EF> {
         ensures continues { Continues (driver_in transcript.old) (driver_in transcript.new) }
         ensures order { order_in self.new ≡ order_in self.old }
         ensures sum { EF.number sum.new ≡ sum_in EF.ops EF.number self.new }
-        ensures played { OnOk result ((driver_in transcript.new).played ≡ (driver_in transcript.old).played + 1) }
-        ensures round { Moves EG.number (setting_in (channel_of EG.extension (driver_in transcript.old)) EG.ops self.old)
-            (standing_in (λ x. EF.to_number (EF.number x)) self.old sum.old (driver_in transcript.old).history (wire_in G.number EG.number sumcheck_data.old))
-            (standing_in (λ x. EF.to_number (EF.number x)) self.new sum.new (driver_in transcript.new).history (wire_in G.number EG.number sumcheck_data.new)) (driver_in transcript.old).played result }
-        ensures not_played { OnErr result ((driver_in transcript.new).played ≡ (driver_in transcript.old).played) }
+        ensures counts { Counts (driver_in transcript.old) (driver_in transcript.new) result }
+        ensures round { Moves EG.number (setting_on EG.extension EG.ops self.old transcript.old)
+            (standing_on (λ x. EF.to_number (EF.number x)) EG.number self.old sum.old transcript.old sumcheck_data.old)
+            (standing_on (λ x. EF.to_number (EF.number x)) EG.number self.new sum.new transcript.new sumcheck_data.new) (driver_in transcript.old).played result }
         ensures kept { OnErr result ((self.new ≡ self.old) × (sum.new ≡ sum.old)) }
         ensures has_room { 1 ≤ spare_in sumcheck_data.old → HasRoom EG.DEGREE (driver_in transcript.old) → result ≢ Err SumcheckError.NoMemory }
-        ensures takes_room { OnOk result (TakesRoom EG.DEGREE (driver_in transcript.old) (driver_in transcript.new)) }
-        ensures room { OnOk result (spare_in sumcheck_data.old ≤ spare_in sumcheck_data.new + 1) }
-        ensures room_kept { OnErr result (spare_in sumcheck_data.old ≤ spare_in sumcheck_data.new) }
+        ensures room { TakesItsRoom EG.DEGREE (driver_in transcript.old) (driver_in transcript.new) (spare_in sumcheck_data.old) (spare_in sumcheck_data.new) result }
     {
         let message = self
             .order
@@ -268,13 +253,13 @@ impl<F: Field, EF: ExtensionField<F>> ProductPolynomial<F, EF> {
         ensures sum { EF.number sum.new ≡ sum_in EF.ops EF.number self.new }
         ensures left { variables_in self.new + (driver_in transcript.new).played ≡ variables_in self.old }
         ensures all { OnOk result (IsDone (driver_in transcript.new)) }
-        ensures played { OnOk result (IsPlayed (setting_in (channel_of EG.extension (driver_in transcript.old)) EG.ops self.old)
-            (standing_in (λ x. EF.to_number (EF.number x)) self.old sum.old (driver_in transcript.old).history (wire_in G.number EG.number sumcheck_data.old))
-            (standing_in (λ x. EF.to_number (EF.number x)) self.new sum.new (driver_in transcript.new).history (wire_in G.number EG.number sumcheck_data.new)) (map EG.number challenges.new.items)) }
+        ensures played { OnOk result (IsPlayed (setting_on EG.extension EG.ops self.old transcript.old)
+            (standing_on (λ x. EF.to_number (EF.number x)) EG.number self.old sum.old transcript.old sumcheck_data.old)
+            (standing_on (λ x. EF.to_number (EF.number x)) EG.number self.new sum.new transcript.new sumcheck_data.new) (map EG.number challenges.new.items)) }
         ensures begun { OnErr result (HasRoundLeft (driver_in transcript.new)) }
-        ensures stopped { IfErr result (IsStopped (setting_in (channel_of EG.extension (driver_in transcript.old)) EG.ops self.old)
-            (standing_in (λ x. EF.to_number (EF.number x)) self.old sum.old (driver_in transcript.old).history (wire_in G.number EG.number sumcheck_data.old))
-            (standing_in (λ x. EF.to_number (EF.number x)) self.new sum.new (driver_in transcript.new).history (wire_in G.number EG.number sumcheck_data.new)) (driver_in transcript.new).played) }
+        ensures stopped { IfErr result (IsStopped (setting_on EG.extension EG.ops self.old transcript.old)
+            (standing_on (λ x. EF.to_number (EF.number x)) EG.number self.old sum.old transcript.old sumcheck_data.old)
+            (standing_on (λ x. EF.to_number (EF.number x)) EG.number self.new sum.new transcript.new sumcheck_data.new) (driver_in transcript.new).played) }
     {
         for _round in 0..transcript.shape().num_rounds {
             match self.round_in::<G, EG, C>(sumcheck_data, transcript, sum) {

@@ -9,7 +9,7 @@ ghost use Rattle.sc_definitions.specs.Seeds.{quadratic_seed};
 ghost use Rattle.sc_definitions.specs.Tables.{evaluation};
 ghost use Rattle.sc_table.specs.Polys.{variables_of, table_of};
 ghost use Rattle.sc_table.specs.Strategy.{order_of};
-ghost use Rattle.sc_definitions.specs.Statements.{batched_weight, batched_claim};
+ghost use Rattle.sc_statements.specs.Batches.{AddsBatch};
 ghost use Rattle.sc_statements.specs.Constraints.{constraint_challenge, constraint_power, constraint_statements};
 ghost use Rattle.sc_rounds.specs.Products.{sum_in};
 
@@ -180,7 +180,7 @@ impl<F: Field, EF: ExtensionField<F>> SumcheckProver<F, EF> {
     /// [`SumcheckProver::constraint_is_true`] tests, is taken in before the first round.
     ///
     /// `NoWitness` names one of these rounds, and comes only where no element of the base field passes its test: the rounds before it are played, and
-    /// the data has as many more. After `NoMemory` some rounds are played, and the constraint is taken in or not; without a round nothing is appended.
+    /// the data has as many more. After `NoMemory` some rounds are played, from the first on, or none. The constraint is taken in whatever comes.
     pub fn compute_sumcheck_polynomials<C: Challenger<F>>(
         &mut self,
         alloc: Global,
@@ -201,47 +201,37 @@ impl<F: Field, EF: ExtensionField<F>> SumcheckProver<F, EF> {
             (standing_of self.new sumcheck_data.new (C.history challenger.new)) result }
         ensures left { variables_in self.old.poly ≤ variables_in self.new.poly + folding_factor }
     {
-        self.take_in_if_some(alloc, constraint)?;
+        self.take_in_if_some(alloc, constraint);
         let shape = SumcheckShape::new(folding_factor, pow_bits, Basis::Evaluation);
         self.poly
             .play_batch::<F, EF, C>(alloc, sumcheck_data, challenger, shape, &mut self.sum)
     }
 
-    // Takes in a constraint, if there is one, which is true. A refusal leaves the weights and the claim as they were.
-    fn take_in_if_some(
-        &mut self,
-        alloc: Global,
-        constraint: Option<Constraint<F, EF>>,
-    ) -> Result<(), NoMemory>
+    // Takes in a constraint, if there is one, which is true.
+    fn take_in_if_some(&mut self, alloc: Global, constraint: Option<Constraint<F, EF>>)
         requires { IsTrueIfSome EF.ops (λ x. EF.embedding (F.number x)) EF.number (variables_in self.old.poly) (evals_in EF.number self.old.poly) constraint }
         ensures variables { variables_in self.new.poly ≡ variables_in self.old.poly }
         ensures order { order_in self.new.poly ≡ order_in self.old.poly }
         ensures evals { evals_in EF.number self.new.poly ≡ evals_in EF.number self.old.poly }
-        ensures weights { OnOk result ((b : ℕ) → b < 2 ^ variables_in self.old.poly → weights_in EF.number self.new.poly b
-            ≡ weights_with EF.ops (λ x. EF.embedding (F.number x)) EF.number constraint (weights_in EF.number self.old.poly) b) }
-        ensures claim { OnOk result (EF.number self.new.sum ≡ claim_with EF.ops (λ x. EF.embedding (F.number x)) EF.number constraint (EF.number self.old.sum)) }
-        ensures refused { OnErr result (self.new.poly ≡ self.old.poly) }
-        ensures refused_sum { OnErr result (self.new.sum ≡ self.old.sum) }
+        ensures weights { (b : ℕ) → b < 2 ^ variables_in self.old.poly → weights_in EF.number self.new.poly b
+            ≡ weights_with EF.ops (λ x. EF.embedding (F.number x)) EF.number constraint (weights_in EF.number self.old.poly) b }
+        ensures claim { EF.number self.new.sum ≡ claim_with EF.ops (λ x. EF.embedding (F.number x)) EF.number constraint (EF.number self.old.sum) }
     {
-        match constraint {
-            Some(constraint) => self.take_in(alloc, &constraint),
-            None => Ok(()),
+        if let Some(constraint) = constraint {
+            self.take_in(alloc, &constraint);
         }
     }
 
-    // Adds the batch of a true constraint to the weights and to the claim. A refusal leaves both as they were.
-    fn take_in(&mut self, alloc: Global, constraint: &Constraint<F, EF>) -> Result<(), NoMemory>
+    // Adds the batch of a true constraint to the weights and to the claim.
+    fn take_in(&mut self, alloc: Global, constraint: &Constraint<F, EF>)
         requires { IsTrueConstraint EF.ops (λ x. EF.embedding (F.number x)) EF.number (variables_in self.old.poly) (evals_in EF.number self.old.poly) constraint.now }
         ensures variables { variables_in self.new.poly ≡ variables_in self.old.poly }
         ensures order { order_in self.new.poly ≡ order_in self.old.poly }
         ensures evals { evals_in EF.number self.new.poly ≡ evals_in EF.number self.old.poly }
-        ensures weights { OnOk result ((b : ℕ) → b < 2 ^ variables_in self.old.poly → weights_in EF.number self.new.poly b
-            ≡ plus EF.ops (weights_in EF.number self.old.poly b) (batched_weight EF.ops (constraint_challenge EF.number constraint.now) (constraint_power constraint.now) (constraint_statements (λ x. EF.embedding (F.number x)) EF.number constraint.now) b)) }
-        ensures claim { OnOk result (EF.number self.new.sum
-            ≡ plus EF.ops (EF.number self.old.sum) (batched_claim EF.ops (constraint_challenge EF.number constraint.now) (constraint_power constraint.now) (constraint_statements (λ x. EF.embedding (F.number x)) EF.number constraint.now))) }
-        ensures refused { OnErr result (self.new.poly ≡ self.old.poly) }
-        ensures refused_sum { OnErr result (self.new.sum ≡ self.old.sum) }
+        ensures added { AddsBatch EF.ops (variables_in self.old.poly) (constraint_challenge EF.number constraint.now) (constraint_power constraint.now)
+            (constraint_statements (λ x. EF.embedding (F.number x)) EF.number constraint.now)
+            (weights_in EF.number self.old.poly) (weights_in EF.number self.new.poly) (EF.number self.old.sum) (EF.number self.new.sum) }
     {
-        self.poly.combine(alloc, &mut self.sum, constraint)
+        self.poly.combine(alloc, &mut self.sum, constraint).unwrap();
     }
 }

@@ -18,9 +18,3 @@ pub record WritesBatch (o : Ops) (n challenge first : ℕ) (ss : List Statement)
 pub record IsUnchanged (n : ℕ) (old new : ℕ → ℕ) (old_sum new_sum : ℕ) : Type 0 where
   pub weights : (b : ℕ) → b < 2 ^ n → new b ≡ old b
   pub sum : new_sum ≡ old_sum
-
--- The rows and the sum gain the batch of the first groups alone, and not of all of them.
-pub record AddsPrefix {G : Type 0} (statements_of : G → List Statement) (o : Ops) (n challenge first : ℕ) (groups : List G) (old new : ℕ → ℕ) (old_sum new_sum : ℕ) : Type 0 where
-  pub count : ℕ
-  pub proper : count < length groups
-  pub added : AddsBatch o n challenge first (flat_map statements_of (take count groups)) old new old_sum new_sum

@@ -7,7 +7,7 @@ ghost use Rattle.sc_definitions.specs.Statements.{first_false_claim, batched_wei
 ghost use Rattle.sc_field.specs.Powers.{base_of, start_of};
 ghost use Rattle.sc_table.specs.Polys.{variables_of, table_of};
 ghost use Rattle.sc_statements.specs.Groups.{group_arity, group_statements};
-ghost use Rattle.sc_statements.specs.Batches.{AddsBatch, AddsPrefix};
+ghost use Rattle.sc_statements.specs.Batches.{AddsBatch};
 ghost use Rattle.sc_statements.specs.FalseClaims.{told};
 
 use crate::statement::Statements;
@@ -133,7 +133,7 @@ impl<F: Field, EF: ExtensionField<F>> Constraint<F, EF> {
     /// Adds the batched weights to the rows of a table, which has as many variables as the statements
     /// say, and the batched claim to the sum.
     ///
-    /// No memory is taken, so `NoMemory` never comes; after it both would have those of the first groups.
+    /// The rows are added to in their place: no memory is taken, and `NoMemory` never comes.
     pub fn combine(
         &self,
         alloc: Global,
@@ -144,9 +144,6 @@ impl<F: Field, EF: ExtensionField<F>> Constraint<F, EF> {
         ensures variables { variables_of combined.new ≡ variables_of combined.old }
         ensures ok { OnOk result (AddsBatch EF.ops (constraint_arity self.now) (constraint_challenge EF.number self.now) (constraint_power self.now)
             (constraint_statements (λ x. EF.embedding (F.number x)) EF.number self.now)
-            (table_of EF.number combined.old) (table_of EF.number combined.new) (EF.number eval.old) (EF.number eval.new)) }
-        ensures refused { OnErr result (AddsPrefix (group_statements (λ x. EF.embedding (F.number x)) EF.number) EF.ops (constraint_arity self.now)
-            (constraint_challenge EF.number self.now) (constraint_power self.now) (constraint_groups self.now)
             (table_of EF.number combined.old) (table_of EF.number combined.new) (EF.number eval.old) (EF.number eval.new)) }
         ensures answered { IsOk result }
     {

@@ -37,7 +37,7 @@ loop-round-preserved g c =
         rules = round.continues.rules ∙ inv.continues.rules;
         shape = round.continues.shape ∙ inv.continues.shape;
       };
-      played = round.played ∙ ap (λ n. n + 1) inv.played;
+      played = round.counts ∙ ap (λ n. n + 1) inv.played;
       left = less_by_one _ _ _ _ round.round.fewer inv.left;
       order = round.order ∙ inv.order;
       true_sum = round.sum;
@@ -93,11 +93,11 @@ returns-in-Err g c =
       };
       order = round.order ∙ inv.order;
       sum = round.sum;
-      left = sum_at _ _ _ _ (round.not_played ∙ inv.played) (ap (λ p. variables_in p + c.loop-round._round) round.kept.0 ∙ inv.left);
+      left = sum_at _ _ _ _ (round.counts ∙ inv.played) (ap (λ p. variables_in p + c.loop-round._round) round.kept.0 ∙ inv.left);
       all = tt;
       played = tt;
-      begun = less_at _ _ _ _ (round.not_played ∙ inv.played) c.loop-round-test.true (ap (λ (s : SumcheckShape). s.num_rounds) (c.shape-round-end.ensures ∙ sym inv.continues.shape ∙ sym round.continues.shape));
+      begun = less_at _ _ _ _ (round.counts ∙ inv.played) c.loop-round-test.true (ap (λ (s : SumcheckShape). s.num_rounds) (c.shape-round-end.ensures ∙ sym inv.continues.shape ∙ sym round.continues.shape));
       stopped = stops _ _ _ _ _ _ _ _ c.in-Err.error
           (same_setting _ _ _ _ _ (same_channel _ _ _ g.G.Field.ops.size _ _ inv.continues.rules (ap (λ (s : SumcheckShape). s.pow_bits) inv.continues.shape)) inv.order)
-          (sym round.not_played) inv.batch round.round;
+          (sym round.counts) inv.batch round.round;
     }

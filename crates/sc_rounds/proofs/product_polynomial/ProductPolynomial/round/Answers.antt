@@ -1,5 +1,5 @@
 use Rattle.sc_rounds.proofs.PairRounds.{moved-honest}
 use Rattle.sc_rounds.proofs.product_polynomial.ProductPolynomial.round.Goals as goal
 
-pub returns-clause-honest : goal.returns-clause-honest
-returns-clause-honest g c = moved-honest _ _ g.met.EF.Field.is_field.ring tt _ _ _ _ c.round_in.ensures.round
+pub returns-clause-round : goal.returns-clause-round
+returns-clause-round g c = moved-honest _ _ g.met.EF.Field.is_field.ring tt _ _ _ _ c.round_in.ensures.round

@@ -29,7 +29,7 @@ returns-clause-told g c =
     let moved : inner o (variables_in end) (evals_in N end) (weights_in N end) ≡ inner o (variables_in pair) (evals_in N pair) (weights_in N end) =
     ap (λ k. inner o k (evals_in N end) (weights_in N end)) c.combine.ensures.variables ∙ ap (λ t. inner o (variables_in pair) t (weights_in N end)) c.combine.ensures.evals in
     let there : inner o (variables_in pair) (evals_in N pair) v ≡ inner o n f v = ap (λ k. inner o k (evals_in N pair) v) size ∙ ap (λ t. inner o n t v) evals in
-    let added = c.in_ok-combine.ensures.ok in (
+    let added = c.combine.ensures.added in (
       λ told. record {
         arity = arity;
         claim = sym there ∙ claim_taken o ring _ _ _ _ _ _ _ _ _ begun (c.sum_is_true.ensures.0 told ∙ moved) added;
