@@ -46,9 +46,6 @@ replays_end next c before rs i h h' claim out out' e eh eo p =
 pub counted_whole : (i n k m : ℕ) → i ≤ n → n ≤ i → k ≡ n → m ≡ k → i ≡ m
 counted_whole i n k m a b e f = omega arith
 
-pub same_count : (i n : ℕ) → i ≤ n → n ≤ i → i ≡ n
-same_count i n a b = omega arith
-
 pub room_left : (len i n cap : ℕ) → len ≡ i → i < n → n ≤ cap → len < cap
 room_left len i n cap e lt le = omega arith
 

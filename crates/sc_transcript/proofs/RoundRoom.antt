@@ -2,9 +2,6 @@
 use Rattle.std.proofs.Common.{◌≡◌, ℕ, zero, suc, ◌+◌, ◌*◌, ◌<◌, ◌≤◌, arith}
 use Rattle.sc_transcript.specs.Shapes.{events_of}
 
-pub some_bits : (bits : ℕ) → (bits ≡ 0 → ⊥) → 0 < bits
-some_bits bits some = omega arith
-
 -- no witness takes no room, and one takes that of two events
 pub spare_none : (bits spare : ℕ) → bits ≡ 0 → spare + 3 * 1 ≤ spare + events_of 1 bits
 spare_none zero spare none = omega arith

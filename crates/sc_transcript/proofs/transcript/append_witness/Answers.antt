@@ -1,12 +1,13 @@
 use Rattle.std.proofs.Common.{refl}
+use Rattle.std.proofs.Math.Nat.{pos_of_ne-zero}
 use Rattle.std.proofs.lemmas.Result.{IfOk-from_err}
-use Rattle.sc_transcript.proofs.RoundRoom.{some_bits, spare_none, spare_some}
+use Rattle.sc_transcript.proofs.RoundRoom.{spare_none, spare_some}
 use Rattle.sc_transcript.proofs.RoundWords.{ground_none, ground_positive}
 use Rattle.sc_transcript.proofs.transcript.append_witness.Goals as goal
 
 -- a witness is sought at a positive difficulty alone
 pub grind-requires-clause-positive : goal.grind-requires-clause-positive
-grind-requires-clause-positive g c = some_bits _ c.if-pow_bits-eq0.false
+grind-requires-clause-positive g c = pos_of_ne-zero c.if-pow_bits-eq0.false
 
 -- at difficulty 0 nothing is appended
 pub returns-then-pow_bits-eq0-clause-history : goal.returns-then-pow_bits-eq0-clause-history
@@ -20,13 +21,13 @@ returns-then-pow_bits-eq0-clause-spare g c = spare_none _ _ c.if-pow_bits-eq0.tr
 
 -- at a positive one the witness and its test
 pub returns-clause-history : goal.returns-clause-history
-returns-clause-history g c = ground_positive c.args.pow_bits _ _ _ (some_bits _ c.if-pow_bits-eq0.false) c.in_ok-witness.ensures.ok
+returns-clause-history g c = ground_positive c.args.pow_bits _ _ _ (pos_of_ne-zero c.if-pow_bits-eq0.false) c.in_ok-witness.ensures.ok
 
 pub returns-clause-first : goal.returns-clause-first
 returns-clause-first g c = λ _. c.in_ok-witness.ensures.first
 
 pub returns-clause-spare : goal.returns-clause-spare
-returns-clause-spare g c = spare_some c.args.pow_bits _ _ (some_bits _ c.if-pow_bits-eq0.false) c.in_ok-witness.ensures.spare
+returns-clause-spare g c = spare_some c.args.pow_bits _ _ (pos_of_ne-zero c.if-pow_bits-eq0.false) c.in_ok-witness.ensures.spare
 
 -- a refusal tells nothing of an answer
 pub returns-in_err-witness-clause-history : goal.returns-in_err-witness-clause-history

@@ -1,10 +1,11 @@
 use Rattle.std.proofs.Common.{refl, ap, sym, ◌+◌, ◌∙◌, map, length, rules}
 use Rattle.std.specs.Option.{option_map_or}
+use Rattle.std.proofs.Math.Nat.{le_antisymm}
 use Rattle.std.proofs.lemmas.List.{length-map}
 use Rattle.sc_transcript.specs.Shapes.{pair_round}
 use Rattle.sc_definitions.specs.Channels.{channel}
 use Rattle.sc_definitions.proofs.ReplayLaws.{length-given_rounds}
-use Rattle.sc_transcript.proofs.ReplayedLaws.{same_channel, replays_begin, replays_step, replays_end, counted_whole, same_count, room_left, leaves_rejected}
+use Rattle.sc_transcript.proofs.ReplayedLaws.{same_channel, replays_begin, replays_step, replays_end, counted_whole, room_left, leaves_rejected}
 use Rattle.sc_transcript.proofs.Lent.{returned}
 use Rattle.sc_transcript.proofs.data.SumcheckData.replay.Goals as goal
 
@@ -30,7 +31,7 @@ push_reserved-requires g c = room_left _ _ _ _ c.rounds.invariant.len c.rounds-t
 
 pub finish-requires : goal.finish-requires
 finish-requires g c =
-    c.rounds.invariant.played ∙ same_count _ _ c.rounds.auto.i-end c.rounds-test.false
+    c.rounds.invariant.played ∙ le_antisymm c.rounds.auto.i-end c.rounds-test.false
     ∙ ap (λ s. s.num_rounds) (sym (c.rounds.invariant.continues.shape ∙ c.over-transcript.ensures.fresh.shape))
 
 pub rounds-preserved : goal.rounds-preserved

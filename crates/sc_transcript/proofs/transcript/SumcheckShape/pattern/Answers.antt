@@ -1,12 +1,9 @@
-use Rattle.std.proofs.Common.{◌≡◌, ℕ, ◌≤◌, ◌++◌, ◌∙◌, ap, arith}
+use Rattle.std.proofs.Common.{◌++◌, ◌∙◌, ap}
+use Rattle.std.proofs.Math.Nat.{le_antisymm}
 use Rattle.std.proofs.lemmas.Result.{IfOk-from_err}
 use Rattle.sc_definitions.specs.Seeds.{round_steps, rounds_steps}
 use Rattle.sc_transcript.proofs.StepLaws.{steps_more}
 use Rattle.sc_transcript.proofs.transcript.SumcheckShape.pattern.Goals as goal
-
--- the loop ends at the number of rounds
-same_count : (i n : ℕ) → i ≤ n → n ≤ i → i ≡ n
-same_count i n low high = omega arith
 
 pub loop-round-init : goal.loop-round-init
 loop-round-init g c = c.new-steps.ensures.items
@@ -22,7 +19,7 @@ loop-round-preserved g c =
 pub returns : goal.returns
 returns g c =
     c.new.ensures ∙ c.loop-round.invariant
-    ∙ ap (rounds_steps g.EF.ExtensionField.DEGREE 2 c.args.self.now.pow_bits) (same_count _ _ c.loop-round.auto._round-end c.loop-round-test.false)
+    ∙ ap (rounds_steps g.EF.ExtensionField.DEGREE 2 c.args.self.now.pow_bits) (le_antisymm c.loop-round.auto._round-end c.loop-round-test.false)
 
 -- a refusal tells nothing of an answer
 pub returns-in_err-push_round_steps : goal.returns-in_err-push_round_steps

@@ -1,24 +1,19 @@
-use Rattle.std.proofs.Common.{◌≡◌, ℕ, ◌+◌, ◌<◌, ◌≤◌, ◌∙◌, ap, arith}
+use Rattle.std.proofs.Common.{◌∙◌, ap}
+use Rattle.std.proofs.Math.Nat.{pos_of_ne-zero, le-add_right}
 use Rattle.std.proofs.lemmas.Result.{IfOk-from_err}
 use Rattle.sc_definitions.specs.Seeds.{seed_words}
 use Rattle.sc_transcript.proofs.RoundWords.{seed_none, seed_some}
 use Rattle.sc_transcript.proofs.transcript.SumcheckShape.seed.Goals as goal
 
-above_none : (n : ℕ) → (n ≡ 0 → ⊥) → 0 < n
-above_none n some = omega arith
-
-no_less : (m k : ℕ) → m ≤ m + k
-no_less m k = omega arith
-
 -- the separator's words are the seed of one round or more
 pub returns-clause-ok : goal.returns-clause-ok
 returns-clause-ok g c =
-    let same = ap seed_words c.in_ok-separator.ensures ∙ seed_some _ _ _ _ (above_none _ c.if-self-eq0.false) in
+    let same = ap seed_words c.in_ok-separator.ensures ∙ seed_some _ _ _ _ (pos_of_ne-zero c.if-self-eq0.false) in
     rw same at c.seed.ensures.ok
 
 pub returns-clause-spare : goal.returns-clause-spare
 returns-clause-spare g c =
-    let same = ap seed_words c.in_ok-separator.ensures ∙ seed_some _ _ _ _ (above_none _ c.if-self-eq0.false) in
+    let same = ap seed_words c.in_ok-separator.ensures ∙ seed_some _ _ _ _ (pos_of_ne-zero c.if-self-eq0.false) in
     rw same at c.seed.ensures.spare
 
 pub returns-clause-rules : goal.returns-clause-rules
@@ -35,7 +30,7 @@ pub returns-then-self-eq0-clause-ok : goal.returns-then-self-eq0-clause-ok
 returns-then-self-eq0-clause-ok g c = seed_none _ _ _ _ _ c.if-self-eq0.true
 
 pub returns-then-self-eq0-clause-spare : goal.returns-then-self-eq0-clause-spare
-returns-then-self-eq0-clause-spare g c = no_less _ _
+returns-then-self-eq0-clause-spare g c = le-add_right _ _
 
 -- a refusal tells nothing of an answer
 pub returns-in_err-separator-clause-ok : goal.returns-in_err-separator-clause-ok
