@@ -2,7 +2,7 @@
 use super::Refusal;
 use super::jobs::SCRIPT;
 
-pub(super) static CHANGES: [Refusal; 82] = [
+pub(super) static CHANGES: [Refusal; 83] = [
     // a member that is missing
     (r#""field":"65537","#, "", "bad-job field"),
     (
@@ -142,6 +142,11 @@ pub(super) static CHANGES: [Refusal; 82] = [
     ("[1,2,3,4]", "[1,2,3,4,5]", "job-shape table-length 5"),
     ("[1,2,3,4]", "[]", "job-shape table-length 0"),
     ("[1,2,3,4]", "[1,2]", "job-shape variables 2 expected 1"),
+    (
+        r#""variables":2,"groups":[{"kind":"eq","claims":[{"point":[0,1],"#,
+        r#""variables":1,"groups":[{"kind":"eq","claims":[{"point":[0],"#,
+        "job-shape variables 1 expected 2",
+    ),
     (
         "[1,2,3,4]",
         "[1,2,3,4,5,6,7,8]",

@@ -1,6 +1,6 @@
 // Sources and sinks that fail, are full or move few bytes at a call.
 use super::jobs::{FIRST, FIRST_TEXT};
-use super::{assert_written, audit_into, code_of, sink_with};
+use super::{assert_written, code_of, sink_with};
 use std::alloc::Global;
 use std::io::{self, Error, ErrorKind, Read, Write};
 use std::process::Abort;
@@ -74,18 +74,19 @@ fn a_source_that_fails(rt: HostRuntime) {
     assert_reads(&rt, rt.alloc(), &FAILING_READS);
 }
 
-// A room, the calls of the sink that fail, the status, and what is written of the report on the first job.
-type Writes = (usize, &'static [u64], u8, &'static str);
+// A room, the calls of the sink that fail, the status, how often something is written, and what of the report on the first job.
+type Writes = (usize, &'static [u64], u8, (u64, &'static str));
 
-static ROOMS: [Writes; 5] = [
-    (10, &[9], 7, "claim 2\nro"),
-    (FIRST_TEXT.len(), &[9], 0, FIRST_TEXT),
-    (FIRST_TEXT.len() - 1, &[9], 7, UNENDED_TEXT),
-    (1000, &[0], 7, ""),
-    (0, &[9], 7, ""),
+static ROOMS: [Writes; 6] = [
+    (10, &[9], 7, (2, "claim 2\nro")),
+    (10, &[1], 7, (2, "claim 2\nro")),
+    (FIRST_TEXT.len(), &[9], 0, (1, FIRST_TEXT)),
+    (FIRST_TEXT.len() - 1, &[9], 7, (2, UNENDED_TEXT)),
+    (1000, &[0], 7, (1, "")),
+    (0, &[9], 7, (1, "")),
 ];
 
-static TEN_BYTES: [Writes; 1] = [(10, &[], 7, "claim 2\nro")];
+static TEN_BYTES: [Writes; 1] = [(10, &[], 7, (2, "claim 2\nro"))];
 
 // The report on the first job without its last byte.
 const UNENDED_TEXT: &str =
@@ -96,9 +97,14 @@ static JOB: &str = FIRST;
 static REPORT: &str = FIRST_TEXT;
 
 fn assert_writes<A: Abort>(rt: &A, alloc: Global, all: &[Writes]) {
-    for (room, fails, code, text) in all {
+    for (room, fails, code, (writes, text)) in all {
+        let input = JOB.as_bytes().to_vec(alloc).expect(rt, "memory");
+        let mut source = source_with(rt, alloc, input, &[]);
         let mut sink = sink_with(rt, alloc, *room, *fails);
-        let found = audit_into(rt, alloc, JOB.as_bytes(), &mut sink);
+        let found = code_of(rt, alloc, &["audit"], &mut source, &mut sink);
+        // A job of this length is read at once, and then its end.
+        let counts = (source.calls(), sink.calls());
+        assert_eq!(rt; counts, (2, *writes), "{room}, {fails:?}");
         assert_written(rt, *text, found, sink.bytes(), *code, *text);
     }
 }
