@@ -11,7 +11,8 @@ use sc_definitions::Event;
 use sc_definitions::Event::Word;
 use sc_field::{ExtensionField, Field, IntoTranscriptField};
 use sc_statements::{Constraint, EqStatement, Statements};
-use sc_table::{Point, RoundMessage, VariableOrder};
+use sc_table::{Point, VariableOrder};
+use sc_tests_common::{are_pairs, have_numbers, of};
 use std::process::Abort;
 
 // A point, and the value that is claimed there.
@@ -82,18 +83,9 @@ const TWO_ROUNDS: [&str; 7] = [
     BASIS,
 ];
 
-// The element of this number.
-fn of<F: Field>(number: u64) -> F {
-    F::element(number % F::size())
-}
-
 // The elements of these numbers.
 fn elements<F: Field, R: Abort + AllocGlobal>(rt: &R, numbers: &[u64]) -> Vec<F> {
-    numbers
-        .iter()
-        .map(|number| of(*number))
-        .collect(rt.alloc())
-        .expect(rt, "elements")
+    sc_tests_common::elements(rt.alloc(), numbers).expect(rt, "elements")
 }
 
 // The statements of these claims. One on another number of variables is left out.
@@ -138,22 +130,6 @@ fn job<F: Field, EF: ExtensionField<F>, R: Abort + AllocGlobal>(rt: &R, case: &C
         pow_bits: 0,
         mode: Mode::Build(case.strategy),
     }
-}
-
-// Whether elements have these numbers.
-fn have_numbers<F: Field>(elements: &[F], numbers: &[u64]) -> bool {
-    elements.len() == numbers.len()
-        && elements
-            .iter()
-            .zip(numbers)
-            .all(|(element, number)| element.index() == *number)
-}
-
-// Whether messages are these pairs.
-fn are_pairs<F: Field>(messages: &[RoundMessage<F>], pairs: &[Pair]) -> bool {
-    messages.len() == pairs.len()
-        && messages.iter().zip(pairs).all(|(message, pair)| message.c_a.index() == pair.0
-            && message.c_inf.index() == pair.1)
 }
 
 // Whether a verdict is that the statements hold, or else that the rounds are refused.

@@ -14,6 +14,7 @@ use sc_field::Field;
 use sc_rounds::SumcheckData;
 use sc_statements::{Constraint, EqStatement, Statements};
 use sc_table::{Point, RoundMessage, VariableOrder};
+use sc_tests_common::{are_pairs, have_numbers, of};
 use std::process::Abort;
 
 // A point, and the value that is claimed there.
@@ -137,18 +138,9 @@ const PREFIX: Case = Case {
     events: &[Word(15), Word(7), Draw, Word(5), Word(11), Draw],
 };
 
-// The element of this number.
-fn of<F: Field>(number: u64) -> F {
-    F::element(number % F::size())
-}
-
 // The elements of these numbers.
 fn elements<F: Field, R: Abort + AllocGlobal>(rt: &R, numbers: &[u64]) -> Vec<F> {
-    numbers
-        .iter()
-        .map(|number| of(*number))
-        .collect(rt.alloc())
-        .expect(rt, "elements")
+    sc_tests_common::elements(rt.alloc(), numbers).expect(rt, "elements")
 }
 
 // The statements of these claims. One on another number of variables is left out.
@@ -253,22 +245,6 @@ fn challenger<F: Field, R: Abort + AllocGlobal>(rt: &R, case: &Case) -> Scripted
     let mut challenger = ScriptedChallenger::new(rt.alloc(), draws, good);
     play(rt, &mut challenger, case.past);
     challenger
-}
-
-// Whether elements have these numbers.
-fn have_numbers<F: Field>(elements: &[F], numbers: &[u64]) -> bool {
-    elements.len() == numbers.len()
-        && elements
-            .iter()
-            .zip(numbers)
-            .all(|(element, number)| element.index() == *number)
-}
-
-// Whether messages are these pairs.
-fn are_pairs<F: Field>(messages: &[RoundMessage<F>], pairs: &[Pair]) -> bool {
-    messages.len() == pairs.len()
-        && messages.iter().zip(pairs).all(|(message, pair)| message.c_a.index() == pair.0
-            && message.c_inf.index() == pair.1)
 }
 
 // Whether a verdict is that the statements hold, or else that the rounds are refused.

@@ -48,15 +48,6 @@ static NO_STEPS: [&str; 5] = [
     "ab",
 ];
 
-// The elements of these numbers.
-fn elements(alloc: Global, numbers: &[u64]) -> Result<Vec<F65537>, NoMemory> {
-    let elements = numbers
-        .iter()
-        .map(|number| F65537::element(*number % 65537))
-        .collect(alloc)?;
-    Ok(elements)
-}
-
 // A challenger of these draws, and of these witnesses for its tests.
 fn scripted<A: Abort>(
     rt: &A,
@@ -64,13 +55,7 @@ fn scripted<A: Abort>(
     draws: &[u64],
     good: &[&[u64]],
 ) -> ScriptedChallenger<F65537> {
-    let mut lists = Vec::new(alloc);
-    for list in good {
-        let list = elements(alloc, *list).expect(rt, "room for a list");
-        lists.push(list).expect(rt, "room for a list");
-    }
-    let draws = elements(alloc, draws).expect(rt, "room for draws");
-    ScriptedChallenger::new(alloc, draws, lists)
+    sc_tests_common::scripted(alloc, draws, good).expect(rt, "room for a script")
 }
 
 // Makes room first, and then needs no memory.

@@ -8,7 +8,8 @@ use sc_field::{Field, NoMemory, Poly16, Tower16};
 use sc_rounds::{
     ProductPolynomial, ReprSumcheckProver, SumcheckData, SumcheckError, SumcheckProver,
 };
-use sc_table::{Point, Poly, RoundMessage, VariableOrder};
+use sc_table::{Point, Poly, VariableOrder};
+use sc_tests_common::{are_pairs, elements, have_numbers, of};
 use std::alloc::Global;
 
 type Prover = ReprSumcheckProver<Tower16, Tower16, Poly16>;
@@ -19,40 +20,12 @@ type Data = SumcheckData<Tower16, Tower16>;
 // The two values that a round sends.
 type Pair = (u64, u64);
 
-// The element of this number.
-fn of<F: Field>(number: u64) -> F {
-    F::element(number % F::size())
-}
-
-// The elements of these numbers.
-fn elements<F: Field>(alloc: Global, numbers: &[u64]) -> Result<Vec<F>, NoMemory>
-    ensures { IfOk result (λ v. length v.items ≡ length numbers.now) }
-{
-    let elements = numbers.iter().map(|number| of(*number)).collect(alloc)?;
-    Ok(elements)
-}
-
 // The table of these four values.
 fn table(alloc: Global, values: &[u64]) -> Result<Poly<Tower16>, NoMemory>
     requires { length values.now ≡ 4 }
     ensures { IfOk result (λ p. variables_of p ≡ 2) }
 {
     Ok(Poly::new(elements(alloc, values)?))
-}
-
-fn have_numbers<F: Field>(elements: &[F], numbers: &[u64]) -> bool {
-    elements.len() == numbers.len()
-        && elements
-            .iter()
-            .zip(numbers)
-            .all(|(element, number)| element.index() == *number)
-}
-
-// Whether messages are these pairs.
-fn are_pairs<F: Field>(messages: &[RoundMessage<F>], pairs: &[Pair]) -> bool {
-    messages.len() == pairs.len()
-        && messages.iter().zip(pairs).all(|(message, pair)| message.c_a.index() == pair.0
-            && message.c_inf.index() == pair.1)
 }
 
 // A challenger that draws 2 and 4, and of whose tests each is passed by the next of these elements alone.

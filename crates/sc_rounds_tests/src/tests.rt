@@ -11,7 +11,8 @@ use sc_field::{F65537, Field, NoMemory};
 use sc_rounds::{
     ProductPolynomial, ProverTranscript, SumcheckData, SumcheckError, SumcheckProver, SumcheckShape,
 };
-use sc_table::{Basis, Point, Poly, RoundMessage, VariableOrder};
+use sc_table::{Basis, Point, Poly, VariableOrder};
+use sc_tests_common::{are_pairs, elements, have_numbers, of, point, scripted};
 use std::alloc::Global;
 
 // How many words the seed of one round has without a test.
@@ -20,60 +21,12 @@ const ONE_ROUND: usize = 248;
 // The two values that a round sends.
 type Pair = (u64, u64);
 
-// The element of this number.
-fn of<F: Field>(number: u64) -> F {
-    F::element(number % F::size())
-}
-
-// The elements of these numbers.
-fn elements<F: Field>(alloc: Global, numbers: &[u64]) -> Result<Vec<F>, NoMemory>
-    ensures { IfOk result (λ v. length v.items ≡ length numbers.now) }
-{
-    let elements = numbers.iter().map(|number| of(*number)).collect(alloc)?;
-    Ok(elements)
-}
-
-// The point of these numbers.
-fn point<F: Field>(alloc: Global, numbers: &[u64]) -> Result<Point<F>, NoMemory>
-    ensures { IfOk result (λ p. length p ≡ length numbers.now) }
-{
-    Ok(Point::new(elements(alloc, numbers)?))
-}
-
 // The table of these four values.
 fn table(alloc: Global, values: &[u64]) -> Result<Poly<F65537>, NoMemory>
     requires { length values.now ≡ 4 }
     ensures { IfOk result (λ p. variables_of p ≡ 2) }
 {
     Ok(Poly::new(elements(alloc, values)?))
-}
-
-fn have_numbers<F: Field>(elements: &[F], numbers: &[u64]) -> bool {
-    elements.len() == numbers.len()
-        && elements
-            .iter()
-            .zip(numbers)
-            .all(|(element, number)| element.index() == *number)
-}
-
-// Whether messages are these pairs.
-fn are_pairs<F: Field>(messages: &[RoundMessage<F>], pairs: &[Pair]) -> bool {
-    messages.len() == pairs.len()
-        && messages.iter().zip(pairs).all(|(message, pair)| message.c_a.index() == pair.0
-            && message.c_inf.index() == pair.1)
-}
-
-// A challenger of these draws, and of these witnesses for its tests.
-fn scripted<F: Field>(
-    alloc: Global,
-    draws: &[u64],
-    good: &[&[u64]],
-) -> Result<ScriptedChallenger<F>, NoMemory> {
-    let mut lists = Vec::new(alloc);
-    for list in good {
-        lists.push(elements(alloc, list)?)?;
-    }
-    Ok(ScriptedChallenger::new(alloc, elements(alloc, draws)?, lists))
 }
 
 // Two tables of as many variables, and their sum.

@@ -13,31 +13,15 @@ use sc_field::{F65537, Field, NoMemory};
 use sc_statements::EqStatement;
 use sc_statements::laws::row_laws;
 use sc_table::{Point, Poly};
+use sc_tests_common::{have_numbers, of};
 use std::alloc::Global;
 use std::process::Abort;
-
-// The element of this number.
-pub(crate) fn of(number: u64) -> F65537 {
-    F65537::element(number % 65537)
-}
 
 // The elements of these numbers.
 fn elements<R: Abort + AllocGlobal>(rt: &R, numbers: &[u64]) -> Vec<F65537>
     ensures { length result.items ≡ length numbers.now }
 {
-    numbers
-        .iter()
-        .map(|number| of(*number))
-        .collect(rt.alloc())
-        .expect(rt, "elements")
-}
-
-pub(crate) fn have_numbers(elements: &[F65537], numbers: &[u64]) -> bool {
-    elements.len() == numbers.len()
-        && elements
-            .iter()
-            .zip(numbers)
-            .all(|(element, number)| element.index() == *number)
+    sc_tests_common::elements(rt.alloc(), numbers).expect(rt, "elements")
 }
 
 // The point of these numbers.

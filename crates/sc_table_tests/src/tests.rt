@@ -8,31 +8,20 @@ use sc_table::{
     strategy_laws, sumcheck_coefficients_prefix, sumcheck_coefficients_prefix_projective,
     sumcheck_coefficients_suffix,
 };
+use sc_tests_common::{have_numbers, of};
 use std::alloc::Global;
 
 // The elements of these numbers.
 fn elements(alloc: Global, numbers: &[u64]) -> Result<Vec<F65537>, NoMemory>
     ensures { IfOk result (λ v. length v.items ≡ length numbers.now) }
 {
-    let elements = numbers
-        .iter()
-        .map(|number| F65537::element(*number % 65537))
-        .collect(alloc)?;
-    Ok(elements)
-}
-
-fn have_numbers(elements: &[F65537], numbers: &[u64]) -> bool {
-    elements.len() == numbers.len()
-        && elements
-            .iter()
-            .zip(numbers)
-            .all(|(element, number)| element.index() == *number)
+    sc_tests_common::elements(alloc, numbers)
 }
 
 fn message(c_a: u64, c_inf: u64) -> RoundMessage<F65537> {
     RoundMessage {
-        c_a: F65537::element(c_a % 65537),
-        c_inf: F65537::element(c_inf % 65537),
+        c_a: of(c_a),
+        c_inf: of(c_inf),
     }
 }
 

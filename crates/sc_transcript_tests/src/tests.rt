@@ -7,6 +7,7 @@ mod shapes;
 use sc_challenger::{Challenger, Event, ScriptedChallenger};
 use sc_field::{ExtensionField, F65537, Field, NoMemory};
 use sc_table::{Basis, Point, RoundMessage};
+use sc_tests_common::{elements, have_numbers, of, scripted};
 use sc_transcript::{
     ProverTranscript, SumcheckData, SumcheckError, SumcheckShape, VerifierTranscript,
     verify_final_sumcheck_rounds,
@@ -20,38 +21,6 @@ const ONE_ROUND: usize = 248;
 const TWO_ROUNDS: usize = 402;
 
 const TWO_TESTED_ROUNDS: usize = 542;
-
-// The element of this number.
-fn of<F: Field>(number: u64) -> F {
-    F::element(number % F::size())
-}
-
-// The elements of these numbers.
-fn elements<F: Field>(alloc: Global, numbers: &[u64]) -> Result<Vec<F>, NoMemory> {
-    let elements = numbers.iter().map(|number| of(*number)).collect(alloc)?;
-    Ok(elements)
-}
-
-fn have_numbers<F: Field>(elements: &[F], numbers: &[u64]) -> bool {
-    elements.len() == numbers.len()
-        && elements
-            .iter()
-            .zip(numbers)
-            .all(|(element, number)| element.index() == *number)
-}
-
-// A challenger of these draws, and of these witnesses for its tests.
-fn scripted<F: Field>(
-    alloc: Global,
-    draws: &[u64],
-    good: &[&[u64]],
-) -> Result<ScriptedChallenger<F>, NoMemory> {
-    let mut lists = Vec::new(alloc);
-    for list in good {
-        lists.push(elements(alloc, list)?)?;
-    }
-    Ok(ScriptedChallenger::new(alloc, elements(alloc, draws)?, lists))
-}
 
 // Whether there are so many events, and these are the last.
 fn ends<F: Field>(challenger: &ScriptedChallenger<F>, events: usize, last: &[Event]) -> bool {

@@ -1,12 +1,13 @@
 //! Figures over the integers modulo 65537, worked out apart from the crate: each row's weight straight from its definition, the sum over
 //! all rows of entry times weight, and the sum of weight times the equality weight of a point.
 
-ghost use Rattle.std.specs.Prelude.{◌≡◌, ◌≤◌, length, IfOk};
+ghost use Rattle.std.specs.Prelude.{◌≡◌, ◌≤◌, IfOk};
 ghost use Rattle.sc_definitions.specs.Statements.{arity_of};
 ghost use Rattle.sc_table.specs.Polys.{variables_of};
 
 use sc_field::{F65537, Field, NoMemory};
-use sc_table::{Point, Poly, VariableOrder};
+use sc_table::{Poly, VariableOrder};
+use sc_tests_common::{elements, of, point};
 use sc_weights::{NextConstraint, RowWeights, Selector};
 use std::alloc::Global;
 use std::process::Abort;
@@ -110,29 +111,9 @@ static PRODUCTS: [(&[u64], Wanted<'static>); 5] = [
     (&[2, 3, 7], (&[1, 7, 3, 21, 2, 14, 6, 42], 506, 1116)),
 ];
 
-// The element of this number.
-fn of(number: u64) -> F65537 {
-    F65537::element(number % 65537)
-}
-
-// The elements of these numbers.
-fn elements(alloc: Global, numbers: &[u64]) -> Result<Vec<F65537>, NoMemory>
-    ensures { IfOk result (λ v. length v.items ≡ length numbers.now) }
-{
-    let elements = numbers.iter().map(|number| of(*number)).collect(alloc)?;
-    Ok(elements)
-}
-
-// The point of these numbers.
-fn point(alloc: Global, numbers: &[u64]) -> Result<Point<F65537>, NoMemory>
-    ensures { IfOk result (λ p. length p ≡ length numbers.now) }
-{
-    Ok(Point::new(elements(alloc, numbers)?))
-}
-
 // An entry with three times its weight.
 fn added(entry: u64, weight: u64) -> F65537 {
-    of(entry).add(of(3).mul(of(weight)))
+    of::<F65537>(entry).add(of::<F65537>(3).mul(of(weight)))
 }
 
 // That the rows are the entries with three times the weights.

@@ -3,12 +3,13 @@ ghost use Rattle.std.specs.Prelude.{◌≡◌, ◌^◌, length};
 ghost use Rattle.sc_rounds.specs.Products.{variables_in};
 
 use super::step::{claim_is_true, one_claim, play, prover_of, scripted, stands};
-use super::{Pair, Standing, are_pairs, elements, of};
+use super::{Pair, Standing};
 use sc_challenger::Challenger;
 use sc_field::{ExtensionField, F65537, Field};
 use sc_rounds::{SumcheckData, SumcheckProver};
 use sc_statements::Constraint;
 use sc_table::{Basis, VariableOrder};
+use sc_tests_common::{are_pairs, elements, of};
 use std::alloc::Global;
 use std::process::Abort;
 

@@ -5,7 +5,7 @@ ghost use Rattle.sc_statements.specs.Constraints.{constraint_arity};
 ghost use Rattle.sc_rounds.specs.Products.{variables_in, evals_in};
 ghost use Rattle.sc_rounds.specs.Provers.{IsTrueIfSome};
 
-use super::{PLAYS, Standing, are_pairs, are_standing, have_numbers, of, pair_of, point};
+use super::{PLAYS, Standing, are_standing, pair_of};
 use sc_challenger::{Challenger, ScriptedChallenger};
 use sc_field::{ExtensionField, F65537, Field, NoMemory};
 use sc_rounds::{
@@ -14,6 +14,7 @@ use sc_rounds::{
 };
 use sc_statements::{Constraint, EqStatement, Statements};
 use sc_table::{Basis, Point, VariableOrder};
+use sc_tests_common::{are_pairs, have_numbers, of, point};
 use std::alloc::Global;
 use std::process::Abort;
 
@@ -21,7 +22,7 @@ static GOOD: [&[u64]; 2] = [&[9, 5], &[6]];
 
 // A challenger that draws 3 and 4, and whose tests 5, 9 and 6 pass, in this order.
 pub(super) fn scripted(alloc: Global) -> Result<ScriptedChallenger<F65537>, NoMemory> {
-    super::scripted(alloc, &[3, 4], &GOOD)
+    sc_tests_common::scripted(alloc, &[3, 4], &GOOD)
 }
 
 // The prover of the table 1, 2, 3, 4 and of these four weights.

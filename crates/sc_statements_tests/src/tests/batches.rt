@@ -3,10 +3,11 @@
 ghost use Rattle.std.specs.Prelude.{◌≡◌};
 ghost use Rattle.sc_statements.specs.Constraints.{constraint_arity};
 
-use super::{claims, have_numbers, of, table};
+use super::{claims, table};
 use sc_definitions::FalseClaim;
 use sc_field::{F65537, Field};
 use sc_statements::{Constraint, Statements};
+use sc_tests_common::{have_numbers, of};
 use std::process::Abort;
 
 // Groups of one claim and of two.

@@ -7,12 +7,13 @@ ghost use Rattle.sc_statements.specs.Groups.{group_arity};
 ghost use Rattle.sc_statements.specs.Constraints.{constraint_arity};
 ghost use Rattle.sc_table.specs.Polys.{variables_of};
 
-use super::{elements, four, have_numbers, of, point, table};
+use super::{elements, four, point, table};
 use sc_field::{F65537, Field};
 use sc_statements::{
     Claim, Constraint, NextStatement, SelectStatement, StatementList, Statements, Weights,
 };
 use sc_table::{Point, Poly, VariableOrder};
+use sc_tests_common::{have_numbers, of};
 use std::process::Abort;
 
 // A value that is claimed through the successor map.
@@ -352,7 +353,7 @@ fn a_claim_that_is_there_has_the_coefficient_one(rt: HostRuntime) {
 
 #[test]
 fn a_claim_carries_its_payload(rt: HostRuntime) {
-    let claim = Claim::new(7, of(3), 'x');
+    let claim = Claim::new(7, of::<F65537>(3), 'x');
     let told = (*claim.point(), claim.eval().index(), *claim.payload());
     assert_eq!(rt; told, (7, 3, 'x'));
 }
