@@ -3,6 +3,7 @@ ghost use Rattle.std.specs.Prelude.{◌≡◌, ◌+◌, ◌<◌, ◌≤◌, OnOk
 ghost use Rattle.sc_transcript.specs.Drivers.{driver_in, Continues, HasRoundsLeft};
 
 mod shapes;
+mod texts;
 
 use sc_challenger::{Challenger, Event, ScriptedChallenger};
 use sc_field::{ExtensionField, F65537, Field, NoMemory};
@@ -443,31 +444,6 @@ fn a_replay_ends_where_it_is_refused(rt: HostRuntime) {
             wrong_in::<F65537, F65537>(rt.alloc(), replay) == Ok(None),
             "{name}"
         );
-    }
-}
-
-static REFUSALS: [(SumcheckError, &str); 2] = [
-    (
-        SumcheckError::RoundCountMismatch {
-            expected: 2,
-            actual: 1,
-        },
-        "expected 2 sumcheck rounds, but the proof has 1",
-    ),
-    (
-        SumcheckError::InvalidPowWitness {
-            round: 7,
-            difficulty: 9,
-        },
-        "the witness of sumcheck round 7 does not pass at 9 bits",
-    ),
-];
-
-#[test]
-fn a_refusal_names_what_was_expected(rt: HostRuntime) {
-    for (error, wanted) in &REFUSALS {
-        let text = error.to_string(rt.alloc()).expect(&rt, "an answer");
-        assert!(rt; text.as_str() == *wanted, "{text}");
     }
 }
 
