@@ -4,7 +4,7 @@ use Rattle.sc_definitions.specs.Ring.{Ops, IsRing, plus, times}
 use Rattle.sc_definitions.specs.Tables.{Basis, evaluation, projective, Order, prefix, suffix, IsOffered, sum_below, monomial, coefficient_value, value_in, rows_of, placed, bound_coefficients, bound_in, bound_by}
 use Rattle.sc_definitions.specs.Messages.{message_of}
 use Rattle.sc_definitions.specs.Channels.{Wire}
-use Rattle.sc_definitions.specs.Standings.{Setting, Standing, entries_of, half_rows, honest_in, message_in, IsRound, IsHonestRound}
+use Rattle.sc_definitions.specs.Standings.{Setting, Standing, entries_of, half_rows, honest_in, IsRound, IsHonestRound}
 use Rattle.sc_definitions.proofs.Sums.{sum-same, sum-split, sum-plus}
 use Rattle.sc_definitions.proofs.Identity.{atom, unit, ◌⊕◌, ◌⊗◌, Agree, identity}
 use Rattle.sc_definitions.proofs.TableLaws.{two_halves, value-bound, value-same}

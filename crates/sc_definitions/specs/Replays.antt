@@ -22,13 +22,6 @@ given_rounds [] ws = []
 given_rounds (m ∷ ms) [] = round_of m 0 ∷ given_rounds ms []
 given_rounds (m ∷ ms) (w ∷ ws) = round_of m w ∷ given_rounds ms ws
 
--- after h came a beginning of the events, and the history is now h'
-pub record IsBegun (h events h' : List Event) : Type 0 where
-  pub part : List Event
-  pub rest : List Event
-  pub grown : h' ≡ h ++ part
-  pub split : part ++ rest ≡ events
-
 -- The rounds were played from h₀ on, under the claim c₀: the history, the challenges and the claim that they leave.
 pub record Replays (next : ℕ → List ℕ → ℕ → ℕ) (R : Rules) (E : Extension) (bits : ℕ) (h₀ : List Event) (c₀ : ℕ)
     (rounds : List Round) (h : List Event) (out : List ℕ) (c : ℕ) : Type 0 where

@@ -3,7 +3,7 @@ use Rattle.std.specs.Prelude.{◌≡◌, ℕ, zero, suc, ◌+◌, ◌^◌, List,
 use Rattle.std.specs.List.{range_with_len}
 use Rattle.sc_definitions.specs.declared.events.Event.{Event}
 use Rattle.sc_definitions.specs.Ring.{Ops}
-use Rattle.sc_definitions.specs.Tables.{Basis, Order, rows_of, inner, value_in, placed, bound_in, bound_by}
+use Rattle.sc_definitions.specs.Tables.{Basis, Order, rows_of, value_in, placed, bound_in, bound_by}
 use Rattle.sc_definitions.specs.Messages.{message_of}
 use Rattle.sc_definitions.specs.Rounds.{honest_pair, next_claim, claim_along}
 use Rattle.sc_definitions.specs.Transcript.{Round, messages_of, rounds_events, challenges, IsBuilt}
@@ -29,10 +29,6 @@ pub record Standing : Type 0 where
 -- the entries of a table of m variables
 abbrev pub entries_of : ℕ → (ℕ → ℕ) → List ℕ
 entries_of m f = map f (range_with_len 0 (2 ^ m))
-
--- the claim is the sum over all rows of evaluation times weight
-abbrev pub IsTrueClaim : Ops → Standing → Type 0
-IsTrueClaim o t = t.claim ≡ inner o t.variables (rows_of t.evals) (rows_of t.weights)
 
 -- where its replay stands
 abbrev pub footing_of : Standing → Footing

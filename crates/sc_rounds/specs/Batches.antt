@@ -1,5 +1,5 @@
 -- A batch of rounds that a prover plays on a pair of tables.
-use Rattle.std.specs.Prelude.{◌≡◌, ◌⊎◌, ℕ, suc, ◌^◌, ◌<◌, List, ◌++◌, Option, Some, None}
+use Rattle.std.specs.Prelude.{◌≡◌, ℕ, suc, List, ◌++◌, Option, Some, None}
 use Rattle.sc_definitions.specs.declared.events.Event.{Event}
 use Rattle.sc_definitions.specs.Ring.{Ops, plus}
 use Rattle.sc_definitions.specs.Tables.{evaluation, Order}
@@ -22,13 +22,6 @@ pub record PlaysBatch (order : Order) (o : Ops) (R : Rules) (E : Extension) (bit
   pub appended : messages' ≡ messages ++ messages_of rounds
   pub found : witnesses' ≡ witnesses ++ witnesses_of bits rounds
 
--- A batch that stopped after some rounds: each of them was played whole, and nothing of another one is left.
-pub record StopsBatch (order : Order) (o : Ops) (R : Rules) (E : Extension) (bits n : ℕ) (f w : ℕ → ℕ) (claim : ℕ) (h : List Event)
-    (left : ℕ) (f' w' : ℕ → ℕ) (claim' : ℕ) (h' : List Event)
-    (messages : List (List ℕ)) (witnesses : List ℕ) (messages' : List (List ℕ)) (witnesses' : List ℕ) : Type 0 where
-  pub rs : List ℕ
-  pub batch : PlaysBatch order o R E bits n f w claim h rs left f' w' claim' h' messages witnesses messages' witnesses'
-
 -- A batch of which a round found no witness: the rounds before it were played whole, and the history ends with its values.
 pub record FailsBatch (order : Order) (o : Ops) (R : Rules) (E : Extension) (bits n : ℕ) (f w : ℕ → ℕ) (claim : ℕ) (h : List Event)
     (size m : ℕ) (f' w' : ℕ → ℕ) (claim' : ℕ) (h' : List Event)
@@ -47,16 +40,6 @@ weights_with o of number (Some c) w b = plus o (w b) (batched_weight o (constrai
 abbrev pub claim_with : {F EF : Type 0} → Ops → (F → ℕ) → (EF → ℕ) → Option (Constraint F EF) → ℕ → ℕ
 claim_with o of number None claim = claim
 claim_with o of number (Some c) claim = plus o claim (batched_claim o (constraint_challenge number c) (constraint_power c) (constraint_statements of number c))
-
--- A batch that was broken off before its first round: tables, claim, history and data are as before, but that the constraint can be taken in.
-pub record IsUnplayed (n : ℕ) (f w w₁ : ℕ → ℕ) (claim claim₁ : ℕ) (h : List Event) (messages : List (List ℕ)) (witnesses : List ℕ)
-    (n' : ℕ) (f' w' : ℕ → ℕ) (claim' : ℕ) (h' : List Event) (messages' : List (List ℕ)) (witnesses' : List ℕ) : Type 0 where
-  pub variables : n' ≡ n
-  pub evals : f' ≡ f
-  pub taken : (((b : ℕ) → b < 2 ^ n → w' b ≡ w b) × (claim' ≡ claim)) ⊎ (((b : ℕ) → b < 2 ^ n → w' b ≡ w₁ b) × (claim' ≡ claim₁))
-  pub history : h' ≡ h
-  pub appended : messages' ≡ messages
-  pub found : witnesses' ≡ witnesses
 
 -- A batch that was broken off before its first word: pair, sum, history and data are as before.
 pub record IsUnbegun {Pair Sum Data : Type 0} (pair pair' : Pair) (sum sum' : Sum) (h h' : List Event) (rounds rounds' : Data) : Type 0 where
