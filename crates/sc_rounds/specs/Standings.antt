@@ -13,7 +13,7 @@ use Rattle.sc_transcript.specs.declared.error.SumcheckError.{SumcheckError}
 use Rattle.sc_transcript.specs.declared.error.SumcheckError.TheVariants.{NoWitness, NoMemory}
 use Rattle.sc_transcript.specs.declared.transcript.ProverTranscript.{ProverTranscript}
 use Rattle.sc_transcript.specs.declared.data.SumcheckData.{SumcheckData}
-use Rattle.sc_transcript.specs.Drivers.{Driver, driver_in, channel_of, TakesRoom}
+use Rattle.sc_transcript.specs.Drivers.{Driver, driver_in, channel_of, HasRoundLeft, IsDone, TakesRoom}
 use Rattle.sc_transcript.specs.Data.{wire_in}
 use Rattle.sc_rounds.specs.declared.product_polynomial.ProductPolynomial.{ProductPolynomial}
 use Rattle.sc_rounds.specs.Products.{variables_in, order_in}
@@ -53,6 +53,11 @@ abbrev pub IsStopped : Setting → Standing → Standing → ℕ → SumcheckErr
 IsStopped s before after i NoMemory = IsPlayedInPart s before after
 IsStopped s before after i (NoWitness j) = (j ≡ i) × IsPlayedWithoutWitness s before after
 IsStopped s before after i e = ⊥
+
+-- what the rounds that a driver has left leave, by their result: all are played, with these challenges, or they stop
+abbrev pub PlaysAll : {X : Type 0} → Setting → Standing → Standing → List ℕ → Driver → Result X SumcheckError → Type 0
+PlaysAll s before after rs d (Ok x) = IsDone d × IsPlayed s before after rs
+PlaysAll s before after rs d (Err e) = HasRoundLeft d × IsStopped s before after d.played e
 
 -- why a batch of so many rounds stops, and what that leaves: a batch that got no memory may not have begun, and the round without a witness is as far
 -- as the variables that are left tell

@@ -29,11 +29,10 @@ pub struct ProductPolynomial<F, EF> {
 
 impl<F: Field, EF: ExtensionField<F>> ProductPolynomial<F, EF> {
     ghost use Rattle.sc_definitions.specs.Channels.{channel};
-    ghost use Rattle.sc_definitions.specs.Standings.{IsPlayed};
     ghost use Rattle.sc_transcript.specs.Data.{wire_in, spare_in};
-    ghost use Rattle.sc_transcript.specs.Drivers.{driver_in, Continues, HasRoundLeft, IsDone, HasRoom};
+    ghost use Rattle.sc_transcript.specs.Drivers.{driver_in, Continues, HasRoundLeft, HasRoom};
     ghost use Rattle.sc_rounds.specs.Products.{variables_in, order_in, evals_in, weights_in, sum_in};
-    ghost use Rattle.sc_rounds.specs.Standings.{setting_in, standing_in, setting_on, standing_on, Moves, MovesHonestly, Counts, TakesItsRoom, IsStopped, MovesBatch};
+    ghost use Rattle.sc_rounds.specs.Standings.{setting_in, standing_in, setting_on, standing_on, Moves, MovesHonestly, Counts, TakesItsRoom, PlaysAll, MovesBatch};
     ghost use Rattle.sc_rounds.specs.Batches.{IsUnbegun};
 
     /// The pair of these tables, which have as many variables.
@@ -252,14 +251,10 @@ impl<F: Field, EF: ExtensionField<F>> ProductPolynomial<F, EF> {
         ensures order { order_in self.new ≡ order_in self.old }
         ensures sum { EF.number sum.new ≡ sum_in EF.ops EF.number self.new }
         ensures left { variables_in self.new + (driver_in transcript.new).played ≡ variables_in self.old }
-        ensures all { OnOk result (IsDone (driver_in transcript.new)) }
-        ensures played { OnOk result (IsPlayed (setting_on EG.extension EG.ops self.old transcript.old)
+        ensures rounds { PlaysAll (setting_on EG.extension EG.ops self.old transcript.old)
             (standing_on (λ x. EF.to_number (EF.number x)) EG.number self.old sum.old transcript.old sumcheck_data.old)
-            (standing_on (λ x. EF.to_number (EF.number x)) EG.number self.new sum.new transcript.new sumcheck_data.new) (map EG.number challenges.new.items)) }
-        ensures begun { OnErr result (HasRoundLeft (driver_in transcript.new)) }
-        ensures stopped { IfErr result (IsStopped (setting_on EG.extension EG.ops self.old transcript.old)
-            (standing_on (λ x. EF.to_number (EF.number x)) EG.number self.old sum.old transcript.old sumcheck_data.old)
-            (standing_on (λ x. EF.to_number (EF.number x)) EG.number self.new sum.new transcript.new sumcheck_data.new) (driver_in transcript.new).played) }
+            (standing_on (λ x. EF.to_number (EF.number x)) EG.number self.new sum.new transcript.new sumcheck_data.new)
+            (map EG.number challenges.new.items) (driver_in transcript.new) result }
     {
         for _round in 0..transcript.shape().num_rounds {
             match self.round_in::<G, EG, C>(sumcheck_data, transcript, sum) {

@@ -5,6 +5,27 @@ use Rattle.sc_streams.specs.Faults.{HasRisen}
 use Rattle.sumcheck_run.specs.Reply.{Reply, code_of}
 use Rattle.sumcheck_run.specs.Program.{max_input}
 
+-- ---- the statuses of a run
+
+-- a whole reply: one of an outcome
+abbrev pub IsOfReply : ℕ → Type 0
+IsOfReply code = code ≤ 5
+
+-- the words are no command: that of the outcome `Usage`
+abbrev pub told_usage : ℕ
+told_usage = 2
+
+abbrev pub reading_failed : ℕ
+reading_failed = 6
+
+abbrev pub writing_failed : ℕ
+writing_failed = 7
+
+abbrev pub out_of_memory : ℕ
+out_of_memory = 8
+
+-- ---- what a run leaves
+
 -- The input was read, to its end or to one byte past the limit. A command that reads nothing has the empty input.
 pub record IsRead (reads : Bool) (left left' : Option (List ℕ)) (input : List ℕ) : Type 0 where
   pub taken : Consumes left left' input
@@ -29,11 +50,11 @@ pub record IsCutShort (reads : Bool) (reply : List ℕ → Reply) (left left' wr
 
 -- This reply's status and whole text, or want of memory.
 abbrev pub WritesReply : Reply → Option (List ℕ) → Option (List ℕ) → ℕ → Type 0
-WritesReply reply written written' code = (code ≡ 8) ⊎ ((code ≡ code_of reply.outcome) × Appends written written' reply.text)
+WritesReply reply written written' code = (code ≡ out_of_memory) ⊎ ((code ≡ code_of reply.outcome) × Appends written written' reply.text)
 
--- The reply's status and whole text, without a fault; or status 7, a proper prefix and a fault; or status 8, and the sink as it was.
+-- The reply's status and whole text, without a fault; or a failed write, a proper prefix and a fault; or want of memory, and the sink as it was.
 abbrev pub Responds : {K : Type 0} → (K → Option (List ℕ)) → (K → ℕ) → Reply → K → K → ℕ → Type 0
 Responds taken faults reply sink sink' code =
     ((code ≡ code_of reply.outcome) × Appends (taken sink) (taken sink') reply.text × (faults sink' ≡ faults sink))
-    ⊎ ((code ≡ 7) × ((count : ℕ) × (count < length reply.text) × Appends (taken sink) (taken sink') (take count reply.text)) × HasRisen (faults sink) (faults sink'))
-    ⊎ ((code ≡ 8) × (sink' ≡ sink))
+    ⊎ ((code ≡ writing_failed) × ((count : ℕ) × (count < length reply.text) × Appends (taken sink) (taken sink') (take count reply.text)) × HasRisen (faults sink) (faults sink'))
+    ⊎ ((code ≡ out_of_memory) × (sink' ≡ sink))

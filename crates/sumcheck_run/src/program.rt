@@ -4,7 +4,7 @@ ghost use Rattle.sc_streams.specs.Faults.{HasRisen};
 ghost use Rattle.sumcheck_run.specs.Program.{audit_reply, bad_json, command_of, json_reply, max_input, reads_input, reply_of, too_long};
 ghost use Rattle.sumcheck_run.specs.Reply.{refused};
 ghost use Rattle.sumcheck_jobs.specs.Members.{misfit_text};
-ghost use Rattle.sumcheck_run.specs.Run.{IsAnswered, IsCutShort, IsRead, Responds, WritesReply};
+ghost use Rattle.sumcheck_run.specs.Run.{IsAnswered, IsCutShort, IsRead, Responds, WritesReply, IsOfReply, told_usage, reading_failed, writing_failed, out_of_memory};
 
 use crate::command::{Command, needs_input, read_command};
 use crate::lines;
@@ -112,28 +112,29 @@ pub fn run<S: Source, K: Sink>(
     source: &mut S,
     sink: &mut K,
 ) -> Status
-    // Statuses 0 to 5: the status and the whole text of the reply to the input.
-    ensures answered { result.code ≤ 5 → let command = command_of (map string_bytes words.now) in
+    // Statuses 0 to 5, of the outcomes: the status and the whole text of the reply to the input.
+    ensures answered { IsOfReply result.code → let command = command_of (map string_bytes words.now) in
         IsAnswered (reads_input command) (reply_of command) (S.left source.old) (S.left source.new)
         (K.taken sink.old) (K.taken sink.new) result.code }
 
-    // Status 7: a proper prefix of it.
-    ensures cut_short { result.code ≡ 7 → let command = command_of (map string_bytes words.now) in
+    // Status 7, a write failed: a proper prefix of it.
+    ensures cut_short { result.code ≡ writing_failed → let command = command_of (map string_bytes words.now) in
         IsCutShort (reads_input command) (reply_of command) (S.left source.old) (S.left source.new)
         (K.taken sink.old) (K.taken sink.new) }
 
-    // Statuses 6 and 8: nothing is written.
-    ensures silent { (result.code ≡ 6) ⊎ (result.code ≡ 8) → sink.new ≡ sink.old }
-    ensures no_other { result.code ≤ 8 }
+    // Statuses 6, a read failed, and 8, want of memory: nothing is written. There is no other status.
+    ensures silent { (result.code ≡ reading_failed) ⊎ (result.code ≡ out_of_memory)
+        → sink.new ≡ sink.old }
+    ensures no_other { result.code ≤ out_of_memory }
 
     // A command that reads nothing leaves the source as it was.
     ensures untouched { reads_input (command_of (map string_bytes words.now)) ≡ false
         → source.new ≡ source.old }
 
     // Usage exactly where the words are no command, write faults and want of memory aside.
-    ensures usage { result.code ≡ 2 → command_of (map string_bytes words.now) ≡ None }
+    ensures usage { result.code ≡ told_usage → command_of (map string_bytes words.now) ≡ None }
     ensures no_command { command_of (map string_bytes words.now) ≡ None
-        → (result.code ≡ 2) ⊎ (result.code ≡ 7) ⊎ (result.code ≡ 8) }
+        → (result.code ≡ told_usage) ⊎ (result.code ≡ writing_failed) ⊎ (result.code ≡ out_of_memory) }
 
     // Where the source tells its bytes and neither has a fault: the reply to all of them, memory aside.
     ensures headline { (input : List ℕ) → S.left source.old ≡ Some input
@@ -147,10 +148,12 @@ pub fn run<S: Source, K: Sink>(
     ensures dry { S.dry source.new ≤ S.dry source.old + 1 }
 
     // A fault is told only where the count rose, and a count that rose is told.
-    ensures read_fault { result.code ≡ 6 → HasRisen (S.faults source.old) (S.faults source.new) }
-    ensures write_fault { result.code ≡ 7 → HasRisen (K.faults sink.old) (K.faults sink.new) }
-    ensures read_told { S.faults source.old < S.faults source.new → result.code ≡ 6 }
-    ensures write_told { K.faults sink.old < K.faults sink.new → result.code ≡ 7 }
+    ensures read_fault { result.code ≡ reading_failed
+        → HasRisen (S.faults source.old) (S.faults source.new) }
+    ensures write_fault { result.code ≡ writing_failed
+        → HasRisen (K.faults sink.old) (K.faults sink.new) }
+    ensures read_told { S.faults source.old < S.faults source.new → result.code ≡ reading_failed }
+    ensures write_told { K.faults sink.old < K.faults sink.new → result.code ≡ writing_failed }
 
     // It stops at the first fault: no call finds a count above the one that it began with.
     ensures no_late_read { S.late source.new (S.faults source.old)

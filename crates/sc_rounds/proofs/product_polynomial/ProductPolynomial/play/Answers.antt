@@ -74,10 +74,7 @@ returns g c =
       order = inv.order;
       sum = inv.true_sum;
       left = sum_at _ _ _ _ inv.played inv.left;
-      all = all_played _ _ _ _ inv.played (ap (λ (s : SumcheckShape). s.num_rounds) (inv.continues.shape ∙ sym c.shape-round-end.ensures)) c.loop-round-test.false c.loop-round.auto._round-end;
-      played = inv.batch;
-      begun = tt;
-      stopped = tt;
+      rounds = (all_played _ _ _ _ inv.played (ap (λ (s : SumcheckShape). s.num_rounds) (inv.continues.shape ∙ sym c.shape-round-end.ensures)) c.loop-round-test.false c.loop-round.auto._round-end, inv.batch);
     }
 
 -- a refused round leaves what the invariant says
@@ -94,10 +91,10 @@ returns-in-Err g c =
       order = round.order ∙ inv.order;
       sum = round.sum;
       left = sum_at _ _ _ _ (round.counts ∙ inv.played) (ap (λ p. variables_in p + c.loop-round._round) round.kept.0 ∙ inv.left);
-      all = tt;
-      played = tt;
-      begun = less_at _ _ _ _ (round.counts ∙ inv.played) c.loop-round-test.true (ap (λ (s : SumcheckShape). s.num_rounds) (c.shape-round-end.ensures ∙ sym inv.continues.shape ∙ sym round.continues.shape));
-      stopped = stops _ _ _ _ _ _ _ _ c.in-Err.error
-          (same_setting _ _ _ _ _ (same_channel _ _ _ g.G.Field.ops.size _ _ inv.continues.rules (ap (λ (s : SumcheckShape). s.pow_bits) inv.continues.shape)) inv.order)
-          (sym round.counts) inv.batch round.round;
+      rounds = (
+        less_at _ _ _ _ (round.counts ∙ inv.played) c.loop-round-test.true (ap (λ (s : SumcheckShape). s.num_rounds) (c.shape-round-end.ensures ∙ sym inv.continues.shape ∙ sym round.continues.shape)),
+        stops _ _ _ _ _ _ _ _ c.in-Err.error
+            (same_setting _ _ _ _ _ (same_channel _ _ _ g.G.Field.ops.size _ _ inv.continues.rules (ap (λ (s : SumcheckShape). s.pow_bits) inv.continues.shape)) inv.order)
+            (sym round.counts) inv.batch round.round,
+      );
     }

@@ -18,7 +18,7 @@ returns-in-Ok-clause-batch g c =
     (same_setting _ _ _ _ _ (same_channel _ _ _ g.G.Field.ops.size _ _ (ap R begun.lent.same ∙ c.in_ok-seed.ensures.rules) (ap (λ s. s.pow_bits) begun.fresh.shape)) refl)
     (ap (λ h. standing_in T c.args.self.now c.args.sum.now h (W c.args.sumcheck_data.now)) (ap H begun.lent.same ∙ c.in_ok-seed.ensures.ok))
     (ap (λ h. standing_in T c.play.new.self c.play.new.sum h (W c.play.new.sumcheck_data)) (sym (ap H (returned _ _ _ _ _ _ (search rules) c.in-Ok.ensures.continues.lender begun.lent.lender c.finish.ensures))))
-    (ap (map g.EG.Field.number) (sym c.new.ensures)) c.in-Ok.ensures.played
+    (ap (map g.EG.Field.number) (sym c.new.ensures)) c.in-Ok.ensures.rounds.1
 
 pub returns-in-Err-clause-batch : goal.returns-in-Err-clause-batch
 returns-in-Err-clause-batch g c =
@@ -31,12 +31,12 @@ returns-in-Err-clause-batch g c =
     (same_setting _ _ _ _ _ (same_channel _ _ _ g.G.Field.ops.size _ _ (ap R begun.lent.same ∙ c.in_ok-seed.ensures.rules) (ap (λ s. s.pow_bits) begun.fresh.shape)) refl)
     (ap (λ h. standing_in T c.args.self.now c.args.sum.now h (W c.args.sumcheck_data.now)) (ap H begun.lent.same ∙ c.in_ok-seed.ensures.ok))
     (ap (λ h. standing_in T c.play.new.self c.play.new.sum h (W c.play.new.sumcheck_data)) (sym (ap H (returned _ _ _ _ _ _ (search rules) c.in-Err.ensures.continues.lender begun.lent.lender c.abort.ensures))))
-    c.in-Err.ensures.left c.in-Err.ensures.begun (ap (λ (s : SumcheckShape). s.num_rounds) (c.in-Err.ensures.continues.shape ∙ begun.fresh.shape)) c.in-Err.ensures.stopped
+    c.in-Err.ensures.left c.in-Err.ensures.rounds.0 (ap (λ (s : SumcheckShape). s.num_rounds) (c.in-Err.ensures.continues.shape ∙ begun.fresh.shape)) c.in-Err.ensures.rounds.1
 
 -- all rounds are played, and each leaves a variable less
 pub returns-in-Ok-clause-fewer : goal.returns-in-Ok-clause-fewer
 returns-in-Ok-clause-fewer g c =
-    sum_at _ _ _ _ (sym (c.in-Ok.ensures.all ∙ ap (λ (s : SumcheckShape). s.num_rounds) (c.in-Ok.ensures.continues.shape ∙ c.over-transcript.ensures.fresh.shape))) c.in-Ok.ensures.left
+    sum_at _ _ _ _ (sym (c.in-Ok.ensures.rounds.0 ∙ ap (λ (s : SumcheckShape). s.num_rounds) (c.in-Ok.ensures.continues.shape ∙ c.over-transcript.ensures.fresh.shape))) c.in-Ok.ensures.left
 
 pub returns-in-Ok-clause-left : goal.returns-in-Ok-clause-left
 returns-in-Ok-clause-left g c = as_many _ _ (returns-in-Ok-clause-fewer g c)
@@ -44,7 +44,7 @@ returns-in-Ok-clause-left g c = as_many _ _ (returns-in-Ok-clause-fewer g c)
 -- not all rounds are played
 pub returns-in-Err-clause-left : goal.returns-in-Err-clause-left
 returns-in-Err-clause-left g c =
-    bound_at_most _ _ _ _ _ c.in-Err.ensures.left c.in-Err.ensures.begun (ap (λ (s : SumcheckShape). s.num_rounds) (c.in-Err.ensures.continues.shape ∙ c.over-transcript.ensures.fresh.shape))
+    bound_at_most _ _ _ _ _ c.in-Err.ensures.left c.in-Err.ensures.rounds.0 (ap (λ (s : SumcheckShape). s.num_rounds) (c.in-Err.ensures.continues.shape ∙ c.over-transcript.ensures.fresh.shape))
 
 -- the transcript keeps the challenger's rules
 pub returns-in-Ok-clause-rules : goal.returns-in-Ok-clause-rules
