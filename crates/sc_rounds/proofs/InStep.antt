@@ -106,7 +106,7 @@ err_as P (Err x) e is p = subst P (sym is) p
 
 -- the prover's refusal: the verifier has not begun
 pub not_begun : (b : Batch) (u : Standing) (h : List Event) (e : SumcheckError) → BreaksOff b u e → IsOutOfStep b u h h e
-not_begun b u h NoMemory why = (why, inl refl)
+not_begun b u h NoMemory why = inl (why, refl)
 not_begun b u h e why = (why, refl)
 
 -- ---- both sides

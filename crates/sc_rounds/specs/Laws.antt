@@ -1,5 +1,5 @@
 -- Laws of batches and their replays, in every setting: what a batch has put on an empty wire is replayed.
-use Rattle.std.specs.Prelude.{◌≡◌, ◌⊎◌, ℕ, List}
+use Rattle.std.specs.Prelude.{◌≡◌, ◌⊎◌, ℕ, ◌+◌, List}
 use Rattle.sc_definitions.specs.declared.events.Event.{Event}
 use Rattle.sc_definitions.specs.Rounds.{next_claim}
 use Rattle.sc_definitions.specs.Transcript.{Round}
@@ -46,8 +46,15 @@ pub record ReplaysInPart (s : Setting) (start : Standing) (w : Wire) (h : List E
   pub claim : ℕ
   pub part : IsReplayedInPart (next_claim s.basis s.ops) s.channel (footing_of start) (footing h claim) (rounds_on w)
 
--- Why they are not, and what that leaves: the prover stopped, or after the want of memory may have played all; the verifier's history h is as it was, but
--- that after the want of memory some of the rounds may be replayed.
+-- A batch was played whole, and its replay wanted memory: the verifier's history h is as it was, or some of the rounds were replayed.
+pub record IsReplayBroken (b : Batch) (after : Standing) (h h' : List Event) : Type 0 where
+  pub rs : List ℕ
+  pub played : IsPlayed b.setting b.start after rs
+  pub whole : after.variables + b.rounds ≡ b.start.variables
+  pub left : (h' ≡ h) ⊎ ReplaysInPart b.setting b.start after.wire h'
+
+-- Why they are not, and what that leaves: the prover stopped, and the verifier's history h is as it was; or, for want of memory, the replay of the whole
+-- batch was broken off.
 abbrev pub IsOutOfStep : Batch → Standing → List Event → List Event → SumcheckError → Type 0
-IsOutOfStep b after h h' NoMemory = BreaksOff b after NoMemory × ((h' ≡ h) ⊎ ReplaysInPart b.setting b.start after.wire h')
+IsOutOfStep b after h h' NoMemory = (BreaksOff b after NoMemory × (h' ≡ h)) ⊎ IsReplayBroken b after h h'
 IsOutOfStep b after h h' e = BreaksOff b after e × (h' ≡ h)

@@ -55,7 +55,7 @@ returns-in_err-replayed g c =
     let none = c.from_residual-in_err-replayed.ensures.0 in
     record {
       step = IfOk-from_err _ _ none;
-      broken = err_as _ _ NoMemory (rw told.0 at c.from_residual-in_err-replayed.ensures.1) (inr (record { rs = _; played = played }), told.1);
+      broken = err_as _ _ NoMemory (rw told.0 at c.from_residual-in_err-replayed.ensures.1) (inr (record { rs = _; played = played; whole = c.in_ok-drawn.ensures.fewer; left = told.1 }));
       prover_rules = c.in_ok-drawn.ensures.rules;
       verifier_rules = c.in_err-replayed.ensures.rules;
       order = c.in_ok-drawn.ensures.order;
