@@ -7,7 +7,8 @@ use Rattle.sc_definitions.specs.declared.events.Event.{Event}
 use Rattle.sc_definitions.specs.Rounds.{claim_along}
 use Rattle.sc_definitions.specs.Events.{Rules, Extension, words}
 use Rattle.sc_definitions.specs.Transcript.{Round, round_of, messages_of, sent, round_events, rounds_events, challenge, challenges}
-use Rattle.sc_definitions.specs.Replays.{round_passes, AllPass, given_rounds, Replays}
+use Rattle.sc_definitions.specs.Replays.{round_passes, AllPass, given_rounds}
+use Rattle.sc_definitions.specs.Channels.{Channel, Footing, IsTaken, IsReplayed}
 use Rattle.sc_definitions.proofs.BuiltLaws.{challenges-append, length-challenges, length-messages, claim_along-append}
 
 pub AllPass-append : (R : Rules) (E : Extension) (bits : ℕ) (h : List Event) (rs : List Round) (r : Round) →
@@ -41,22 +42,25 @@ AllPass_take R E bits h rs i d lt a p = rw (take_more rs i d lt) (AllPass-append
 -- ---- a replay
 
 -- no round yet
-pub Replays-none : (next : ℕ → List ℕ → ℕ → ℕ) (R : Rules) (E : Extension) (bits : ℕ) (h₀ : List Event) (c₀ : ℕ) → Replays next R E bits h₀ c₀ [] h₀ [] c₀
+pub replayed-none : (next : ℕ → List ℕ → ℕ → ℕ) (c : Channel) (before : Footing) → IsReplayed next c before before [] []
 unfolding claim_along
-Replays-none next R E bits h₀ c₀ = record { history = sym (append-nil h₀); drawn = refl; claim = refl; passes = tt }
+replayed-none next c before = record { history = sym (append-nil before.history); drawn = refl; claim = refl; passes = tt }
 
 -- one round more
-pub Replays-more : (next : ℕ → List ℕ → ℕ → ℕ) (R R₁ : Rules) (E : Extension) (bits bits₁ : ℕ) (h₀ : List Event) (c₀ : ℕ) (rs : List Round) (i : ℕ) (r : Round) (h h₁ : List Event) (out out₁ : List ℕ) (c c₁ x : ℕ) →
-    i < length rs → get_or rs i r ≡ r → R₁ ≡ R → bits₁ ≡ bits → Replays next R E bits h₀ c₀ (take i rs) h out c →
-    h₁ ≡ h ++ round_events E bits₁ r → x ≡ challenge R₁ E bits₁ h r → c₁ ≡ next c r.values x → round_passes R₁ E bits₁ h r ≡ true → out₁ ≡ out ++ x ∷ [] →
-    Replays next R E bits h₀ c₀ (take (i + 1) rs) h₁ out₁ c₁
-Replays-more next R R₁ E bits bits₁ h₀ c₀ rs i r h h₁ out out₁ c c₁ x lt is er eb p eh ex ec pass eo =
-    let hx : x ≡ challenge R E bits (h₀ ++ rounds_events E bits (take i rs)) r = ex ∙ rw (er, eb, p.history) in
+pub replayed-more : (next : ℕ → List ℕ → ℕ → ℕ) (c : Channel) (before at after : Footing) (rounds : List Round) (i : ℕ) (r : Round) (rs : List ℕ) (x : ℕ) →
+    i < length rounds → get_or rounds i r ≡ r → IsReplayed next c before at (take i rounds) rs →
+    IsTaken c at.history r x after.history → after.claim ≡ next at.claim r.values x → IsReplayed next c before after (take (i + 1) rounds) (rs ++ x ∷ [])
+replayed-more next c before at after rounds i r rs x lt is p q claimed =
+    let R = c.rules in
+    let E = c.extension in
+    let bits = c.bits in
+    let h = before.history in
+    let hx : x ≡ challenge R E bits (h ++ rounds_events E bits (take i rounds)) r = q.drawn ∙ ap (λ t. challenge R E bits t r) p.history in
     record {
-      history = eh ∙ rw (eb, p.history) (append_assoc h₀ (rounds_events E bits (take i rs)) (round_events E bits r) ∙ sym (rw (rounds_events_take E bits rs i r lt, is)));
-      drawn = eo ∙ rw (p.drawn, hx) (sym (rw (challenges_take R E bits h₀ rs i r lt, is)));
-      claim = ec ∙ rw (p.claim, hx) (sym (rw (claim_take next R E bits h₀ c₀ rs i r lt, is)));
-      passes = AllPass_take R E bits h₀ rs i r lt p.passes (rw (is, ← p.history, ← er, ← eb) pass);
+      history = q.history ∙ rw p.history (append_assoc h (rounds_events E bits (take i rounds)) (round_events E bits r) ∙ sym (rw (rounds_events_take E bits rounds i r lt, is)));
+      drawn = rw (p.drawn, hx) (sym (rw (challenges_take R E bits h rounds i r lt, is)));
+      claim = claimed ∙ rw (p.claim, hx) (sym (rw (claim_take next R E bits h before.claim rounds i r lt, is)));
+      passes = AllPass_take R E bits h rounds i r lt p.passes (rw (is, ← p.history) q.passes);
     }
 
 pub take_whole : (rs : List Round) (i : ℕ) → i ≡ length rs → take i rs ≡ rs

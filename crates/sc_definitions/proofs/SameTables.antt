@@ -1,5 +1,5 @@
 -- Rounds on tables that agree at each row.
-use Rattle.std.proofs.Common.{◌≡◌, ℕ, zero, suc, ◌+◌, ◌*◌, ◌^◌, ◌<◌, List, [], ◌∷◌, ◌++◌, length, ap, sym, ◌∙◌, arith, length-append}
+use Rattle.std.proofs.Common.{◌≡◌, ℕ, zero, suc, ◌+◌, ◌*◌, ◌^◌, ◌<◌, List, [], ◌∷◌, ◌++◌, length, sym, ◌∙◌, arith, length-append}
 use Rattle.std.proofs.Math.Nat.{pow-suc}
 use Rattle.sc_definitions.specs.declared.events.Event.{Event}
 use Rattle.sc_definitions.specs.Ring.{Ops, IsRing}
@@ -7,11 +7,9 @@ use Rattle.sc_definitions.specs.Tables.{evaluation, Order, bound_in, bound_by, i
 use Rattle.sc_definitions.specs.Rounds.{honest_pair}
 use Rattle.sc_definitions.specs.Events.{Rules, Extension}
 use Rattle.sc_definitions.specs.Transcript.{Round, round_events, challenge, IsBuilt}
-use Rattle.sc_definitions.specs.Played.{IsPlayed}
 use Rattle.sc_definitions.proofs.Sums.{sum-same}
 use Rattle.sc_definitions.proofs.PlayedLaws.{message-same, bound_in-same}
 use Rattle.sc_definitions.proofs.RoundLaws.{honest_pair-message}
-use Rattle.sc_definitions.proofs.BuiltLaws.{length-challenges}
 
 -- the tables agree at each row of n variables
 abbrev pub Agree : ℕ → (ℕ → ℕ) → (ℕ → ℕ) → Type 0
@@ -52,19 +50,3 @@ module _ (order : Order) (o : Ops) where
       b.1,
       built-same R E bits (h ++ round_events E bits r) (rs ++ challenge R E bits h r ∷ []) k rounds (omega (arith, whole, length-append rs (challenge R E bits h r ∷ []))) b.2,
     )
-
-    pub played-same : (R : Rules) (E : Extension) (bits : ℕ) (claim : ℕ) (h : List Event) (rounds : List Round) (rs : List ℕ) (left : ℕ) (f' w' : ℕ → ℕ) (claim' : ℕ) (h' : List Event) →
-        IsPlayed evaluation order o R E bits n f w claim h rounds rs left f' w' claim' h' → IsPlayed evaluation order o R E bits n g v claim h rounds rs left f' w' claim' h'
-    played-same R E bits claim h rounds rs left f' w' claim' h' p =
-        let whole : length rs + left ≡ n = omega (arith, p.count, ap length p.drawn, length-challenges R E bits h rounds) in
-        let f_at : Agree (length rs + left) f g = rw whole evals in
-        let w_at : Agree (length rs + left) w v = rw whole weights in
-        record {
-          built = built-same R E bits h [] n rounds (omega arith) p.built;
-          count = p.count;
-          drawn = p.drawn;
-          history = p.history;
-          evals = λ b low. p.evals b low ∙ bound_by-same rs left f g f_at b low;
-          weights = λ b low. p.weights b low ∙ bound_by-same rs left w v w_at b low;
-          along = p.along;
-        }

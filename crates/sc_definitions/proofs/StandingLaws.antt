@@ -1,16 +1,19 @@
 -- Rounds that move a standing, one after the other.
-use Rattle.std.proofs.Common.{◌≡◌, ℕ, zero, suc, ◌^◌, ◌<◌, List, [], ◌∷◌, ◌++◌, length, refl, ap, sym, ◌∙◌, subst, append_assoc, zero-add}
+use Rattle.std.proofs.Common.{◌≡◌, ℕ, zero, suc, ◌+◌, ◌^◌, ◌<◌, List, [], ◌∷◌, ◌++◌, length, refl, ap, sym, ◌∙◌, subst, arith, append_assoc, length-append, zero-add}
+use Rattle.std.proofs.Math.Nat.{pow-suc}
 use Rattle.std.proofs.lemmas.List.{append-nil, map-append}
 use Rattle.std.proofs.lemmas.List.FromFn.{length-map-range_with_len, get_or-map-range_with_len}
-use Rattle.std.proofs.lemmas.Grind.{same_number_lists}
+use Rattle.std.proofs.lemmas.Grind.{same_number_lists, flat_map-append}
 use Rattle.sc_definitions.specs.Ring.{IsRing}
-use Rattle.sc_definitions.specs.Tables.{IsOffered, rows_of}
-use Rattle.sc_definitions.specs.Transcript.{Round, messages_of}
-use Rattle.sc_definitions.specs.Played.{IsRound as IsRoundOn, IsPlayed as IsPlayedOn}
+use Rattle.sc_definitions.specs.Tables.{IsOffered, rows_of, bound_in, bound_by}
+use Rattle.sc_definitions.specs.Rounds.{next_claim, claim_along}
+use Rattle.sc_definitions.specs.Transcript.{Round, messages_of, round_events, rounds_events, challenge, challenges, HasFirstWitness}
 use Rattle.sc_definitions.specs.Channels.{Wire, with_rounds, witnesses_of}
-use Rattle.sc_definitions.specs.Standings.{Setting, Standing, entries_of, message_in, IsRound, IsPlayed}
-use Rattle.sc_definitions.proofs.BuiltLaws.{messages-append}
-use Rattle.sc_definitions.proofs.PlayedLaws.{IsPlayed-none, IsPlayed-more}
+use Rattle.sc_definitions.specs.Standings.{Setting, Standing, entries_of, message_in, honest_in, IsRound, IsPlayed}
+use Rattle.sc_definitions.proofs.PlacedLaws.{bound_by-append}
+use Rattle.sc_definitions.proofs.RoundLaws.{honest_pair-message}
+use Rattle.sc_definitions.proofs.BuiltLaws.{messages-append, length-messages, challenges-append, length-challenges, claim_along-append, IsBuilt-append}
+use Rattle.sc_definitions.proofs.PlayedLaws.{message-same, bound_in-same}
 
 -- ---- the entries of tables
 
@@ -56,51 +59,6 @@ pub record IsSized (t : Standing) : Type 0 where
   pub evals : length t.evals ≡ 2 ^ t.variables
   pub weights : length t.weights ≡ 2 ^ t.variables
 
--- a round, by its tables as functions
-pub round_on : (s : Setting) (t u : Standing) (r : ℕ) → (p : IsRound s t u r) →
-    IsRoundOn s.basis s.order s.ops s.channel.rules s.channel.extension s.channel.bits u.variables (rows_of t.evals) (rows_of t.weights) t.claim t.history
-    p.round r (rows_of u.evals) (rows_of u.weights) u.claim u.history
-round_on s t u r p = record {
-  message = p.message ∙ ap (λ n. message_in s (record t { variables = n })) p.fewer;
-  witness = p.sent.witness;
-  drawn = p.sent.drawn;
-  history = p.sent.history;
-  evals = λ b low. ap (λ xs. rows_of xs b) p.evals ∙ rows-entries_of u.variables _ b low;
-  weights = λ b low. ap (λ xs. rows_of xs b) p.weights ∙ rows-entries_of u.variables _ b low;
-  next = p.claim;
-}
-
--- a batch, by its tables as functions
-pub played_on : (s : Setting) (t u : Standing) (rs : List ℕ) → (p : IsPlayed s t u rs) →
-    IsPlayedOn s.basis s.order s.ops s.channel.rules s.channel.extension s.channel.bits t.variables (rows_of t.evals) (rows_of t.weights) t.claim t.history
-    p.rounds rs u.variables (rows_of u.evals) (rows_of u.weights) u.claim u.history
-played_on s t u rs p = record {
-  built = p.built;
-  count = p.count;
-  drawn = p.drawn;
-  history = p.history;
-  evals = λ b low. ap (λ xs. rows_of xs b) p.evals ∙ rows-entries_of u.variables _ b low;
-  weights = λ b low. ap (λ xs. rows_of xs b) p.weights ∙ rows-entries_of u.variables _ b low;
-  along = p.claim;
-}
-
--- and back
-pub played_of : (s : Setting) (t u : Standing) (rs : List ℕ) (rounds : List Round) → IsSized u → u.wire ≡ with_rounds s.channel.bits t.wire rounds →
-    IsPlayedOn s.basis s.order s.ops s.channel.rules s.channel.extension s.channel.bits t.variables (rows_of t.evals) (rows_of t.weights) t.claim t.history
-    rounds rs u.variables (rows_of u.evals) (rows_of u.weights) u.claim u.history →
-    IsPlayed s t u rs
-played_of s t u rs rounds sized wire p = record {
-  rounds = rounds;
-  built = p.built;
-  count = p.count;
-  drawn = p.drawn;
-  history = p.history;
-  wire = wire;
-  evals = entries-is u.variables u.evals _ sized.evals p.evals;
-  weights = entries-is u.variables u.weights _ sized.weights p.weights;
-  claim = p.along;
-}
-
 -- what a round leaves has as many entries as rows
 pub sized_after : (s : Setting) (t u : Standing) (r : ℕ) → IsRound s t u r → IsSized u
 sized_after s t u r p = record {
@@ -108,19 +66,81 @@ sized_after s t u r p = record {
   weights = ap length p.weights ∙ length-entries_of u.variables _;
 }
 
+-- the tables after a batch, row by row
+module _ (s : Setting) (t u : Standing) (rs : List ℕ) (p : IsPlayed s t u rs) where
+  pub evals_at : (b : ℕ) → b < 2 ^ u.variables → rows_of u.evals b ≡ bound_by s.basis s.order s.ops rs u.variables (rows_of t.evals) b
+  evals_at b low = ap (λ xs. rows_of xs b) p.evals ∙ rows-entries_of u.variables _ b low
+
+  pub weights_at : (b : ℕ) → b < 2 ^ u.variables → rows_of u.weights b ≡ bound_by s.basis s.order s.ops rs u.variables (rows_of t.weights) b
+  weights_at b low = ap (λ xs. rows_of xs b) p.weights ∙ rows-entries_of u.variables _ b low
+
 -- no round was played yet
 pub played_none : (s : Setting) (t : Standing) → IsSized t → IsPlayed s t t []
-played_none s t sized =
-    played_of s t t [] [] sized (with_none s.channel.bits t.wire)
-    (IsPlayed-none s.basis s.order s.ops s.channel.rules s.channel.extension s.channel.bits t.variables _ _ _ _ t.claim t.history (λ b low. refl) (λ b low. refl))
+unfolding bound_by claim_along
+played_none s t sized = record {
+  rounds = [];
+  built = tt;
+  count = omega arith;
+  drawn = refl;
+  history = sym (append-nil t.history);
+  wire = with_none s.channel.bits t.wire;
+  evals = entries-is t.variables t.evals _ sized.evals (λ b low. refl);
+  weights = entries-is t.variables t.weights _ sized.weights (λ b low. refl);
+  claim = refl;
+}
 
--- one round more
-pub played_more : (s : Setting) → IsRing s.ops → IsOffered s.basis s.order → (t u v : Standing) (rs : List ℕ) (r : ℕ) →
-    IsPlayed s t u rs → IsRound s u v r → IsPlayed s t v (rs ++ r ∷ [])
-played_more s ring offered t u v rs r p q =
-    let P : ℕ → Type 0 = λ n. IsPlayedOn s.basis s.order s.ops s.channel.rules s.channel.extension s.channel.bits t.variables (rows_of t.evals) (rows_of t.weights) t.claim t.history
-    p.rounds rs n (rows_of u.evals) (rows_of u.weights) u.claim u.history in
-    played_of s t v (rs ++ r ∷ []) (p.rounds ++ q.round ∷ []) (sized_after s u v r q)
-    (q.wire ∙ ap (λ w. with_rounds s.channel.bits w (q.round ∷ [])) p.wire ∙ with_more s.channel.bits t.wire p.rounds q.round)
-    (IsPlayed-more s.basis s.order s.ops ring offered s.channel.rules s.channel.extension s.channel.bits t.variables _ _ t.claim t.history p.rounds rs v.variables
-    _ _ u.claim u.history q.round r _ _ v.claim v.history (subst P q.fewer (played_on s t u rs p)) (round_on s u v r q))
+-- a table bound at one challenge more
+bound_more : (s : Setting) (rs : List ℕ) (r n m : ℕ) (f : ℕ → ℕ) (xs ys : List ℕ) → n ≡ suc m →
+    xs ≡ entries_of n (bound_by s.basis s.order s.ops rs n f) → ys ≡ entries_of m (bound_in s.basis s.order s.ops m r (rows_of xs)) →
+    ys ≡ entries_of m (bound_by s.basis s.order s.ops (rs ++ r ∷ []) m f)
+bound_more s rs r n m f xs ys fewer p q =
+    let at : (k : ℕ) → k < 2 ^ suc m → rows_of xs k ≡ bound_by s.basis s.order s.ops rs (suc m) f k =
+    λ k low. ap (λ t. rows_of t k) (subst (λ v. xs ≡ entries_of v (bound_by s.basis s.order s.ops rs v f)) fewer p) ∙ rows-entries_of (suc m) _ k low in
+    entries-is m ys _ (ap length q ∙ length-entries_of m _)
+    (λ b low. ap (λ t. rows_of t b) q ∙ rows-entries_of m _ b low ∙ bound_in-same s.basis s.order s.ops m r b (rows_of xs) _ low at
+    ∙ sym (ap (λ g. g b) (bound_by-append s.basis s.order s.ops rs r m f)))
+
+-- the message of tables that were bound is what an honest prover sends
+module _ (s : Setting) (ring : IsRing s.ops) (offered : IsOffered s.basis s.order) (t u v : Standing) (rs : List ℕ) (r : ℕ) (p : IsPlayed s t u rs) (q : IsRound s u v r) where
+  honest_now : q.round.values ≡ honest_in s t rs v.variables
+  honest_now =
+      let m = v.variables in
+      let twice : 2 ^ suc m ≡ 2 ^ m + 2 ^ m = pow-suc 2 m ∙ omega arith in
+      let far : (k : ℕ) → k < 2 ^ m + 2 ^ m → k < 2 ^ u.variables = λ k low. subst (λ n. k < 2 ^ n) (sym q.fewer) (omega (arith, low, twice)) in
+      q.message ∙ ap (λ n. message_in s (record u { variables = n })) q.fewer
+      ∙ message-same s.basis s.order s.ops (2 ^ m) (rows_of u.evals) (bound_by s.basis s.order s.ops rs (suc m) (rows_of t.evals))
+      (rows_of u.weights) (bound_by s.basis s.order s.ops rs (suc m) (rows_of t.weights))
+      (λ k low. evals_at s t u rs p k (far k low) ∙ ap (λ n. bound_by s.basis s.order s.ops rs n (rows_of t.evals) k) q.fewer)
+      (λ k low. weights_at s t u rs p k (far k low) ∙ ap (λ n. bound_by s.basis s.order s.ops rs n (rows_of t.weights) k) q.fewer)
+      ∙ sym (honest_pair-message s.ops ring s.basis s.order offered (rows_of t.evals) (rows_of t.weights) rs m)
+
+  -- one round more
+  pub played_more : IsPlayed s t v (rs ++ r ∷ [])
+  played_more =
+      let R = s.channel.rules in
+      let E = s.channel.extension in
+      let bits = s.channel.bits in
+      let h = t.history in
+      let so_far = rounds_events E bits p.rounds in
+      let last = q.round in
+      let next = next_claim s.basis s.ops in
+      let witnessed : HasFirstWitness R E bits (h ++ so_far) last = subst (λ x. HasFirstWitness R E bits x last) p.history q.sent.witness in
+      let honest : last.values ≡ honest_in s t (challenges R E bits h p.rounds) v.variables = honest_now ∙ ap (λ x. honest_in s t x v.variables) p.drawn in
+      let count : t.variables ≡ length p.rounds + suc v.variables = p.count ∙ ap (λ n. length p.rounds + n) q.fewer in
+      record {
+        rounds = p.rounds ++ last ∷ [];
+        built = IsBuilt-append (honest_in s t) R E bits h [] t.variables p.rounds last v.variables p.built count honest witnessed;
+        count = count ∙ sym (omega (arith, length-append p.rounds (last ∷ [])));
+        drawn = ap (λ x. rs ++ x ∷ []) (q.sent.drawn ∙ ap (λ x. challenge R E bits x last) p.history)
+            ∙ ap (λ x. x ++ challenge R E bits (h ++ so_far) last ∷ []) p.drawn ∙ sym (challenges-append R E bits h p.rounds (last ∷ []));
+        history = q.sent.history ∙ ap (λ x. x ++ round_events E bits last) p.history
+            ∙ append_assoc h so_far (round_events E bits last)
+            ∙ ap (λ x. h ++ x) (sym (flat_map-append (round_events E bits) p.rounds (last ∷ []) ∙ ap (λ x. so_far ++ x) (append-nil (round_events E bits last))));
+        wire = q.wire ∙ ap (λ w. with_rounds bits w (last ∷ [])) p.wire ∙ with_more bits t.wire p.rounds last;
+        evals = bound_more s rs r u.variables v.variables (rows_of t.evals) u.evals v.evals q.fewer p.evals q.evals;
+        weights = bound_more s rs r u.variables v.variables (rows_of t.weights) u.weights v.weights q.fewer p.weights q.weights;
+        claim = q.claim ∙ ap (λ c. next c last.values r) p.claim
+            ∙ sym (ap (λ x. claim_along next t.claim x (rs ++ r ∷ [])) (messages-append p.rounds last)
+            ∙ claim_along-append next t.claim (messages_of p.rounds) rs last.values r
+            (length-messages p.rounds ∙ sym (ap length p.drawn ∙ length-challenges R E bits h p.rounds)));
+      }

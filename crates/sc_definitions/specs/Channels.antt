@@ -1,9 +1,11 @@
 -- Rounds of any protocol over a channel: what a round leaves of a history, and what is left where it is refused.
-use Rattle.std.specs.Prelude.{◌≡◌, ℕ, zero, suc, ◌<◌, true, false, List, [], ◌++◌, map}
+use Rattle.std.specs.Prelude.{◌≡◌, ℕ, zero, suc, ◌<◌, true, false, List, [], ◌++◌, map, take, Some}
+use Rattle.std.specs.List.{slice_get}
 use Rattle.sc_definitions.specs.declared.events.Event.{Event}
 use Rattle.sc_definitions.specs.Events.{Rules, Extension, NonePasses}
-use Rattle.sc_definitions.specs.Transcript.{Round, messages_of, sent, before_draw, round_events, challenge, HasFirstWitness}
-use Rattle.sc_definitions.specs.Replays.{round_passes, Replays, ReplaysSome, IsInvalidAt}
+use Rattle.sc_definitions.specs.Rounds.{claim_along}
+use Rattle.sc_definitions.specs.Transcript.{Round, messages_of, sent, before_draw, round_events, rounds_events, challenge, challenges, HasFirstWitness}
+use Rattle.sc_definitions.specs.Replays.{round_passes, AllPass}
 
 -- What stays in a transcript: how its challenger answers, the parts of its elements, the size of the field of its words, and the difficulty.
 pub record Channel : Type 0 where
@@ -72,14 +74,24 @@ pub record Footing : Type 0 where
 abbrev pub footing : List Event → ℕ → Footing
 footing h claim = record { history = h; claim = claim }
 
--- the rounds take it from one footing to the next, with these challenges; `next` is the claim after one round
-abbrev pub IsReplayed : (ℕ → List ℕ → ℕ → ℕ) → Channel → Footing → Footing → List Round → List ℕ → Type 0
-IsReplayed next c before after rounds rs = Replays next c.rules c.extension c.bits before.history before.claim rounds after.history rs after.claim
+-- The rounds take it from one footing to the next, with the challenges rs: each witness passes at its place, and `next` is the claim after one round.
+pub record IsReplayed (next : ℕ → List ℕ → ℕ → ℕ) (c : Channel) (before after : Footing) (rounds : List Round) (rs : List ℕ) : Type 0 where
+  pub history : after.history ≡ before.history ++ rounds_events c.extension c.bits rounds
+  pub drawn : rs ≡ challenges c.rules c.extension c.bits before.history rounds
+  pub claim : after.claim ≡ claim_along next before.claim (messages_of rounds) (challenges c.rules c.extension c.bits before.history rounds)
+  pub passes : AllPass c.rules c.extension c.bits before.history rounds
 
--- some of the rounds do, from the first on
-abbrev pub IsReplayedInPart : (ℕ → List ℕ → ℕ → ℕ) → Channel → Footing → Footing → List Round → Type 0
-IsReplayedInPart next c before after rounds = ReplaysSome next c.rules c.extension c.bits before.history before.claim rounds after.history after.claim
+-- Some of the rounds do, from the first on.
+pub record IsReplayedInPart (next : ℕ → List ℕ → ℕ → ℕ) (c : Channel) (before after : Footing) (rounds : List Round) : Type 0 where
+  pub count : ℕ
+  pub rs : List ℕ
+  pub replays : IsReplayed next c before after (take count rounds) rs
 
--- the rounds before round i do, and then the test of that round's witness, which is the first that fails
-abbrev pub FailsAt : (ℕ → List ℕ → ℕ → ℕ) → Channel → Footing → Footing → List Round → ℕ → Type 0
-FailsAt next c before after rounds i = IsInvalidAt next c.rules c.extension c.bits before.history before.claim rounds i after.history after.claim
+-- The rounds before round i do, and lead to the history `last`; then the test of that round's witness, which is the first that fails, ends the history.
+pub record FailsAt (next : ℕ → List ℕ → ℕ → ℕ) (c : Channel) (before after : Footing) (rounds : List Round) (i : ℕ) : Type 0 where
+  pub rs : List ℕ
+  pub last : List Event
+  pub replays : IsReplayed next c before (footing last after.claim) (take i rounds) rs
+  pub round : Round
+  pub is : slice_get rounds i ≡ Some round
+  pub test : WitnessFails c last round after.history

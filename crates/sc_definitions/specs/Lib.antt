@@ -11,7 +11,6 @@ pub mod Events
 pub mod Quadratic
 pub mod Scripted
 pub mod Transcript
-pub mod Played
 pub mod Problem
 pub mod Seeds
 pub mod Replays

@@ -1,10 +1,8 @@
--- Rounds that are replayed: whether their witnesses pass, and what a verifier or a driver leaves.
-use Rattle.std.specs.Prelude.{◌≡◌, ℕ, zero, suc, Bool, true, false, List, [], ◌∷◌, ◌++◌, take, Some}
-use Rattle.std.specs.List.{slice_get}
+-- Rounds that are handed in: their witnesses, and whether these pass.
+use Rattle.std.specs.Prelude.{◌≡◌, ℕ, zero, suc, Bool, true, List, [], ◌∷◌, ◌++◌}
 use Rattle.sc_definitions.specs.declared.events.Event.{Event}
 use Rattle.sc_definitions.specs.Events.{Rules, Extension}
-use Rattle.sc_definitions.specs.Rounds.{claim_along}
-use Rattle.sc_definitions.specs.Transcript.{Round, round_of, messages_of, sent, before_draw, round_events, rounds_events, challenges}
+use Rattle.sc_definitions.specs.Transcript.{Round, round_of, sent, round_events}
 
 -- the witness of a round that is played at h passes, or there is no difficulty
 unfoldable pub round_passes : Rules → Extension → ℕ → List Event → Round → Bool
@@ -21,29 +19,3 @@ abbrev pub given_rounds : List (List ℕ) → List ℕ → List Round
 given_rounds [] ws = []
 given_rounds (m ∷ ms) [] = round_of m 0 ∷ given_rounds ms []
 given_rounds (m ∷ ms) (w ∷ ws) = round_of m w ∷ given_rounds ms ws
-
--- The rounds were played from h₀ on, under the claim c₀: the history, the challenges and the claim that they leave.
-pub record Replays (next : ℕ → List ℕ → ℕ → ℕ) (R : Rules) (E : Extension) (bits : ℕ) (h₀ : List Event) (c₀ : ℕ)
-    (rounds : List Round) (h : List Event) (out : List ℕ) (c : ℕ) : Type 0 where
-  pub history : h ≡ h₀ ++ rounds_events E bits rounds
-  pub drawn : out ≡ challenges R E bits h₀ rounds
-  pub claim : c ≡ claim_along next c₀ (messages_of rounds) (challenges R E bits h₀ rounds)
-  pub passes : AllPass R E bits h₀ rounds
-
--- some of the rounds were played, from the first on
-pub record ReplaysSome (next : ℕ → List ℕ → ℕ → ℕ) (R : Rules) (E : Extension) (bits : ℕ) (h₀ : List Event) (c₀ : ℕ)
-    (rounds : List Round) (h : List Event) (c : ℕ) : Type 0 where
-  pub count : ℕ
-  pub out : List ℕ
-  pub replays : Replays next R E bits h₀ c₀ (take count rounds) h out c
-
--- Round i is the first whose witness fails; the history ends with its test, and the claim is that of the rounds before.
-pub record IsInvalidAt (next : ℕ → List ℕ → ℕ → ℕ) (R : Rules) (E : Extension) (bits : ℕ) (h₀ : List Event) (c₀ : ℕ)
-    (rounds : List Round) (i : ℕ) (h : List Event) (c : ℕ) : Type 0 where
-  pub out : List ℕ
-  pub before : List Event
-  pub replays : Replays next R E bits h₀ c₀ (take i rounds) before out c
-  pub round : Round
-  pub is : slice_get rounds i ≡ Some round
-  pub fails : round_passes R E bits before round ≡ false
-  pub history : h ≡ before ++ before_draw E bits round

@@ -1,5 +1,5 @@
 -- A batch of rounds, one round after the other.
-use Rattle.std.proofs.Common.{◌≡◌, ℕ, suc, ◌+◌, ◌<◌, List, [], ◌∷◌, ◌++◌, refl, ap, ◌∙◌, ◌⊎◌, inl, inr, subst, arith, Result, Ok, Err, IsErrAnd, ⊎_elim, ◌≤◌}
+use Rattle.std.proofs.Common.{◌≡◌, ℕ, suc, ◌+◌, ◌<◌, List, [], ◌∷◌, ◌++◌, refl, ◌∙◌, inl, inr, subst, arith, Result, Ok, Err, IsErrAnd, ◌≤◌}
 use Rattle.sc_definitions.specs.Ring.{Ops, IsRing}
 use Rattle.sc_definitions.specs.Tables.{evaluation, Order, IsOffered}
 use Rattle.sc_definitions.specs.Channels.{Channel}
@@ -7,8 +7,7 @@ use Rattle.sc_definitions.specs.Standings.{Setting, Standing, IsRound, IsPlayed,
 use Rattle.sc_definitions.proofs.StandingLaws.{played_more}
 use Rattle.sc_transcript.specs.declared.error.SumcheckError.{SumcheckError}
 use Rattle.sc_transcript.specs.declared.error.SumcheckError.TheVariants.{NoMemory, NoWitness}
-use Rattle.sc_transcript.specs.Invalid.{FindsNone}
-use Rattle.sc_rounds.specs.Standings.{IsHalted, IsStopped, IsBatchStopped, MovesBatch}
+use Rattle.sc_rounds.specs.Standings.{IsHalted, IsStopped, Batch, BreaksOff, LeavesBatch}
 
 -- ---- rounds, by other names of what they move
 
@@ -23,19 +22,16 @@ played_at s s' t t' u u' rs rs' es et eu er p = rw (← es, ← et, ← eu, ← 
 pub same_standing : (t u : Standing) → t.variables ≡ u.variables → t.evals ≡ u.evals → t.weights ≡ u.weights → t.claim ≡ u.claim → t.history ≡ u.history → t.wire ≡ u.wire → t ≡ u
 same_standing t u ev ee ew ec eh ex = λ i. record { variables = ev i; evals = ee i; weights = ew i; claim = ec i; history = eh i; wire = ex i }
 
--- a batch, by other names of what it moves, of what has not begun and of how many rounds it has
-pub batch_at_names : {X : Type 0} (result : Result X SumcheckError) (challenges : X → List ℕ) (unbegun unbegun' : Type 0) (s s' : Setting) (t t' u u' : Standing) (n m : ℕ) →
-    (unbegun → unbegun') → s ≡ s' → t ≡ t' → u ≡ u' → n ≡ m → MovesBatch challenges unbegun s t u n result → MovesBatch challenges unbegun' s' t' u' m result
-batch_at_names (Ok x) challenges unbegun unbegun' s s' t t' u u' n m same es et eu en p = rw (← es, ← et, ← eu) p
-batch_at_names (Err NoMemory) challenges unbegun unbegun' s s' t t' u u' n m same es et eu en p = ⊎_elim (λ none. inl (same none)) (λ some. inr (rw (← es, ← et, ← eu) some)) p
-batch_at_names (Err (NoWitness i)) challenges unbegun unbegun' s s' t t' u u' n m same es et eu en p = rw (← es, ← et, ← eu, ← en) p
-batch_at_names (Err e) challenges unbegun unbegun' s s' t t' u u' n m same es et eu en p = absurd p
-
 -- a batch that got no memory before it began
-pub never_begun : {X : Type 0} (result : Result X SumcheckError) (challenges : X → List ℕ) (unbegun : Type 0) (s : Setting) (t u : Standing) (n : ℕ) →
-    IsErrAnd result (λ e. e ≡ NoMemory) → unbegun → MovesBatch challenges unbegun s t u n result
-never_begun (Ok x) challenges unbegun s t u n memory none = elim memory [ ]
-never_begun (Err e) challenges unbegun s t u n memory none = rw memory (inl none)
+pub never_begun : {X : Type 0} (result : Result X SumcheckError) (challenges : X → List ℕ) (b : Batch) (u : Standing) →
+    IsErrAnd result (λ e. e ≡ NoMemory) → u ≡ b.taken → LeavesBatch challenges b u result
+never_begun (Ok x) challenges b u memory none = elim memory [ ]
+never_begun (Err e) challenges b u memory none = rw memory (inl none)
+
+-- a batch, by other names of it and of what it leaves
+pub batch_as : {X : Type 0} (result : Result X SumcheckError) (challenges : X → List ℕ) (b b' : Batch) (u u' : Standing) → b ≡ b' → u ≡ u' →
+    LeavesBatch challenges b u result → LeavesBatch challenges b' u' result
+batch_as result challenges b b' u u' eb eu p = subst (λ v. LeavesBatch challenges b' v result) eu (subst (λ d. LeavesBatch challenges d u result) eb p)
 
 -- no challenge yet, by another name
 pub as_none : (s : Setting) (t : Standing) (rs : List ℕ) → rs ≡ [] → IsPlayed s t t [] → IsPlayed s t t rs
@@ -54,33 +50,20 @@ stops s s₁ t u v rs i j (NoWitness k) same place p why =
     (why.0 ∙ place, record { rs = rs; last = u; played = p; ends = subst (λ k. IsRoundWithoutWitness k u v) same why.1 })
 stops s s₁ t u v rs i j e same place p why = absurd why
 
--- rounds that stop, as a batch of so many that was begun
-pub stops_batch : (unbegun : Type 0) (s s' : Setting) (t t' u u' : Standing) (i n m : ℕ) (e : SumcheckError) → s ≡ s' → t ≡ t' → u ≡ u' →
-    u'.variables + i ≡ t'.variables → i < n → n ≡ m → IsStopped s t u i e → IsBatchStopped unbegun s' t' u' m e
-stops_batch unbegun s s' t t' u u' i n m NoMemory es et eu left less size why = inr (rw (← es, ← et, ← eu) why)
-stops_batch unbegun s s' t t' u u' i n m (NoWitness k) es et eu left less size why =
+-- rounds that stop, as a batch that was begun
+pub stops_batch : (b : Batch) (s : Setting) (t u u' : Standing) (i n : ℕ) (e : SumcheckError) → s ≡ b.setting → t ≡ b.start → u ≡ u' →
+    u'.variables + i ≡ b.start.variables → i < n → n ≡ b.rounds → IsStopped s t u i e → BreaksOff b u' e
+stops_batch b s t u u' i n NoMemory es et eu left less size why =
+    inr (record { within = omega (arith, left, less, size); part = rw (← es, ← et, ← eu) why })
+stops_batch b s t u u' i n (NoWitness k) es et eu left less size why =
     let place : k ≡ i = why.0 in (omega arith, omega arith, rw (← es, ← et, ← eu) why.1)
-stops_batch unbegun s s' t t' u u' i n m e es et eu left less size why = absurd why
+stops_batch b s t u u' i n e es et eu left less size why = absurd why
 
 -- ---- results and counts
 
 -- two numbers that are one more than the same are the same
 pub one_less : (a b m n : ℕ) → a ≡ m + 1 → b ≡ n + 1 → a ≡ b → n ≡ m
 one_less a b m n first second same = omega arith
-
--- the want of memory, or of a witness
-pub caused : {T S : Type 0} (e : SumcheckError) (k : ℕ) →
-    (◌≡◌ {A = Result T SumcheckError} (Err e) (Err NoMemory)) ⊎ (◌≡◌ {A = Result T SumcheckError} (Err e) (Err (NoWitness k))) →
-    (◌≡◌ {A = Result S SumcheckError} (Err e) (Err NoMemory)) ⊎ FindsNone {T = S} (Err e)
-caused {T} {S} e k (inl none) = inl (let same : e ≡ NoMemory = cc in ap Err same)
-caused {T} {S} e k (inr found) = inr (let same : e ≡ NoWitness k = cc in rw same tt)
-
--- where v variables are left after p rounds of n, no more than n are bound
-pub bound_at_most : (v v₀ p n m : ℕ) → v + p ≡ v₀ → p < n → n ≡ m → v₀ ≤ v + m
-bound_at_most v v₀ p n m left less same = omega arith
-
-pub as_many : (a b : ℕ) → a ≡ b → b ≤ a
-as_many a b same = omega arith
 
 -- a variable is left as long as a round is
 pub some_left : (v v₀ p n : ℕ) → v + p ≡ v₀ → n ≤ v₀ → p < n → 0 < v

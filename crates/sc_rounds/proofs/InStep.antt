@@ -1,12 +1,12 @@
 -- A replay of the rounds that a prover played.
-use Rattle.std.proofs.Common.{◌≡◌, ℕ, zero, suc, ◌+◌, true, false, List, [], ◌∷◌, ◌++◌, length, take, refl, ap, sym, subst, ◌∙◌, Some, Result, Ok, Err, IfErr, IsErrAnd, ◌⊎◌, inl, inr, append_assoc, if◌then◌else◌, ne_eqb, arith}
+use Rattle.std.proofs.Common.{◌≡◌, ℕ, zero, suc, ◌+◌, true, false, List, [], ◌∷◌, ◌++◌, length, take, refl, ap, sym, subst, ◌∙◌, Some, Result, Ok, Err, IsErrAnd, ◌⊎◌, inl, inr, append_assoc, if◌then◌else◌, ne_eqb, arith}
 use Rattle.std.proofs.lemmas.List.{append-nil, length-map}
 use Rattle.std.specs.List.{slice_get}
 use Rattle.sc_definitions.specs.declared.events.Event.{Event}
 use Rattle.sc_definitions.specs.Rounds.{next_claim, claim_along}
 use Rattle.sc_definitions.specs.Events.{Rules, Extension}
 use Rattle.sc_definitions.specs.Transcript.{Round, round_of, messages_of, round_events, rounds_events, challenge, HasFirstWitness, IsBuilt}
-use Rattle.sc_definitions.specs.Replays.{round_passes, AllPass, given_rounds, IsInvalidAt}
+use Rattle.sc_definitions.specs.Replays.{round_passes, AllPass, given_rounds}
 use Rattle.sc_definitions.specs.Channels.{Channel, Wire, empty_wire, with_rounds, Footing, IsReplayed, IsReplayedInPart, FailsAt}
 use Rattle.sc_definitions.specs.Standings.{Setting, Standing, footing_of, IsPlayed}
 use Rattle.sc_definitions.proofs.BuiltLaws.{length-messages}
@@ -15,7 +15,7 @@ use Rattle.sc_transcript.specs.declared.error.SumcheckError.TheVariants.{RoundCo
 use Rattle.sc_transcript.specs.Invalid.{IsInvalid}
 use Rattle.sc_transcript.specs.Replayed.{LeavesReplay}
 use Rattle.sc_transcript.specs.Data.{witness_count, witnesses_of}
-use Rattle.sc_rounds.specs.Laws.{rounds_on, ReplaysInPart, IsOutOfStep}
+use Rattle.sc_rounds.specs.Laws.{rounds_on, ReplaysInPart, IsOutOfStep, LeavesStep}
 use Rattle.sc_rounds.specs.Standings.{Batch, BreaksOff}
 
 -- ---- the rounds of what was appended
@@ -91,18 +91,19 @@ all_pass honest R E bits h rs (suc n) (q ∷ rounds) b =
     (passes_first R E bits h q b.1, all_pass honest R E bits (h ++ round_events E bits q) (rs ++ challenge R E bits h q ∷ []) n rounds b.2)
 
 -- no round of what was built is refused
-pub none_failing : (next : ℕ → List ℕ → ℕ → ℕ) (honest : List ℕ → ℕ → List ℕ) (R : Rules) (E : Extension) (bits : ℕ) (h : List Event) (n claim : ℕ) (given rounds : List Round) →
-    given ≡ rounds → IsBuilt honest R E bits h [] n rounds → (i : ℕ) (hv : List Event) (c : ℕ) → IsInvalidAt next R E bits h claim given i hv c → ⊥
-none_failing next honest R E bits h n claim given rounds same built i hv c invalid =
-    let there : IsInvalidAt next R E bits h claim rounds i hv c = rw (← same) invalid in
-    let passes : round_passes R E bits there.before there.round ≡ true =
-    ap (λ t. round_passes R E bits t there.round) there.replays.history ∙ passes_at honest R E bits h [] n rounds i there.round built there.is in
-    let clash : true ≡ false = sym passes ∙ there.fails in cc
+pub none_failing : (next : ℕ → List ℕ → ℕ → ℕ) (honest : List ℕ → ℕ → List ℕ) (c : Channel) (start end : Footing) (n : ℕ) (rounds : List Round) (i : ℕ) →
+    IsBuilt honest c.rules c.extension c.bits start.history [] n rounds → FailsAt next c start end rounds i → ⊥
+none_failing next honest c start end n rounds i built there =
+    let passes : round_passes c.rules c.extension c.bits there.last there.round ≡ true =
+    ap (λ t. round_passes c.rules c.extension c.bits t there.round) there.replays.history
+    ∙ passes_at honest c.rules c.extension c.bits start.history [] n rounds i there.round built there.is in
+    let clash : true ≡ false = sym passes ∙ there.test.fails in cc
 
 -- what holds of an error holds of a result that passes it on
-pub err_as : {T E : Type 0} (P : E → Type 0) (r : Result T E) (e : E) → IsErrAnd r (λ x. x ≡ e) → P e → IfErr r P
-err_as P (Ok x) e is p = tt
-err_as P (Err x) e is p = subst P (sym is) p
+pub step_as : {X Y : Type 0} (challenges : X → List ℕ) (number : Y → ℕ) (b : Batch) (u : Standing) (h h' : List Event) (r : Result (X × X × Y) SumcheckError) (e : SumcheckError) →
+    IsErrAnd r (λ x. x ≡ e) → IsOutOfStep b u h h' e → LeavesStep challenges number b u h h' r
+step_as challenges number b u h h' (Ok x) e is p = elim is [ ]
+step_as challenges number b u h h' (Err x) e is p = subst (IsOutOfStep b u h h') (sym is) p
 
 -- the prover's refusal: the verifier has not begun
 pub not_begun : (b : Batch) (u : Standing) (h : List Event) (e : SumcheckError) → BreaksOff b u e → IsOutOfStep b u h h e
@@ -165,7 +166,7 @@ module _ (s : Setting) (t u : Standing) (rs : List ℕ) (c : Channel) (start : F
   -- no round of it is refused
   pub none_invalid : (i : ℕ) (end : Footing) → FailsAt (next_claim s.basis s.ops) c start end (rounds_on u.wire) i → ⊥
   none_invalid i end invalid =
-      none_failing (next_claim s.basis s.ops) _ s.channel.rules s.channel.extension s.channel.bits t.history t.variables t.claim played.rounds played.rounds refl played.built i end.history end.claim
+      none_failing (next_claim s.basis s.ops) _ s.channel (footing_of t) end t.variables played.rounds i played.built
       (subst (λ f. FailsAt (next_claim s.basis s.ops) s.channel f end played.rounds i) begun
       (subst (λ k. FailsAt (next_claim s.basis s.ops) k start end played.rounds i) same
       (subst (λ given. FailsAt (next_claim s.basis s.ops) c start end given i) rounds_given invalid)))

@@ -3,7 +3,7 @@ pub mod MappedRounds
 pub mod RepresentedLaws
 pub mod BatchLaws
 pub mod TakenLaws
+pub mod ShownLaws
 pub mod ConstraintPoints
 pub mod InStep
 pub mod AddedEntries
-pub mod PositionalBatches

@@ -8,14 +8,12 @@ use Rattle.sc_definitions.specs.Statements.{Statement, batched_weight, batched_c
 use Rattle.sc_definitions.proofs.RingLaws.{plus_comm, plus_cancel, times-plus}
 use Rattle.sc_definitions.proofs.Sums.{sum-same, sum-plus, element-sum}
 use Rattle.sc_definitions.proofs.StatementLaws.{element-powers_sum}
-use Rattle.sc_statements.specs.declared.constraint.Constraint.{Constraint}
 use Rattle.sc_statements.specs.Batches.{AddsBatch}
-use Rattle.sc_rounds.specs.Batches.{claim_with}
+use Rattle.sc_rounds.specs.Provers.{Stated, claim_with}
 
 -- a claim that is known, with a constraint taken in
-pub claim_begun : {F EF : Type 0} (o : Ops) (of : F → ℕ) (number : EF → ℕ) (constraint : Option (Constraint F EF)) (known claim taken : ℕ) → known ≡ claim →
-    taken ≡ claim_with o of number constraint known → taken ≡ claim_with o of number constraint claim
-claim_begun o of number constraint known claim taken same is = is ∙ ap (claim_with o of number constraint) same
+pub claim_begun : (o : Ops) (c : Option Stated) (known claim taken : ℕ) → known ≡ claim → taken ≡ claim_with o known c → taken ≡ claim_with o claim c
+claim_begun o c known claim taken same is = is ∙ ap (λ k. claim_with o k c) same
 
 -- footings by their parts
 pub same_footing : {h h' : List Event} {claim claim' : ℕ} → h ≡ h' → claim ≡ claim' → footing h claim ≡ footing h' claim'

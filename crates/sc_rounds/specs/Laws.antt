@@ -1,5 +1,5 @@
 -- Laws of batches and their replays, in every setting: what a batch has put on an empty wire is replayed.
-use Rattle.std.specs.Prelude.{◌≡◌, ◌⊎◌, ℕ, ◌+◌, List}
+use Rattle.std.specs.Prelude.{◌≡◌, ◌⊎◌, ℕ, List, Result, Ok, Err}
 use Rattle.sc_definitions.specs.declared.events.Event.{Event}
 use Rattle.sc_definitions.specs.Rounds.{next_claim}
 use Rattle.sc_definitions.specs.Transcript.{Round}
@@ -8,7 +8,7 @@ use Rattle.sc_definitions.specs.Channels.{Wire, empty_wire, Footing, footing, Is
 use Rattle.sc_definitions.specs.Standings.{Setting, Standing, footing_of, IsPlayed}
 use Rattle.sc_transcript.specs.declared.error.SumcheckError.{SumcheckError}
 use Rattle.sc_transcript.specs.declared.error.SumcheckError.TheVariants.{NoMemory}
-use Rattle.sc_rounds.specs.Standings.{Batch, BreaksOff}
+use Rattle.sc_rounds.specs.Standings.{Batch, PlaysWhole, BreaksOff}
 
 -- the rounds of a wire
 abbrev pub rounds_on : Wire → List Round
@@ -37,7 +37,7 @@ NoneIsInvalid =
 
 -- They are in step: a batch was played, and its replay has the same challenges and ends where it ends.
 pub record IsInStep (b : Batch) (after : Standing) (rs out : List ℕ) (end : Footing) : Type 0 where
-  pub played : IsPlayed b.setting b.start after rs
+  pub played : PlaysWhole b after rs
   pub challenges : out ≡ rs
   pub ends : end ≡ footing_of after
 
@@ -49,8 +49,7 @@ pub record ReplaysInPart (s : Setting) (start : Standing) (w : Wire) (h : List E
 -- A batch was played whole, and its replay wanted memory: the verifier's history h is as it was, or some of the rounds were replayed.
 pub record IsReplayBroken (b : Batch) (after : Standing) (h h' : List Event) : Type 0 where
   pub rs : List ℕ
-  pub played : IsPlayed b.setting b.start after rs
-  pub whole : after.variables + b.rounds ≡ b.start.variables
+  pub played : PlaysWhole b after rs
   pub left : (h' ≡ h) ⊎ ReplaysInPart b.setting b.start after.wire h'
 
 -- Why they are not, and what that leaves: the prover stopped, and the verifier's history h is as it was; or, for want of memory, the replay of the whole
@@ -58,3 +57,8 @@ pub record IsReplayBroken (b : Batch) (after : Standing) (h h' : List Event) : T
 abbrev pub IsOutOfStep : Batch → Standing → List Event → List Event → SumcheckError → Type 0
 IsOutOfStep b after h h' NoMemory = (BreaksOff b after NoMemory × (h' ≡ h)) ⊎ IsReplayBroken b after h h'
 IsOutOfStep b after h h' e = BreaksOff b after e × (h' ≡ h)
+
+-- what both leave, by the result: the challenges of both and the claim that the verifier leaves, or why there are none
+abbrev pub LeavesStep : {X Y : Type 0} → (X → List ℕ) → (Y → ℕ) → Batch → Standing → List Event → List Event → Result (X × X × Y) SumcheckError → Type 0
+LeavesStep challenges number b after h h' (Ok x) = IsInStep b after (challenges x.0) (challenges x.1) (footing h' (number x.2))
+LeavesStep challenges number b after h h' (Err e) = IsOutOfStep b after h h' e

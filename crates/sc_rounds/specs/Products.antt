@@ -1,14 +1,15 @@
--- A pair of tables, by the numbers of its entries, and a round that is played on it.
-use Rattle.std.specs.Prelude.{◌≡◌, ℕ, ◌^◌, ◌<◌, List, ◌++◌}
-use Rattle.sc_definitions.specs.declared.events.Event.{Event}
+-- A pair of tables, by the numbers of its entries.
+use Rattle.std.specs.Prelude.{ℕ, List, map}
 use Rattle.sc_definitions.specs.Ring.{Ops}
-use Rattle.sc_definitions.specs.Tables.{evaluation, Order, inner}
-use Rattle.sc_definitions.specs.Messages.{message_of}
-use Rattle.sc_definitions.specs.Events.{Rules, Extension, NonePasses}
-use Rattle.sc_definitions.specs.Transcript.{sent}
+use Rattle.sc_definitions.specs.Tables.{Order, inner}
 use Rattle.sc_table.specs.Polys.{variables_of, table_of}
 use Rattle.sc_table.specs.Strategy.{order_of}
+use Rattle.sc_table.specs.declared.poly.Poly.{Poly}
 use Rattle.sc_rounds.specs.declared.product_polynomial.ProductPolynomial.{ProductPolynomial}
+
+-- the numbers of a table's values, row 0 first
+abbrev pub numbers_of : {A : Type 0} → (A → ℕ) → Poly A → List ℕ
+numbers_of number p = map number p.evals.items
 
 -- how many variables both tables have
 abbrev pub variables_in : {F EF : Type 0} → ProductPolynomial F EF → ℕ
@@ -29,10 +30,3 @@ weights_in number p = table_of number p.weights
 -- the sum over all rows of the product of the two
 abbrev pub sum_in : {F EF : Type 0} → Ops → (EF → ℕ) → ProductPolynomial F EF → ℕ
 sum_in o number p = inner o (variables_in p) (evals_in number p) (weights_in number p)
-
--- A round on tables f and w of m + 1 variables for which no witness was found at h: the difficulty is positive, the history ends with their message,
--- and no element passes there.
-pub record EndsRound (order : Order) (o : Ops) (R : Rules) (E : Extension) (bits m size : ℕ) (f w : ℕ → ℕ) (h h' : List Event) : Type 0 where
-  pub positive : 0 < bits
-  pub ends : h' ≡ h ++ sent E (message_of evaluation order o (2 ^ m) f w)
-  pub none_passes : NonePasses R h' bits size

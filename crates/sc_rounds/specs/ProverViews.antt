@@ -1,66 +1,64 @@
--- Where the rounds of a prover stand.
-use Rattle.std.specs.Prelude.{◌≡◌, ℕ, List, ◌++◌, Option}
+-- What clauses see of the two provers.
+use Rattle.std.specs.Prelude.{List, Option}
 use Rattle.std.specs.declared.cmp.PartialEq.{Ghosts as PartialEqOf}
 use Rattle.sc_definitions.specs.declared.events.Event.{Event}
-use Rattle.sc_definitions.specs.Events.{Rules, words}
-use Rattle.sc_definitions.specs.Tables.{rows_of}
+use Rattle.sc_definitions.specs.Events.{Rules}
 use Rattle.sc_definitions.specs.Channels.{channel}
-use Rattle.sc_definitions.specs.Standings.{Setting, Standing, entries_of}
+use Rattle.sc_definitions.specs.Standings.{Standing}
 use Rattle.sc_field.specs.declared.field.Field.{Ghosts as FieldOf}
 use Rattle.sc_field.specs.declared.algebra.Algebra.{Ghosts as AlgebraOf}
 use Rattle.sc_field.specs.declared.algebra.ExtensionField.{Ghosts as ExtensionOf}
 use Rattle.sc_field.specs.declared.representation.FromTable.{Ghosts as FromTableOf}
 use Rattle.sc_statements.specs.declared.constraint.Constraint.{Constraint}
 use Rattle.sc_transcript.specs.Data.{wire_in}
-use Rattle.sc_transcript.specs.Shapes.{seed_of}
 use Rattle.sc_transcript.specs.declared.transcript.SumcheckShape.{SumcheckShape}
 use Rattle.sc_transcript.specs.declared.data.SumcheckData.{SumcheckData}
 use Rattle.sc_rounds.specs.declared.strategy.SumcheckProver.{SumcheckProver}
 use Rattle.sc_rounds.specs.declared.strategy.repr.ReprSumcheckProver.{ReprSumcheckProver}
-use Rattle.sc_rounds.specs.Products.{variables_in, order_in, evals_in, weights_in}
-use Rattle.sc_rounds.specs.Standings.{setting_in, standing_in, Batch}
-use Rattle.sc_rounds.specs.Batches.{weights_with, claim_with}
+use Rattle.sc_rounds.specs.Provers.{Shown, Stated, shown_of, setting_at, standing_at, stated, stated_if_some, IsTrueConstraint, IsTrueIfSome, with_taken}
+use Rattle.sc_rounds.specs.Standings.{Batch, batch_at}
 
 module _ {F EF : Type 0} {f : FieldOf F} {p : PartialEqOf F} {x : ExtensionOf EF F} {a : AlgebraOf EF F} {e : FieldOf EF} {q : PartialEqOf EF} where
-  -- what stays, where a challenger answers by these rules, at a difficulty
-  abbrev pub setting_of : SumcheckProver F EF f p x a e q → Rules → ℕ → Setting
-  setting_of s R bits = setting_in (channel R x.extension f.ops.size bits) e.ops s.poly
+  -- what a prover shows
+  abbrev pub shown_by : SumcheckProver F EF f p x a e q → Shown
+  shown_by s = shown_of e.number s.poly s.sum
 
-  -- what moves: the prover's tables and claim, data and a history
+  -- a constraint as it takes it in, if there is one
+  abbrev pub stated_to : SumcheckProver F EF f p x a e q → Option (Constraint F EF) → Option Stated
+  stated_to s c = stated_if_some (λ y. a.embedding (f.number y)) e.number c
+
+  -- a constraint is true of it
+  abbrev pub IsTrueOf : SumcheckProver F EF f p x a e q → Constraint F EF → Type 0
+  IsTrueOf s c = IsTrueConstraint e.ops (shown_by s) (stated (λ y. a.embedding (f.number y)) e.number c)
+
+  -- a constraint, if there is one, is
+  abbrev pub IsNoneOrTrueOf : SumcheckProver F EF f p x a e q → Option (Constraint F EF) → Type 0
+  IsNoneOrTrueOf s c = IsTrueIfSome e.ops (shown_by s) (stated_to s c)
+
+  -- what it shows with a constraint taken in, if there is one
+  abbrev pub shown_with : SumcheckProver F EF f p x a e q → Option (Constraint F EF) → Shown
+  shown_with s c = with_taken e.ops (shown_by s) (stated_to s c)
+
+  -- where its rounds stand, by data and a history
   abbrev pub standing_of : SumcheckProver F EF f p x a e q → SumcheckData F EF → List Event → Standing
-  standing_of s d h = standing_in e.number s.poly s.sum h (wire_in f.number e.number d)
+  standing_of s d h = standing_at (shown_by s) h (wire_in f.number e.number d)
 
-  -- the same with a constraint taken in, if there is one
-  abbrev pub standing_with : SumcheckProver F EF f p x a e q → SumcheckData F EF → List Event → Option (Constraint F EF) → Standing
-  standing_with s d h c = record (standing_of s d h) {
-    weights = entries_of (standing_of s d h).variables (weights_with e.ops (λ y. a.embedding (f.number y)) e.number c (rows_of (standing_of s d h).weights));
-    claim = claim_with e.ops (λ y. a.embedding (f.number y)) e.number c (standing_of s d h).claim;
-  }
-
-  -- the batch of a shape, with a constraint if there is one, that is asked of a prover where a challenger answers by these rules and has this history; the
-  -- seed is that over an extension of a degree
-  abbrev pub batch_of : SumcheckProver F EF f p x a e q → SumcheckData F EF → Option (Constraint F EF) → Rules → List Event → ℕ → SumcheckShape → Batch
-  batch_of s d c R h degree shape = record {
-    setting = setting_of s R shape.pow_bits;
-    taken = standing_with s d h c;
-    start = standing_with s d (h ++ words (seed_of degree shape)) c;
-    rounds = shape.num_rounds;
-  }
+  -- the batch of a shape, with a constraint if there is one, that is asked of it where a challenger answers by these rules and has this history
+  abbrev pub batch_of : SumcheckProver F EF f p x a e q → Option (Constraint F EF) → SumcheckData F EF → Rules → List Event → SumcheckShape → Batch
+  batch_of s c d R h shape =
+      batch_at (setting_at (channel R x.extension f.ops.size shape.pow_bits) e.ops (shown_by s)) (standing_at (shown_with s c) h (wire_in f.number e.number d)) x.DEGREE shape
 
 module _ {F EF R : Type 0} {f : FieldOf F} {p : PartialEqOf F} {x : ExtensionOf EF F} {a : AlgebraOf EF F} {e : FieldOf EF} {q : PartialEqOf EF}
     {t : FromTableOf R EF} {r : FieldOf R} {k : PartialEqOf R} where
-  -- the same of a prover over a representation, by the images of its numbers
-  abbrev pub image_setting_of : ReprSumcheckProver F EF R f p x a e q t r k → Rules → ℕ → Setting
-  image_setting_of s rules bits = setting_in (channel rules x.extension f.ops.size bits) e.ops s.poly
+  -- what a prover over a representation shows, by the images of its numbers
+  abbrev pub image_shown_by : ReprSumcheckProver F EF R f p x a e q t r k → Shown
+  image_shown_by s = shown_of (λ y. t.to_number (r.number y)) s.poly s.sum
 
+  -- where its rounds stand
   abbrev pub image_standing_of : ReprSumcheckProver F EF R f p x a e q t r k → SumcheckData F EF → List Event → Standing
-  image_standing_of s d h = standing_in (λ y. t.to_number (r.number y)) s.poly s.sum h (wire_in f.number e.number d)
+  image_standing_of s d h = standing_at (image_shown_by s) h (wire_in f.number e.number d)
 
-module _ {F EF : Type 0} {f : FieldOf F} {p : PartialEqOf F} {x : ExtensionOf EF F} {a : AlgebraOf EF F} {e : FieldOf EF} {q : PartialEqOf EF} where
-  -- A later prover is as an earlier one to all that ask it: it has the same order, as many variables, the same bound tables and the same claim.
-  pub record ShowsTheSame (before after : SumcheckProver F EF f p x a e q) : Type 0 where
-    pub order : order_in after.poly ≡ order_in before.poly
-    pub variables : variables_in after.poly ≡ variables_in before.poly
-    pub evals : evals_in e.number after.poly ≡ evals_in e.number before.poly
-    pub weights : weights_in e.number after.poly ≡ weights_in e.number before.poly
-    pub claim : e.number after.sum ≡ e.number before.sum
+  -- the batch of a shape that is asked of it
+  abbrev pub image_batch_of : ReprSumcheckProver F EF R f p x a e q t r k → SumcheckData F EF → Rules → List Event → SumcheckShape → Batch
+  image_batch_of s d rules h shape =
+      batch_at (setting_at (channel rules x.extension f.ops.size shape.pow_bits) e.ops (image_shown_by s)) (image_standing_of s d h) x.DEGREE shape

@@ -1,9 +1,9 @@
 -- Where rounds on a pair of tables stand, and what is left where they are refused.
-use Rattle.std.specs.Prelude.{◌≡◌, ◌⊎◌, ℕ, ◌+◌, ◌<◌, ◌≤◌, List, map, Result, Ok, Err}
+use Rattle.std.specs.Prelude.{◌≡◌, ◌⊎◌, ℕ, ◌+◌, ◌<◌, ◌≤◌, List, ◌++◌, map, Result, Ok, Err}
 use Rattle.std.specs.declared.cmp.PartialEq.{Ghosts as PartialEqOf}
 use Rattle.sc_definitions.specs.declared.events.Event.{Event}
 use Rattle.sc_definitions.specs.Ring.{Ops}
-use Rattle.sc_definitions.specs.Events.{Extension}
+use Rattle.sc_definitions.specs.Events.{Extension, words}
 use Rattle.sc_field.specs.declared.field.Field.{Ghosts as FieldOf}
 use Rattle.sc_challenger.specs.declared.challenger.Challenger.{Ghosts as ChallengerOf}
 use Rattle.sc_definitions.specs.Tables.{evaluation}
@@ -12,7 +12,9 @@ use Rattle.sc_definitions.specs.Standings.{Setting, Standing, IsRound, IsHonestR
 use Rattle.sc_transcript.specs.declared.error.SumcheckError.{SumcheckError}
 use Rattle.sc_transcript.specs.declared.error.SumcheckError.TheVariants.{NoWitness, NoMemory}
 use Rattle.sc_transcript.specs.declared.transcript.ProverTranscript.{ProverTranscript}
+use Rattle.sc_transcript.specs.declared.transcript.SumcheckShape.{SumcheckShape}
 use Rattle.sc_transcript.specs.declared.data.SumcheckData.{SumcheckData}
+use Rattle.sc_transcript.specs.Shapes.{seed_of}
 use Rattle.sc_transcript.specs.Drivers.{Driver, driver_in, channel_of, HasRoundLeft, IsDone, TakesRoom}
 use Rattle.sc_transcript.specs.Data.{wire_in}
 use Rattle.sc_rounds.specs.declared.product_polynomial.ProductPolynomial.{ProductPolynomial}
@@ -59,13 +61,6 @@ abbrev pub PlaysAll : {X : Type 0} → Setting → Standing → Standing → Lis
 PlaysAll s before after rs d (Ok x) = IsDone d × IsPlayed s before after rs
 PlaysAll s before after rs d (Err e) = HasRoundLeft d × IsStopped s before after d.played e
 
--- why a batch of so many rounds stops, and what that leaves: a batch that got no memory may not have begun, and the round without a witness is as far
--- as the variables that are left tell
-abbrev pub IsBatchStopped : Type 0 → Setting → Standing → Standing → ℕ → SumcheckError → Type 0
-IsBatchStopped unbegun s before after rounds NoMemory = unbegun ⊎ IsPlayedInPart s before after
-IsBatchStopped unbegun s before after rounds (NoWitness i) = (i < rounds) × (after.variables + i ≡ before.variables) × IsPlayedWithoutWitness s before after
-IsBatchStopped unbegun s before after rounds e = ⊥
-
 -- what round i leaves, by its result
 abbrev pub Moves : {X : Type 0} → (X → ℕ) → Setting → Standing → Standing → ℕ → Result X SumcheckError → Type 0
 Moves number s before after i (Ok r) = IsRound s before after (number r)
@@ -86,26 +81,42 @@ abbrev pub TakesItsRoom : {X E : Type 0} → ℕ → Driver → Driver → ℕ �
 TakesItsRoom degree before after spare spare' (Ok x) = TakesRoom degree before after × (spare ≤ spare' + 1)
 TakesItsRoom degree before after spare spare' (Err e) = spare ≤ spare'
 
--- what a batch of so many rounds leaves, by its result
-abbrev pub MovesBatch : {X : Type 0} → (X → List ℕ) → Type 0 → Setting → Standing → Standing → ℕ → Result X SumcheckError → Type 0
-MovesBatch challenges unbegun s before after rounds (Ok x) = IsPlayed s before after (challenges x)
-MovesBatch challenges unbegun s before after rounds (Err e) = IsBatchStopped unbegun s before after rounds e
+-- ---- a batch that is asked of a pair or a prover
 
--- ---- a batch that is asked of a prover
-
--- What stays, where the prover stands with a constraint taken in, if there is one, where the first round begins, which is behind the seed, and how many
--- rounds are asked for.
+-- What stays, where it stands before the seed, where the first round begins, which is behind the seed, and how many rounds are asked for.
 pub record Batch : Type 0 where
   pub setting : Setting
   pub taken : Standing
   pub start : Standing
   pub rounds : ℕ
 
--- why it stops, and what that leaves: one that was broken off before its seed has the constraint taken in
+-- the batch of a shape, over an extension of a degree
+abbrev pub batch_at : Setting → Standing → ℕ → SumcheckShape → Batch
+batch_at s t degree shape = record {
+  setting = s;
+  taken = t;
+  start = record t { history = t.history ++ words (seed_of degree shape) };
+  rounds = shape.num_rounds;
+}
+
+-- It was played whole: each round binds a variable, and rs are their challenges.
+pub record PlaysWhole (b : Batch) (after : Standing) (rs : List ℕ) : Type 0 where
+  pub whole : after.variables + b.rounds ≡ b.start.variables
+  pub played : IsPlayed b.setting b.start after rs
+
+-- Some of its rounds were played, from the first on.
+pub record PlaysSome (b : Batch) (after : Standing) : Type 0 where
+  pub within : b.start.variables ≤ after.variables + b.rounds
+  pub part : IsPlayedInPart b.setting b.start after
+
+-- Why it stops, and what that leaves: one that got no memory may have been broken off before its seed, and the round without a witness is as far as the
+-- variables that are left tell.
 abbrev pub BreaksOff : Batch → Standing → SumcheckError → Type 0
-BreaksOff b after = IsBatchStopped (after ≡ b.taken) b.setting b.start after b.rounds
+BreaksOff b after NoMemory = (after ≡ b.taken) ⊎ PlaysSome b after
+BreaksOff b after (NoWitness i) = (i < b.rounds) × (after.variables + i ≡ b.start.variables) × IsPlayedWithoutWitness b.setting b.start after
+BreaksOff b after e = ⊥
 
 -- what it leaves, by its result
 abbrev pub LeavesBatch : {X : Type 0} → (X → List ℕ) → Batch → Standing → Result X SumcheckError → Type 0
-LeavesBatch challenges b after (Ok x) = IsPlayed b.setting b.start after (challenges x)
+LeavesBatch challenges b after (Ok x) = PlaysWhole b after (challenges x)
 LeavesBatch challenges b after (Err e) = BreaksOff b after e

@@ -1,13 +1,11 @@
 //! Laws of batches, as contracts: a caller calls the function and has them.
-ghost use Rattle.std.specs.Prelude.{◌≡◌, ◌+◌, ◌≤◌, IfOk, IfErr, OnOk, map};
-ghost use Rattle.sc_definitions.specs.Channels.{empty_wire, footing};
+ghost use Rattle.std.specs.Prelude.{◌≡◌, ◌≤◌, map};
+ghost use Rattle.sc_definitions.specs.Channels.{empty_wire};
 ghost use Rattle.sc_transcript.specs.Data.{wire_in};
 ghost use Rattle.sc_transcript.specs.Shapes.{shape_of};
-ghost use Rattle.sc_rounds.specs.Products.{variables_in, order_in, evals_in};
-ghost use Rattle.sc_rounds.specs.Batches.{claim_with};
-ghost use Rattle.sc_rounds.specs.ProverViews.{standing_of, batch_of};
-ghost use Rattle.sc_rounds.specs.Provers.{IsTrueIfSome};
-ghost use Rattle.sc_rounds.specs.Laws.{BatchesReplay, ReplaysAgree, NoneIsInvalid, IsInStep, IsOutOfStep};
+ghost use Rattle.sc_rounds.specs.Provers.{claim_with, stated_if_some};
+ghost use Rattle.sc_rounds.specs.ProverViews.{shown_by, IsNoneOrTrueOf, standing_of, batch_of};
+ghost use Rattle.sc_rounds.specs.Laws.{BatchesReplay, ReplaysAgree, NoneIsInvalid, LeavesStep};
 
 use crate::strategy::SumcheckProver;
 use sc_challenger::Challenger;
@@ -47,24 +45,18 @@ pub fn batch_in_step<F: Field, EF: ExtensionField<F>, C: Challenger<F>>(
     pow_bits: usize,
     constraint: Option<Constraint<F, EF>>,
 ) -> Result<(Point<EF>, Point<EF>, EF), SumcheckError>
-    requires variables { folding_factor ≤ variables_in prover.old.poly }
+    requires variables { folding_factor ≤ (shown_by prover.old).variables }
     requires difficulty { pow_bits ≤ (C.rules prover_challenger.old).max_bits }
-    requires constraint { IsTrueIfSome EF.ops (λ x. EF.embedding (F.number x)) EF.number (variables_in prover.old.poly) (evals_in EF.number prover.old.poly) constraint }
+    requires constraint { IsNoneOrTrueOf prover.old constraint }
     requires rules { C.rules verifier_challenger.old ≡ C.rules prover_challenger.old }
     requires history { C.history verifier_challenger.old ≡ C.history prover_challenger.old }
     requires empty { wire_in F.number EF.number sumcheck_data.old ≡ empty_wire }
-    ensures step { IfOk result (λ x. IsInStep
-        (batch_of prover.old sumcheck_data.old constraint (C.rules prover_challenger.old) (C.history prover_challenger.old) EF.DEGREE (shape_of folding_factor pow_bits Basis.Evaluation))
-        (standing_of prover.new sumcheck_data.new (C.history prover_challenger.new))
-        (map EF.number x.0) (map EF.number x.1) (footing (C.history verifier_challenger.new) (EF.number x.2))) }
-    ensures broken { IfErr result (IsOutOfStep
-        (batch_of prover.old sumcheck_data.old constraint (C.rules prover_challenger.old) (C.history prover_challenger.old) EF.DEGREE (shape_of folding_factor pow_bits Basis.Evaluation))
-        (standing_of prover.new sumcheck_data.new (C.history prover_challenger.new))
-        (C.history verifier_challenger.old) (C.history verifier_challenger.new)) }
+    ensures step { LeavesStep (map EF.number) EF.number
+        (batch_of prover.old constraint sumcheck_data.old (C.rules prover_challenger.old) (C.history prover_challenger.old) (shape_of folding_factor pow_bits Basis.Evaluation))
+        (standing_of prover.new sumcheck_data.new (C.history prover_challenger.new)) (C.history verifier_challenger.old) (C.history verifier_challenger.new) result }
     ensures prover_rules { C.rules prover_challenger.new ≡ C.rules prover_challenger.old }
     ensures verifier_rules { C.rules verifier_challenger.new ≡ C.rules verifier_challenger.old }
-    ensures order { order_in prover.new.poly ≡ order_in prover.old.poly }
-    ensures fewer { OnOk result (variables_in prover.new.poly + folding_factor ≡ variables_in prover.old.poly) }
+    ensures order { (shown_by prover.new).order ≡ (shown_by prover.old).order }
 {
     let mut claim = with_claim(prover.claimed_sum(), &constraint);
     let drawn = prover.compute_sumcheck_polynomials(
@@ -91,7 +83,7 @@ fn with_claim<F: Field, EF: ExtensionField<F>>(
     mut claim: EF,
     constraint: &Option<Constraint<F, EF>>,
 ) -> EF
-    ensures { EF.number result ≡ claim_with EF.ops (λ x. EF.embedding (F.number x)) EF.number constraint.now (EF.number claim) }
+    ensures { EF.number result ≡ claim_with EF.ops (EF.number claim) (stated_if_some (λ x. EF.embedding (F.number x)) EF.number constraint.now) }
 {
     if let Some(constraint) = constraint {
         constraint.combine_evals(&mut claim);

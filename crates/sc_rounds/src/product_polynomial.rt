@@ -6,8 +6,6 @@ ghost use Rattle.sc_table.specs.Polys.{variables_of, table_of};
 ghost use Rattle.sc_table.specs.Strategy.{order_of};
 ghost use Rattle.sc_statements.specs.Constraints.{constraint_arity, constraint_challenge, constraint_power, constraint_statements};
 ghost use Rattle.sc_statements.specs.Batches.{AddsBatch};
-ghost use Rattle.sc_transcript.specs.Shapes.{seed_of};
-ghost use Rattle.sc_definitions.specs.Events.{words};
 
 use sc_challenger::Challenger;
 use sc_field::{ExtensionField, Field, IntoTranscriptField, NoMemory, with_room};
@@ -32,8 +30,7 @@ impl<F: Field, EF: ExtensionField<F>> ProductPolynomial<F, EF> {
     ghost use Rattle.sc_transcript.specs.Data.{wire_in, spare_in};
     ghost use Rattle.sc_transcript.specs.Drivers.{driver_in, Continues, HasRoundLeft, HasRoom};
     ghost use Rattle.sc_rounds.specs.Products.{variables_in, order_in, evals_in, weights_in, sum_in};
-    ghost use Rattle.sc_rounds.specs.Standings.{setting_in, standing_in, setting_on, standing_on, Moves, MovesHonestly, Counts, TakesItsRoom, PlaysAll, MovesBatch};
-    ghost use Rattle.sc_rounds.specs.Batches.{IsUnbegun};
+    ghost use Rattle.sc_rounds.specs.Standings.{setting_in, standing_in, setting_on, standing_on, Moves, MovesHonestly, Counts, TakesItsRoom, PlaysAll, batch_at, LeavesBatch};
 
     /// The pair of these tables, which have as many variables.
     pub fn new_unpacked(order: VariableOrder, evals: Poly<EF>, weights: Poly<EF>) -> Self
@@ -282,12 +279,10 @@ impl<F: Field, EF: ExtensionField<F>> ProductPolynomial<F, EF> {
         ensures rules { C.rules challenger.new ≡ C.rules challenger.old }
         ensures order { order_in self.new ≡ order_in self.old }
         ensures sum { EF.number sum.new ≡ sum_in EF.ops EF.number self.new }
-        ensures fewer { OnOk result (variables_in self.new + shape.num_rounds ≡ variables_in self.old) }
-        ensures left { variables_in self.old ≤ variables_in self.new + shape.num_rounds }
-        ensures batch { MovesBatch (map EG.number) (IsUnbegun self.old self.new sum.old sum.new (C.history challenger.old) (C.history challenger.new) sumcheck_data.old sumcheck_data.new)
-            (setting_in (channel (C.rules challenger.old) EG.extension G.ops.size shape.pow_bits) EG.ops self.old)
-            (standing_in (λ x. EF.to_number (EF.number x)) self.old sum.old (C.history challenger.old ++ words (seed_of EG.DEGREE shape)) (wire_in G.number EG.number sumcheck_data.old))
-            (standing_in (λ x. EF.to_number (EF.number x)) self.new sum.new (C.history challenger.new) (wire_in G.number EG.number sumcheck_data.new)) shape.num_rounds result }
+        ensures batch { LeavesBatch (map EG.number)
+            (batch_at (setting_in (channel (C.rules challenger.old) EG.extension G.ops.size shape.pow_bits) EG.ops self.old)
+            (standing_in (λ x. EF.to_number (EF.number x)) self.old sum.old (C.history challenger.old) (wire_in G.number EG.number sumcheck_data.old)) EG.DEGREE shape)
+            (standing_in (λ x. EF.to_number (EF.number x)) self.new sum.new (C.history challenger.new) (wire_in G.number EG.number sumcheck_data.new)) result }
     {
         let mut challenges = with_room(alloc, shape.num_rounds)?;
         shape.seed::<G, EG, C>(alloc, challenger)?;

@@ -1,17 +1,12 @@
 //! The prover of a sumcheck.
-ghost use Rattle.std.specs.Prelude.{◌≡◌, ◌↔◌, ◌⊎◌, ℕ, suc, ◌+◌, ◌<◌, ◌≤◌, ◌^◌, ◌++◌, Err, IfOk, IfErr, OnOk, OnErr, IsTrue, length, map};
+ghost use Rattle.std.specs.Prelude.{◌≡◌, ◌↔◌, ℕ, ◌<◌, ◌≤◌, ◌^◌, Err, IfOk, IfErr, OnErr, IsTrue, Some, length, map};
 ghost use Rattle.std.specs.Borrow.{sem};
 ghost use Rattle.std.specs.Io.BufRead.{Rests};
-ghost use Rattle.sc_definitions.specs.Ring.{plus};
-ghost use Rattle.sc_definitions.specs.Tables.{entries, value, inner};
-ghost use Rattle.sc_definitions.specs.Events.{words};
-ghost use Rattle.sc_definitions.specs.Seeds.{quadratic_seed};
-ghost use Rattle.sc_definitions.specs.Tables.{evaluation};
-ghost use Rattle.sc_table.specs.Polys.{variables_of, table_of};
+ghost use Rattle.sc_definitions.specs.Tables.{entries, rows_of, value};
+ghost use Rattle.sc_table.specs.Polys.{variables_of};
 ghost use Rattle.sc_table.specs.Strategy.{order_of};
-ghost use Rattle.sc_statements.specs.Batches.{AddsBatch};
-ghost use Rattle.sc_statements.specs.Constraints.{constraint_challenge, constraint_power, constraint_statements};
-ghost use Rattle.sc_rounds.specs.Products.{sum_in};
+ghost use Rattle.sc_rounds.specs.Products.{sum_in, numbers_of};
+ghost use Rattle.sc_rounds.specs.Provers.{shown_of, sum_with, IsTrueClaim, with_added};
 
 use crate::product_polynomial::ProductPolynomial;
 use sc_challenger::Challenger;
@@ -35,22 +30,15 @@ pub struct SumcheckProver<F: Field, EF: ExtensionField<F>> {
 }
 
 impl<F: Field, EF: ExtensionField<F>> SumcheckProver<F, EF> {
-    ghost use Rattle.sc_rounds.specs.Products.{variables_in, order_in, evals_in, weights_in};
     ghost use Rattle.sc_transcript.specs.Shapes.{shape_of};
     ghost use Rattle.sc_rounds.specs.Standings.{LeavesBatch};
-    ghost use Rattle.sc_rounds.specs.Batches.{weights_with, claim_with};
-    ghost use Rattle.sc_rounds.specs.ProverViews.{standing_of, batch_of, ShowsTheSame};
+    ghost use Rattle.sc_rounds.specs.ProverViews.{shown_by, IsTrueOf, IsNoneOrTrueOf, shown_with, standing_of, batch_of};
     ghost use Rattle.sc_rounds.specs.contracts.strategy.SumcheckProver.{the_row};
-    ghost use Rattle.sc_rounds.specs.Provers.{IsTrueConstraint, IsTrueIfSome};
 
     /// A prover of a claim that is true, as [`SumcheckProver::sum_is_true`] tests.
     pub fn new(poly: ProductPolynomial<F, EF>, sum: EF) -> Self
         requires { EF.number sum ≡ sum_in EF.ops EF.number poly }
-        ensures variables { variables_in result.poly ≡ variables_in poly }
-        ensures order { order_in result.poly ≡ order_in poly }
-        ensures evals { evals_in EF.number result.poly ≡ evals_in EF.number poly }
-        ensures weights { weights_in EF.number result.poly ≡ weights_in EF.number poly }
-        ensures claim { EF.number result.sum ≡ EF.number sum }
+        ensures { shown_by result ≡ shown_of EF.number poly sum }
     {
         SumcheckProver { poly, sum }
     }
@@ -64,56 +52,56 @@ impl<F: Field, EF: ExtensionField<F>> SumcheckProver<F, EF> {
 
     /// The claim.
     pub fn claimed_sum(&self) -> EF
-        ensures number { EF.number result ≡ EF.number self.now.sum }
+        ensures number { EF.number result ≡ (shown_by self.now).claim }
 
         // It is the sum over all rows of evaluation times weight.
-        ensures true_sum { EF.number self.now.sum ≡ inner EF.ops (variables_in self.now.poly) (evals_in EF.number self.now.poly) (weights_in EF.number self.now.poly) }
+        ensures true_sum { IsTrueClaim EF.ops (shown_by self.now) }
     {
         self.sum
     }
 
     /// How many variables are left.
     pub fn num_variables(&self) -> usize
-        ensures { result ≡ variables_in self.now.poly }
+        ensures { result ≡ (shown_by self.now).variables }
     {
         self.poly.num_variables()
     }
 
     /// The order in which rounds bind the variables.
     pub fn order(&self) -> VariableOrder
-        ensures { order_of result ≡ order_in self.now.poly }
+        ensures { order_of result ≡ (shown_by self.now).order }
     {
         self.poly.order()
     }
 
     /// Binds a challenge that is still held. None is: each is bound at once.
     pub fn settle(&mut self)
-        ensures { self.new ≡ self.old }
+        ensures { shown_by self.new ≡ shown_by self.old }
     {}
 
     /// The bound evaluations, in memory of their own.
     pub fn evals(&mut self, alloc: Global) -> Result<Poly<EF>, NoMemory>
-        ensures kept { self.new ≡ self.old }
-        ensures variables { IfOk result (λ p. variables_of p ≡ variables_in self.old.poly) }
-        ensures table { IfOk result (λ p. table_of EF.number p ≡ evals_in EF.number self.old.poly) }
+        ensures kept { shown_by self.new ≡ shown_by self.old }
+        ensures variables { IfOk result (λ p. variables_of p ≡ (shown_by self.old).variables) }
+        ensures table { IfOk result (λ p. numbers_of EF.number p ≡ (shown_by self.old).evals) }
     {
         self.poly.evals(alloc)
     }
 
     /// The bound weights, in memory of their own.
     pub fn weights(&mut self, alloc: Global) -> Result<Poly<EF>, NoMemory>
-        ensures kept { self.new ≡ self.old }
-        ensures variables { IfOk result (λ p. variables_of p ≡ variables_in self.old.poly) }
-        ensures table { IfOk result (λ p. table_of EF.number p ≡ weights_in EF.number self.old.poly) }
+        ensures kept { shown_by self.new ≡ shown_by self.old }
+        ensures variables { IfOk result (λ p. variables_of p ≡ (shown_by self.old).variables) }
+        ensures table { IfOk result (λ p. numbers_of EF.number p ≡ (shown_by self.old).weights) }
     {
         self.poly.weights(alloc)
     }
 
     /// The value of the bound table of evaluations alone, at a point of as many coordinates as variables are left.
     pub fn eval(&mut self, point: &Point<EF>) -> EF
-        requires { length point.now ≡ variables_in self.old.poly }
-        ensures kept { self.new ≡ self.old }
-        ensures number { EF.number result ≡ value EF.ops (evals_in EF.number self.old.poly) (map EF.number point.now) }
+        requires { length point.now ≡ (shown_by self.old).variables }
+        ensures kept { shown_by self.new ≡ shown_by self.old }
+        ensures number { EF.number result ≡ value EF.ops (rows_of (shown_by self.old).evals) (map EF.number point.now) }
     {
         self.poly.eval(point)
     }
@@ -125,8 +113,8 @@ impl<F: Field, EF: ExtensionField<F>> SumcheckProver<F, EF> {
         alloc: Global,
         c: &Constraint<F, EF>,
     ) -> Result<bool, NoMemory>
-        ensures kept { self.new ≡ self.old }
-        ensures told { IfOk result (λ told. IsTrue told ↔ IsTrueConstraint EF.ops (λ x. EF.embedding (F.number x)) EF.number (variables_in self.old.poly) (evals_in EF.number self.old.poly) c.now) }
+        ensures kept { shown_by self.new ≡ shown_by self.old }
+        ensures told { IfOk result (λ told. IsTrue told ↔ IsTrueOf self.old c.now) }
     {
         if c.num_variables() != self.poly.num_variables() {
             return Ok(false);
@@ -141,19 +129,18 @@ impl<F: Field, EF: ExtensionField<F>> SumcheckProver<F, EF> {
 
     /// The bound evaluations, row 0 first. Once they are given back the prover shows what it showed before.
     pub fn evals_view(&mut self) -> &[EF]
-        ensures* kept { sem 𝓛 (Rests (the_row F.row EF.row _ _ _ _ _ _) self.entry (λ after. ShowsTheSame self.old after)) }
-        ensures numbers { entries EF.number result.now ≡ evals_in EF.number self.old.poly }
-        ensures size { length result.now ≡ 2 ^ variables_in self.old.poly }
+        ensures* kept { sem 𝓛 (Rests (the_row F.row EF.row _ _ _ _ _ _) self.entry (λ after. shown_by after ≡ shown_by self.old)) }
+        ensures numbers { map EF.number result.now ≡ (shown_by self.old).evals }
+        ensures size { length result.now ≡ 2 ^ (shown_by self.old).variables }
     {
         self.poly.evals_view()
     }
 
     /// Whether the sum over all rows of evaluation times these values, as many as there are rows, is this one. It takes no memory.
     pub fn delta_is_true(&mut self, weights_delta: &[EF], sum_delta: EF) -> bool
-        requires { length weights_delta.now ≡ 2 ^ variables_in self.old.poly }
-        ensures kept { self.new ≡ self.old }
-        ensures told { IsTrue result
-            ↔ (EF.number sum_delta ≡ inner EF.ops (variables_in self.old.poly) (evals_in EF.number self.old.poly) (entries EF.number weights_delta.now)) }
+        requires { length weights_delta.now ≡ 2 ^ (shown_by self.old).variables }
+        ensures kept { shown_by self.new ≡ shown_by self.old }
+        ensures told { IsTrue result ↔ (EF.number sum_delta ≡ sum_with EF.ops (shown_by self.old) (entries EF.number weights_delta.now)) }
     {
         self.poly.dot_with(weights_delta).index() == sum_delta.index()
     }
@@ -161,14 +148,9 @@ impl<F: Field, EF: ExtensionField<F>> SumcheckProver<F, EF> {
     /// Adds to the weights, row by row, as many values as there are rows, and to the claim their sum times the evaluations, as
     /// [`SumcheckProver::delta_is_true`] tests. The evaluations stay.
     pub fn accumulate_claim(&mut self, weights_delta: &[EF], sum_delta: EF)
-        requires rows { length weights_delta.now ≡ 2 ^ variables_in self.old.poly }
-        requires sum { EF.number sum_delta ≡ inner EF.ops (variables_in self.old.poly) (evals_in EF.number self.old.poly) (entries EF.number weights_delta.now) }
-        ensures variables { variables_in self.new.poly ≡ variables_in self.old.poly }
-        ensures order { order_in self.new.poly ≡ order_in self.old.poly }
-        ensures evals { evals_in EF.number self.new.poly ≡ evals_in EF.number self.old.poly }
-        ensures weights { (b : ℕ) → b < 2 ^ variables_in self.old.poly
-            → weights_in EF.number self.new.poly b ≡ plus EF.ops (weights_in EF.number self.old.poly b) (entries EF.number weights_delta.now b) }
-        ensures claim { EF.number self.new.sum ≡ plus EF.ops (EF.number self.old.sum) (EF.number sum_delta) }
+        requires rows { length weights_delta.now ≡ 2 ^ (shown_by self.old).variables }
+        requires sum { EF.number sum_delta ≡ sum_with EF.ops (shown_by self.old) (entries EF.number weights_delta.now) }
+        ensures { shown_by self.new ≡ with_added EF.ops (shown_by self.old) (entries EF.number weights_delta.now) (EF.number sum_delta) }
     {
         let SumcheckProver { poly, sum } = self;
         poly.add_weights(weights_delta);
@@ -190,16 +172,14 @@ impl<F: Field, EF: ExtensionField<F>> SumcheckProver<F, EF> {
         pow_bits: usize,
         constraint: Option<Constraint<F, EF>>,
     ) -> Result<Point<EF>, SumcheckError>
-        requires variables { folding_factor ≤ variables_in self.old.poly }
+        requires variables { folding_factor ≤ (shown_by self.old).variables }
         requires difficulty { pow_bits ≤ (C.rules challenger.old).max_bits }
-        requires constraint { IsTrueIfSome EF.ops (λ x. EF.embedding (F.number x)) EF.number (variables_in self.old.poly) (evals_in EF.number self.old.poly) constraint }
+        requires constraint { IsNoneOrTrueOf self.old constraint }
         ensures rules { C.rules challenger.new ≡ C.rules challenger.old }
-        ensures order { order_in self.new.poly ≡ order_in self.old.poly }
-        ensures fewer { OnOk result (variables_in self.new.poly + folding_factor ≡ variables_in self.old.poly) }
+        ensures order { (shown_by self.new).order ≡ (shown_by self.old).order }
         ensures batch { LeavesBatch (map EF.number)
-            (batch_of self.old sumcheck_data.old constraint (C.rules challenger.old) (C.history challenger.old) EF.DEGREE (shape_of folding_factor pow_bits Basis.Evaluation))
+            (batch_of self.old constraint sumcheck_data.old (C.rules challenger.old) (C.history challenger.old) (shape_of folding_factor pow_bits Basis.Evaluation))
             (standing_of self.new sumcheck_data.new (C.history challenger.new)) result }
-        ensures left { variables_in self.old.poly ≤ variables_in self.new.poly + folding_factor }
     {
         self.take_in_if_some(alloc, constraint);
         let shape = SumcheckShape::new(folding_factor, pow_bits, Basis::Evaluation);
@@ -209,13 +189,8 @@ impl<F: Field, EF: ExtensionField<F>> SumcheckProver<F, EF> {
 
     // Takes in a constraint, if there is one, which is true.
     fn take_in_if_some(&mut self, alloc: Global, constraint: Option<Constraint<F, EF>>)
-        requires { IsTrueIfSome EF.ops (λ x. EF.embedding (F.number x)) EF.number (variables_in self.old.poly) (evals_in EF.number self.old.poly) constraint }
-        ensures variables { variables_in self.new.poly ≡ variables_in self.old.poly }
-        ensures order { order_in self.new.poly ≡ order_in self.old.poly }
-        ensures evals { evals_in EF.number self.new.poly ≡ evals_in EF.number self.old.poly }
-        ensures weights { (b : ℕ) → b < 2 ^ variables_in self.old.poly → weights_in EF.number self.new.poly b
-            ≡ weights_with EF.ops (λ x. EF.embedding (F.number x)) EF.number constraint (weights_in EF.number self.old.poly) b }
-        ensures claim { EF.number self.new.sum ≡ claim_with EF.ops (λ x. EF.embedding (F.number x)) EF.number constraint (EF.number self.old.sum) }
+        requires { IsNoneOrTrueOf self.old constraint }
+        ensures { shown_by self.new ≡ shown_with self.old constraint }
     {
         if let Some(constraint) = constraint {
             self.take_in(alloc, &constraint);
@@ -224,13 +199,8 @@ impl<F: Field, EF: ExtensionField<F>> SumcheckProver<F, EF> {
 
     // Adds the batch of a true constraint to the weights and to the claim.
     fn take_in(&mut self, alloc: Global, constraint: &Constraint<F, EF>)
-        requires { IsTrueConstraint EF.ops (λ x. EF.embedding (F.number x)) EF.number (variables_in self.old.poly) (evals_in EF.number self.old.poly) constraint.now }
-        ensures variables { variables_in self.new.poly ≡ variables_in self.old.poly }
-        ensures order { order_in self.new.poly ≡ order_in self.old.poly }
-        ensures evals { evals_in EF.number self.new.poly ≡ evals_in EF.number self.old.poly }
-        ensures added { AddsBatch EF.ops (variables_in self.old.poly) (constraint_challenge EF.number constraint.now) (constraint_power constraint.now)
-            (constraint_statements (λ x. EF.embedding (F.number x)) EF.number constraint.now)
-            (weights_in EF.number self.old.poly) (weights_in EF.number self.new.poly) (EF.number self.old.sum) (EF.number self.new.sum) }
+        requires { IsTrueOf self.old constraint.now }
+        ensures { shown_by self.new ≡ shown_with self.old (Some constraint.now) }
     {
         self.poly.combine(alloc, &mut self.sum, constraint).unwrap();
     }

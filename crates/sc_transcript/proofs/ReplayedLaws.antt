@@ -1,5 +1,5 @@
 -- What a replay leaves, round after round and by its result.
-use Rattle.std.proofs.Common.{◌≡◌, ◌≢◌, ◌⊎◌, ◌↔◌, ℕ, ◌+◌, ◌<◌, ◌≤◌, List, [], ◌∷◌, ◌++◌, take, length, map, refl, ap, subst, ◌∙◌, inl, inr, Option, Some, None, Result, Ok, Err, IsSome, IfOk, OnErr, arith}
+use Rattle.std.proofs.Common.{◌≡◌, ◌≢◌, ◌⊎◌, ◌↔◌, ℕ, ◌+◌, ◌<◌, ◌≤◌, List, [], ◌∷◌, ◌++◌, take, length, map, refl, ap, sym, subst, ◌∙◌, inl, inr, Option, Some, None, Result, Ok, Err, IsSome, IfOk, OnErr, arith}
 use Rattle.std.specs.List.{slice_get}
 use Rattle.std.proofs.lemmas.Bool.Decides.{nat_tests}
 use Rattle.std.proofs.lemmas.List.{map-append}
@@ -8,7 +8,7 @@ use Rattle.sc_definitions.specs.declared.events.Event.{Event}
 use Rattle.sc_definitions.specs.Events.{Rules, Extension}
 use Rattle.sc_definitions.specs.Transcript.{Round}
 use Rattle.sc_definitions.specs.Channels.{Channel, channel, Footing, footing, IsTaken, WitnessFails, IsReplayed, IsReplayedInPart, FailsAt}
-use Rattle.sc_definitions.proofs.ReplayLaws.{Replays-none, Replays-more, take_whole}
+use Rattle.sc_definitions.proofs.ReplayLaws.{replayed-none, replayed-more, take_whole}
 use Rattle.sc_transcript.specs.declared.error.SumcheckError.{SumcheckError}
 use Rattle.sc_transcript.specs.declared.error.SumcheckError.TheVariants.{InvalidPowWitness, MissingPowWitness, RoundCountMismatch, PowWitnessCountMismatch, NoMemory}
 use Rattle.sc_transcript.specs.Data.{witness_count}
@@ -22,19 +22,18 @@ use Rattle.sc_transcript.specs.Replayed.{Leaves, Replay, IsCounted, LeavesReplay
 pub same_channel : (R R' : Rules) (E : Extension) (size bits bits' : ℕ) → R ≡ R' → bits ≡ bits' → channel R E size bits ≡ channel R' E size bits'
 same_channel R R' E size bits bits' er eb = rw (er, eb) refl
 
-pub replays_begin : (next : ℕ → List ℕ → ℕ → ℕ) (c : Channel) (h₀ h : List Event) (claim : ℕ) (out : List ℕ) → h ≡ h₀ → out ≡ [] →
-    IsReplayed next c (footing h₀ claim) (footing h claim) [] out
-replays_begin next c h₀ h claim out eh eo = rw (eh, eo) (Replays-none next c.rules c.extension c.bits h₀ claim)
+pub replays_begin : (next : ℕ → List ℕ → ℕ → ℕ) (c : Channel) (h₀ h : List Event) (claim : ℕ) (rs : List ℕ) → h ≡ h₀ → rs ≡ [] →
+    IsReplayed next c (footing h₀ claim) (footing h claim) [] rs
+replays_begin next c h₀ h claim rs eh er = rw (eh, er) (replayed-none next c (footing h₀ claim))
 
-pub replays_step : {X : Type 0} (number : X → ℕ) (next : ℕ → List ℕ → ℕ → ℕ) (c c₁ : Channel) (before at after : Footing) (rs : List Round) (i : ℕ) (r : Round) (out out₁ : List X) (x : X) →
-    slice_get rs i ≡ Some r → c₁ ≡ c → IsReplayed next c before at (take i rs) (map number out) →
+pub replays_step : {X : Type 0} (number : X → ℕ) (next : ℕ → List ℕ → ℕ → ℕ) (c c₁ : Channel) (before at after : Footing) (rounds : List Round) (i : ℕ) (r : Round) (out out₁ : List X) (x : X) →
+    slice_get rounds i ≡ Some r → c₁ ≡ c → IsReplayed next c before at (take i rounds) (map number out) →
     IsTaken c₁ at.history r (number x) after.history → after.claim ≡ next at.claim r.values (number x) → out₁ ≡ out ++ x ∷ [] →
-    IsReplayed next c before after (take (i + 1) rs) (map number out₁)
-replays_step number next c c₁ before at after rs i r out out₁ x is same p q ec eo =
+    IsReplayed next c before after (take (i + 1) rounds) (map number out₁)
+replays_step number next c c₁ before at after rounds i r out out₁ x is same p q ec eo =
     let taken = subst (λ k. IsTaken k at.history r (number x) after.history) same q in
-    Replays-more next c.rules c.rules c.extension c.bits c.bits before.history before.claim rs i r at.history after.history (map number out) (map number out₁) at.claim after.claim (number x)
-    (slice_get_within rs i r is) (get_or_from_slice_get rs i r r is) refl refl p
-    taken.history taken.drawn ec taken.passes (ap (map number) eo ∙ map-append number out (x ∷ []))
+    subst (IsReplayed next c before after (take (i + 1) rounds)) (sym (ap (map number) eo ∙ map-append number out (x ∷ [])))
+    (replayed-more next c before at after rounds i r (map number out) (number x) (slice_get_within rounds i r is) (get_or_from_slice_get rounds i r r is) p taken ec)
 
 pub replays_end : (next : ℕ → List ℕ → ℕ → ℕ) (c : Channel) (before : Footing) (rs : List Round) (i : ℕ) (h h' : List Event) (claim : ℕ) (out out' : List ℕ) →
     i ≡ length rs → h' ≡ h → out' ≡ out → IsReplayed next c before (footing h claim) (take i rs) out → IsReplayed next c before (footing h' claim) rs out'
@@ -71,7 +70,7 @@ pub leaves_rejected : {X W : Type 0} (number : X → ℕ) (next : ℕ → List �
     (i < k → IsSome came) → k ≡ witness_count c.bits n → i < n → RejectsRound E d d' r came error → h ≡ d'.history →
     Leaves number next c before rs (Err error) (footing h claim)
 leaves_rejected number next E d d' c before rs i n k r claim out NoMemory came h same ei p is some count lt told left =
-    inl (refl, record { count = i; out = out; replays = rw (left ∙ told.why) p })
+    inl (refl, record { count = i; rs = out; replays = rw (left ∙ told.why) p })
 leaves_rejected number next E d d' c before rs i n k r claim out (MissingPowWitness j b) came h same ei p is some count lt told left =
     let positive : 0 < c.bits = subst (λ t. 0 < t) (ap (λ (ch : Channel). ch.bits) same) told.why.2 in
     absurd (some_is_some came (some (witness_due c.bits n i k positive count lt)) told.why.3)
@@ -81,7 +80,7 @@ leaves_rejected number next E d d' c before rs i n k r claim out (InvalidPowWitn
     inr (
       j,
       ap (InvalidPowWitness j) (told.why.1 ∙ ap (λ (ch : Channel). ch.bits) same),
-      record { out = out; before = d.history; replays = rw place p; round = r; is = rw place is; fails = fails.fails; history = left ∙ fails.history },
+      record { rs = out; last = d.history; replays = rw place p; round = r; is = rw place is; test = record { fails = fails.fails; history = left ∙ fails.history } },
     )
 leaves_rejected number next E d d' c before rs i n k r claim out error came h same ei p is some count lt told left = absurd told.why
 

@@ -1,11 +1,7 @@
 //! The prover whose tables are held in a representation of the field in which the transcript is written.
-ghost use Rattle.std.specs.Prelude.{◌≡◌, ◌↔◌, ◌⊎◌, ℕ, suc, ◌+◌, ◌<◌, ◌≤◌, ◌++◌, Err, IfOk, IfErr, OnOk, OnErr, IsTrue, map};
-ghost use Rattle.sc_definitions.specs.Tables.{evaluation, inner};
-ghost use Rattle.sc_definitions.specs.Events.{words};
-ghost use Rattle.sc_definitions.specs.Seeds.{quadratic_seed};
+ghost use Rattle.std.specs.Prelude.{◌≡◌, ◌↔◌, ℕ, ◌≤◌, Err, IfOk, IfErr, OnErr, IsTrue, map};
 ghost use Rattle.sc_table.specs.Polys.{variables_of, table_of};
-ghost use Rattle.sc_table.specs.Strategy.{order_of};
-ghost use Rattle.sc_rounds.specs.Products.{sum_in};
+ghost use Rattle.sc_rounds.specs.Products.{sum_in, numbers_of};
 
 use crate::product_polynomial::{ProductPolynomial, dot};
 use crate::strategy::SumcheckProver;
@@ -30,18 +26,14 @@ pub struct ReprSumcheckProver<F: Field, EF: ExtensionField<F>, R: IntoTranscript
 }
 
 impl<F: Field, EF: ExtensionField<F>, R: IntoTranscriptField<EF>> ReprSumcheckProver<F, EF, R> {
-    ghost use Rattle.sc_rounds.specs.Products.{variables_in, order_in, evals_in, weights_in};
-    ghost use Rattle.sc_rounds.specs.Standings.{MovesBatch};
-    ghost use Rattle.sc_rounds.specs.ProverViews.{image_setting_of, image_standing_of};
-    ghost use Rattle.sc_rounds.specs.Represented.{TablesAgree};
+    ghost use Rattle.sc_transcript.specs.Shapes.{shape_of};
+    ghost use Rattle.sc_rounds.specs.Standings.{LeavesBatch};
+    ghost use Rattle.sc_rounds.specs.ProverViews.{shown_by, image_shown_by, image_standing_of, image_batch_of};
+    ghost use Rattle.sc_rounds.specs.Represented.{TablesAgree, tables_shown};
 
     /// The same prover with its tables and its claim in `R`. A prover that is refused is given up.
     pub fn new(alloc: Global, prover: SumcheckProver<F, EF>) -> Result<Self, NoMemory>
-        ensures variables { IfOk result (λ p. variables_in p.poly ≡ variables_in prover.poly) }
-        ensures order { IfOk result (λ p. order_in p.poly ≡ order_in prover.poly) }
-        ensures evals { IfOk result (λ p. evals_in (λ x. R.to_number (R.number x)) p.poly ≡ evals_in EF.number prover.poly) }
-        ensures weights { IfOk result (λ p. weights_in (λ x. R.to_number (R.number x)) p.poly ≡ weights_in EF.number prover.poly) }
-        ensures claim { IfOk result (λ p. R.to_number (R.number p.sum) ≡ EF.number prover.sum) }
+        ensures { IfOk result (λ p. image_shown_by p ≡ shown_by prover) }
     {
         let SumcheckProver { poly, sum } = prover;
         let (order, evals, weights) = poly.into_tables();
@@ -58,13 +50,8 @@ impl<F: Field, EF: ExtensionField<F>, R: IntoTranscriptField<EF>> ReprSumcheckPr
         weights: Poly<R>,
         sum: EF,
     ) -> Result<Self, NoMemory>
-        requires variables { variables_of evals ≡ variables_of weights }
-        requires sum { EF.number sum ≡ inner EF.ops (variables_of evals) (table_of EF.number evals) (table_of (λ x. R.to_number (R.number x)) weights) }
-        ensures variables { IfOk result (λ p. variables_in p.poly ≡ variables_of evals) }
-        ensures order { IfOk result (λ p. order_in p.poly ≡ order_of order) }
-        ensures evals { IfOk result (λ p. evals_in (λ x. R.to_number (R.number x)) p.poly ≡ table_of EF.number evals) }
-        ensures weights { IfOk result (λ p. weights_in (λ x. R.to_number (R.number x)) p.poly ≡ table_of (λ x. R.to_number (R.number x)) weights) }
-        ensures claim { IfOk result (λ p. R.to_number (R.number p.sum) ≡ EF.number sum) }
+        requires { TablesAgree EF.ops EF.number (λ x. R.to_number (R.number x)) evals weights (EF.number sum) }
+        ensures { IfOk result (λ p. image_shown_by p ≡ tables_shown EF.number (λ x. R.to_number (R.number x)) order evals weights (EF.number sum)) }
     {
         let evals = represented(alloc, evals)?;
         let poly = ProductPolynomial::new_unpacked(order, evals, weights);
@@ -86,37 +73,37 @@ impl<F: Field, EF: ExtensionField<F>, R: IntoTranscriptField<EF>> ReprSumcheckPr
 
     /// The claim.
     pub fn claimed_sum(&self) -> EF
-        ensures { EF.number result ≡ R.to_number (R.number self.now.sum) }
+        ensures { EF.number result ≡ (image_shown_by self.now).claim }
     {
         self.sum.into_transcript()
     }
 
     /// How many variables are left.
     pub fn num_variables(&self) -> usize
-        ensures { result ≡ variables_in self.now.poly }
+        ensures { result ≡ (image_shown_by self.now).variables }
     {
         self.poly.num_variables()
     }
 
     /// Binds a challenge that is still held. None is: each is bound at once.
     pub fn settle(&mut self)
-        ensures { self.new ≡ self.old }
+        ensures { image_shown_by self.new ≡ image_shown_by self.old }
     {}
 
     /// The bound evaluations, as they are held, in memory of their own.
     pub fn evals(&mut self, alloc: Global) -> Result<Poly<R>, NoMemory>
-        ensures kept { self.new ≡ self.old }
-        ensures variables { IfOk result (λ p. variables_of p ≡ variables_in self.old.poly) }
-        ensures table { IfOk result (λ p. table_of (λ x. R.to_number (R.number x)) p ≡ evals_in (λ x. R.to_number (R.number x)) self.old.poly) }
+        ensures kept { image_shown_by self.new ≡ image_shown_by self.old }
+        ensures variables { IfOk result (λ p. variables_of p ≡ (image_shown_by self.old).variables) }
+        ensures table { IfOk result (λ p. numbers_of (λ x. R.to_number (R.number x)) p ≡ (image_shown_by self.old).evals) }
     {
         self.poly.evals(alloc)
     }
 
     /// The bound weights, as they are held, in memory of their own.
     pub fn weights(&mut self, alloc: Global) -> Result<Poly<R>, NoMemory>
-        ensures kept { self.new ≡ self.old }
-        ensures variables { IfOk result (λ p. variables_of p ≡ variables_in self.old.poly) }
-        ensures table { IfOk result (λ p. table_of (λ x. R.to_number (R.number x)) p ≡ weights_in (λ x. R.to_number (R.number x)) self.old.poly) }
+        ensures kept { image_shown_by self.new ≡ image_shown_by self.old }
+        ensures variables { IfOk result (λ p. variables_of p ≡ (image_shown_by self.old).variables) }
+        ensures table { IfOk result (λ p. numbers_of (λ x. R.to_number (R.number x)) p ≡ (image_shown_by self.old).weights) }
     {
         self.poly.weights(alloc)
     }
@@ -133,17 +120,13 @@ impl<F: Field, EF: ExtensionField<F>, R: IntoTranscriptField<EF>> ReprSumcheckPr
         folding_factor: usize,
         pow_bits: usize,
     ) -> Result<Point<EF>, SumcheckError>
-        requires variables { folding_factor ≤ variables_in self.old.poly }
+        requires variables { folding_factor ≤ (image_shown_by self.old).variables }
         requires difficulty { pow_bits ≤ (C.rules challenger.old).max_bits }
         ensures rules { C.rules challenger.new ≡ C.rules challenger.old }
-        ensures order { order_in self.new.poly ≡ order_in self.old.poly }
-        ensures fewer { OnOk result (variables_in self.new.poly + folding_factor ≡ variables_in self.old.poly) }
-        ensures batch { MovesBatch (map EF.number)
-            (image_standing_of self.new sumcheck_data.new (C.history challenger.new) ≡ image_standing_of self.old sumcheck_data.old (C.history challenger.old))
-            (image_setting_of self.old (C.rules challenger.old) pow_bits)
-            (image_standing_of self.old sumcheck_data.old (C.history challenger.old ++ words (quadratic_seed EF.DEGREE evaluation pow_bits folding_factor)))
-            (image_standing_of self.new sumcheck_data.new (C.history challenger.new)) folding_factor result }
-        ensures left { variables_in self.old.poly ≤ variables_in self.new.poly + folding_factor }
+        ensures order { (image_shown_by self.new).order ≡ (image_shown_by self.old).order }
+        ensures batch { LeavesBatch (map EF.number)
+            (image_batch_of self.old sumcheck_data.old (C.rules challenger.old) (C.history challenger.old) (shape_of folding_factor pow_bits Basis.Evaluation))
+            (image_standing_of self.new sumcheck_data.new (C.history challenger.new)) result }
     {
         let shape = SumcheckShape::new(folding_factor, pow_bits, Basis::Evaluation);
         self.poly

@@ -1,5 +1,4 @@
-use Rattle.std.proofs.Common.{List, refl, ◌++◌, inr, ap, sym, ◌∙◌}
-use Rattle.std.proofs.lemmas.Result.{IfOk-from_err}
+use Rattle.std.proofs.Common.{List, refl, ◌++◌, inr, ap, sym, ◌∙◌, map}
 use Rattle.std.proofs.lemmas.List.{length-map}
 use Rattle.sc_definitions.specs.Tables.{evaluation}
 use Rattle.sc_definitions.specs.Events.{words}
@@ -8,7 +7,8 @@ use Rattle.sc_definitions.specs.declared.events.Event.{Event}
 use Rattle.sc_definitions.specs.Channels.{channel}
 use Rattle.sc_rounds.proofs.TakenLaws.{claim_begun, same_footing}
 use Rattle.sc_transcript.specs.declared.error.SumcheckError.TheVariants.{NoMemory}
-use Rattle.sc_rounds.proofs.InStep.{message_count, found_count, same_challenges, same_ends, wants_memory, err_as, not_begun}
+use Rattle.sc_rounds.proofs.InStep.{message_count, found_count, same_challenges, same_ends, wants_memory, step_as, not_begun}
+use Rattle.sc_rounds.specs.ProverViews.{stated_to}
 use Rattle.sc_rounds.proofs.laws.batch_in_step.Goals as goal
 
 -- the prover's call asks for what the caller gives
@@ -27,16 +27,12 @@ verify_rounds-requires g c = rw c.requires.rules c.requires.difficulty
 
 -- the prover's refusal: the verifier has not begun
 pub returns-in_err-drawn : goal.returns-in_err-drawn
-returns-in_err-drawn g c =
-    let none = c.from_residual.ensures.0 in
-    record {
-      step = IfOk-from_err _ _ none;
-      broken = err_as _ _ _ c.from_residual.ensures.1 (not_begun _ _ _ _ c.in_err-drawn.ensures.batch);
-      prover_rules = c.in_err-drawn.ensures.rules;
-      verifier_rules = refl;
-      order = c.in_err-drawn.ensures.order;
-      fewer = IfOk-from_err _ _ none;
-    }
+returns-in_err-drawn g c = record {
+  step = step_as (map g.EF.Field.number) g.EF.Field.number _ _ _ _ _ _ c.from_residual.ensures.1 (not_begun _ _ _ _ c.in_err-drawn.ensures.batch);
+  prover_rules = c.in_err-drawn.ensures.rules;
+  verifier_rules = refl;
+  order = c.in_err-drawn.ensures.order;
+}
 
 -- the verifier's refusal: the prover has played
 pub returns-in_err-replayed : goal.returns-in_err-replayed
@@ -45,21 +41,20 @@ returns-in_err-replayed g c =
     let C = channel (g.C.Challenger.rules c.args.verifier_challenger.now) g.EF.ExtensionField.extension g.F.Field.ops.size c.args.pow_bits in
     let same = ap (λ R. channel R g.EF.ExtensionField.extension g.F.Field.ops.size c.args.pow_bits) c.requires.rules in
     let seed = λ (h : List Event). h ++ words (quadratic_seed g.EF.ExtensionField.DEGREE evaluation c.args.pow_bits c.args.folding_factor) in
-    let claim = claim_begun g.EF.Field.ops (λ x. g.EF.Algebra.embedding (g.F.Field.number x)) N c.args.constraint _ _ _ c.claimed_sum.ensures.number c.with_claim-claim.ensures in
+    let claim = claim_begun g.EF.Field.ops (stated_to c.args.prover.now c.args.constraint) _ _ _ c.claimed_sum.ensures.number c.with_claim-claim.ensures in
     let begun = same_footing (ap seed c.requires.history) claim in
     let kept = c.compute_sumcheck_polynomials.new.sumcheck_data in
-    let played = c.in_ok-drawn.ensures.batch in
-    let counted = kept.polynomial_evaluations.ok.0 ∙ sym (length-map _ _) ∙ message_count _ _ _ _ C _ c.requires.empty same begun played c.args.folding_factor c.in_ok-drawn.ensures.fewer in
-    let witnessed = kept.pow_witnesses.ok.0 ∙ sym (length-map _ _) ∙ found_count _ _ _ _ C _ c.requires.empty same begun played c.args.folding_factor c.in_ok-drawn.ensures.fewer in
+    let whole = c.in_ok-drawn.ensures.batch.whole in
+    let played = c.in_ok-drawn.ensures.batch.played in
+    let counted = kept.polynomial_evaluations.ok.0 ∙ sym (length-map _ _) ∙ message_count _ _ _ _ C _ c.requires.empty same begun played c.args.folding_factor whole in
+    let witnessed = kept.pow_witnesses.ok.0 ∙ sym (length-map _ _) ∙ found_count _ _ _ _ C _ c.requires.empty same begun played c.args.folding_factor whole in
     let told = wants_memory _ _ _ _ C _ c.requires.empty same begun played N _ _ c.args.folding_factor _ _ c.in_err-replayed.field-0.0 _ counted witnessed c.in_err-replayed.ensures.left in
-    let none = c.from_residual-in_err-replayed.ensures.0 in
     record {
-      step = IfOk-from_err _ _ none;
-      broken = err_as _ _ NoMemory (rw told.0 at c.from_residual-in_err-replayed.ensures.1) (inr (record { rs = _; played = played; whole = c.in_ok-drawn.ensures.fewer; left = told.1 }));
+      step = step_as (map N) N _ _ _ _ _ NoMemory (rw told.0 at c.from_residual-in_err-replayed.ensures.1)
+          (inr (record { rs = _; played = c.in_ok-drawn.ensures.batch; left = told.1 }));
       prover_rules = c.in_ok-drawn.ensures.rules;
       verifier_rules = c.in_err-replayed.ensures.rules;
       order = c.in_ok-drawn.ensures.order;
-      fewer = IfOk-from_err _ _ none;
     }
 
 -- both are in step
@@ -69,19 +64,17 @@ returns g c =
     let C = channel (g.C.Challenger.rules c.args.verifier_challenger.now) g.EF.ExtensionField.extension g.F.Field.ops.size c.args.pow_bits in
     let same = ap (λ R. channel R g.EF.ExtensionField.extension g.F.Field.ops.size c.args.pow_bits) c.requires.rules in
     let seed = λ (h : List Event). h ++ words (quadratic_seed g.EF.ExtensionField.DEGREE evaluation c.args.pow_bits c.args.folding_factor) in
-    let claim = claim_begun g.EF.Field.ops (λ x. g.EF.Algebra.embedding (g.F.Field.number x)) N c.args.constraint _ _ _ c.claimed_sum.ensures.number c.with_claim-claim.ensures in
+    let claim = claim_begun g.EF.Field.ops (stated_to c.args.prover.now c.args.constraint) _ _ _ c.claimed_sum.ensures.number c.with_claim-claim.ensures in
     let begun = same_footing (ap seed c.requires.history) claim in
-    let played = c.in_ok-drawn.ensures.batch in
+    let played = c.in_ok-drawn.ensures.batch.played in
     let replayed = c.in_ok-replayed.ensures.left.1 in
     record {
       step = record {
-        played = played;
+        played = c.in_ok-drawn.ensures.batch;
         challenges = same_challenges _ _ _ _ C _ c.requires.empty same begun played _ _ replayed;
         ends = same_ends _ _ _ _ C _ c.requires.empty same begun played _ _ replayed;
       };
-      broken = tt;
       prover_rules = c.in_ok-drawn.ensures.rules;
       verifier_rules = c.in_ok-replayed.ensures.rules;
       order = c.in_ok-drawn.ensures.order;
-      fewer = c.in_ok-drawn.ensures.fewer;
     }

@@ -4,7 +4,7 @@ use Rattle.sc_transcript.specs.Data.{wire_in}
 use Rattle.sc_transcript.proofs.ReplayedLaws.{same_channel}
 use Rattle.sc_transcript.proofs.Lent.{returned}
 use Rattle.sc_rounds.specs.Standings.{standing_in}
-use Rattle.sc_rounds.proofs.BatchLaws.{same_setting, played_at, stops_batch, never_begun, bound_at_most, as_many, sum_at}
+use Rattle.sc_rounds.proofs.BatchLaws.{same_setting, played_at, stops_batch, never_begun, sum_at}
 use Rattle.sc_rounds.proofs.product_polynomial.ProductPolynomial.play_batch.Goals as goal
 
 pub returns-in-Ok-clause-batch : goal.returns-in-Ok-clause-batch
@@ -14,11 +14,14 @@ returns-in-Ok-clause-batch g c =
     let R = g.C.Challenger.rules in
     let W = wire_in g.G.Field.number g.EG.Field.number in
     let begun = c.over-transcript.ensures in
-    played_at _ _ _ _ _ _ _ _
-    (same_setting _ _ _ _ _ (same_channel _ _ _ g.G.Field.ops.size _ _ (ap R begun.lent.same ∙ c.in_ok-seed.ensures.rules) (ap (λ s. s.pow_bits) begun.fresh.shape)) refl)
-    (ap (λ h. standing_in T c.args.self.now c.args.sum.now h (W c.args.sumcheck_data.now)) (ap H begun.lent.same ∙ c.in_ok-seed.ensures.ok))
-    (ap (λ h. standing_in T c.play.new.self c.play.new.sum h (W c.play.new.sumcheck_data)) (sym (ap H (returned _ _ _ _ _ _ (search rules) c.in-Ok.ensures.continues.lender begun.lent.lender c.finish.ensures))))
-    (ap (map g.EG.Field.number) (sym c.new.ensures)) c.in-Ok.ensures.rounds.1
+    record {
+      whole = sum_at _ _ _ _ (sym (c.in-Ok.ensures.rounds.0 ∙ ap (λ (s : SumcheckShape). s.num_rounds) (c.in-Ok.ensures.continues.shape ∙ begun.fresh.shape))) c.in-Ok.ensures.left;
+      played = played_at _ _ _ _ _ _ _ _
+          (same_setting _ _ _ _ _ (same_channel _ _ _ g.G.Field.ops.size _ _ (ap R begun.lent.same ∙ c.in_ok-seed.ensures.rules) (ap (λ s. s.pow_bits) begun.fresh.shape)) refl)
+          (ap (λ h. standing_in T c.args.self.now c.args.sum.now h (W c.args.sumcheck_data.now)) (ap H begun.lent.same ∙ c.in_ok-seed.ensures.ok))
+          (ap (λ h. standing_in T c.play.new.self c.play.new.sum h (W c.play.new.sumcheck_data)) (sym (ap H (returned _ _ _ _ _ _ (search rules) c.in-Ok.ensures.continues.lender begun.lent.lender c.finish.ensures))))
+          (ap (map g.EG.Field.number) (sym c.new.ensures)) c.in-Ok.ensures.rounds.1;
+    }
 
 pub returns-in-Err-clause-batch : goal.returns-in-Err-clause-batch
 returns-in-Err-clause-batch g c =
@@ -27,24 +30,11 @@ returns-in-Err-clause-batch g c =
     let R = g.C.Challenger.rules in
     let W = wire_in g.G.Field.number g.EG.Field.number in
     let begun = c.over-transcript.ensures in
-    stops_batch _ _ _ _ _ _ _ _ _ _ c.in-Err.error
+    stops_batch _ _ _ _ _ _ _ c.in-Err.error
     (same_setting _ _ _ _ _ (same_channel _ _ _ g.G.Field.ops.size _ _ (ap R begun.lent.same ∙ c.in_ok-seed.ensures.rules) (ap (λ s. s.pow_bits) begun.fresh.shape)) refl)
     (ap (λ h. standing_in T c.args.self.now c.args.sum.now h (W c.args.sumcheck_data.now)) (ap H begun.lent.same ∙ c.in_ok-seed.ensures.ok))
     (ap (λ h. standing_in T c.play.new.self c.play.new.sum h (W c.play.new.sumcheck_data)) (sym (ap H (returned _ _ _ _ _ _ (search rules) c.in-Err.ensures.continues.lender begun.lent.lender c.abort.ensures))))
     c.in-Err.ensures.left c.in-Err.ensures.rounds.0 (ap (λ (s : SumcheckShape). s.num_rounds) (c.in-Err.ensures.continues.shape ∙ begun.fresh.shape)) c.in-Err.ensures.rounds.1
-
--- all rounds are played, and each leaves a variable less
-pub returns-in-Ok-clause-fewer : goal.returns-in-Ok-clause-fewer
-returns-in-Ok-clause-fewer g c =
-    sum_at _ _ _ _ (sym (c.in-Ok.ensures.rounds.0 ∙ ap (λ (s : SumcheckShape). s.num_rounds) (c.in-Ok.ensures.continues.shape ∙ c.over-transcript.ensures.fresh.shape))) c.in-Ok.ensures.left
-
-pub returns-in-Ok-clause-left : goal.returns-in-Ok-clause-left
-returns-in-Ok-clause-left g c = as_many _ _ (returns-in-Ok-clause-fewer g c)
-
--- not all rounds are played
-pub returns-in-Err-clause-left : goal.returns-in-Err-clause-left
-returns-in-Err-clause-left g c =
-    bound_at_most _ _ _ _ _ c.in-Err.ensures.left c.in-Err.ensures.rounds.0 (ap (λ (s : SumcheckShape). s.num_rounds) (c.in-Err.ensures.continues.shape ∙ c.over-transcript.ensures.fresh.shape))
 
 -- the transcript keeps the challenger's rules
 pub returns-in-Ok-clause-rules : goal.returns-in-Ok-clause-rules
@@ -61,8 +51,10 @@ returns-in-Err-clause-rules g c =
 
 -- without memory for the challenges or the seed nothing has begun
 pub returns-in_err-challenges-clause-batch : goal.returns-in_err-challenges-clause-batch
-returns-in_err-challenges-clause-batch g c = never_begun _ _ _ _ _ _ _ c.from_residual.ensures.1 (record { tables = refl; claim = refl; history = refl; appended = refl })
+returns-in_err-challenges-clause-batch g c = never_begun _ _ _ _ c.from_residual.ensures.1 refl
 
 pub returns-in_err-seed-clause-batch : goal.returns-in_err-seed-clause-batch
 returns-in_err-seed-clause-batch g c =
-    never_begun _ _ _ _ _ _ _ c.from_residual-in_err-seed.ensures.1 (record { tables = refl; claim = refl; history = c.in_err-seed.ensures.err; appended = refl })
+    let T : g.row.EF.Denot → ℕ = λ x. g.EF.FromTable.to_number (g.EF.Field.number x) in
+    never_begun _ _ _ _ c.from_residual-in_err-seed.ensures.1
+    (ap (λ h. standing_in T c.args.self.now c.args.sum.now h (wire_in g.G.Field.number g.EG.Field.number c.args.sumcheck_data.now)) c.in_err-seed.ensures.err)

@@ -5,6 +5,7 @@ use Rattle.sc_definitions.specs.Statements.{batched_weight, batched_claim}
 use Rattle.sc_statements.specs.Constraints.{constraint_arity, constraint_challenge, constraint_power, constraint_statements}
 use Rattle.sc_rounds.specs.Products.{variables_in, evals_in, weights_in}
 use Rattle.sc_rounds.proofs.TakenLaws.{sum_taken, claim_taken}
+use Rattle.sc_rounds.proofs.ShownLaws.{sum_shown}
 use Rattle.sc_rounds.proofs.strategy.SumcheckProver.constraint_is_true.Goals as goal
 
 pub returns-clause-told : goal.returns-clause-told
@@ -32,9 +33,9 @@ returns-clause-told g c =
     let added = c.combine.ensures.added in (
       λ told. record {
         arity = arity;
-        claim = sym there ∙ claim_taken o ring _ _ _ _ _ _ _ _ _ begun (c.sum_is_true.ensures.0 told ∙ moved) added;
+        claim = sum_shown N o old.poly old.sum v ∙ sym there ∙ claim_taken o ring _ _ _ _ _ _ _ _ _ begun (c.sum_is_true.ensures.0 told ∙ moved) added;
       },
-      λ true_one. c.sum_is_true.ensures.1 (sum_taken o ring _ _ _ _ _ _ _ _ _ begun (there ∙ true_one.claim) added ∙ sym moved),
+      λ true_one. c.sum_is_true.ensures.1 (sum_taken o ring _ _ _ _ _ _ _ _ _ begun (there ∙ sym (sum_shown N o old.poly old.sum v) ∙ true_one.claim) added ∙ sym moved),
     )
 
 -- a refusal tells nothing of an answer

@@ -1,22 +1,26 @@
-use Rattle.std.proofs.Common.{◌≡◌, ◌∙◌, ap, sym}
+use Rattle.std.proofs.Common.{◌≡◌, ℕ, ◌∙◌, ap, sym}
 use Rattle.std.proofs.lemmas.Result.{IfOk-from_err}
 use Rattle.sc_definitions.specs.Tables.{inner}
 use Rattle.sc_table.specs.Polys.{variables_of}
 use Rattle.sc_rounds.specs.Products.{variables_in, evals_in, weights_in}
 use Rattle.sc_rounds.proofs.MappedRounds.{mapped, below_entries, same_images}
 use Rattle.sc_rounds.proofs.RepresentedLaws.{represented_sum}
+use Rattle.sc_rounds.proofs.ShownLaws.{same_numbers}
 use Rattle.sc_rounds.proofs.strategy.repr.ReprSumcheckProver.from_tables.Goals as goal
 
-pub returns-clause-evals : goal.returns-clause-evals
-returns-clause-evals g c =
-    same_images g.R.Field.ops g.EF.Field.ops g.met.R.Field.is_field.ring g.met.EF.Field.is_field.ring g.R.FromTable.to_number g.met.R.FromTable.represents.back
-    g.R.Field.number g.R.Field.number _ _ c.new_unpacked-poly.ensures.evals
-    ∙ c.in_ok-evals.ensures.images
-
-pub returns-clause-weights : goal.returns-clause-weights
-returns-clause-weights g c =
-    same_images g.R.Field.ops g.EF.Field.ops g.met.R.Field.is_field.ring g.met.EF.Field.is_field.ring g.R.FromTable.to_number g.met.R.FromTable.represents.back
-    g.R.Field.number g.R.Field.number _ _ c.new_unpacked-poly.ensures.weights
+pub returns : goal.returns
+returns g c =
+    let represents = g.met.R.FromTable.represents in
+    let to = g.R.FromTable.to_number in
+    let N = g.R.Field.number in
+    let T : g.row.R.Denot → ℕ = λ x. to (N x) in
+    let same = same_images g.R.Field.ops g.EF.Field.ops g.met.R.Field.is_field.ring g.met.EF.Field.is_field.ring to represents.back N N in
+    let poly = c.new_unpacked-poly.result in
+    let size : variables_in poly ≡ variables_of c.args.evals = c.new_unpacked-poly.ensures.variables ∙ c.in_ok-evals.ensures.variables in
+    let evals = same_numbers g.EF.Field.number T c.args.evals poly.evals size (same _ _ c.new_unpacked-poly.ensures.evals ∙ c.in_ok-evals.ensures.images) in
+    let weights = same_numbers T T c.args.weights poly.weights (sym poly.same ∙ size ∙ c.requires.variables) (same _ _ c.new_unpacked-poly.ensures.weights) in
+    let claim = ap to c.from_element.ensures ∙ represents.back_forth _ (g.met.EF.Field.number_below c.args.sum) in
+    λ i. record { order = c.new_unpacked-poly.ensures.order i; variables = size i; evals = evals i; weights = weights i; claim = claim i }
 
 pub invariant_of-result : goal.invariant_of-result
 invariant_of-result g c =
@@ -35,22 +39,10 @@ invariant_of-result g c =
           (below_entries r e ring_r ring_e to represents.back N g.met.R.Field.number_below poly.weights.evals.items)
           (sym (same N N _ _ c.new_unpacked-poly.ensures.evals ∙ c.in_ok-evals.ensures.images) ∙ mapped r e ring_r ring_e to represents.back N poly.evals.evals.items)
           (sym (same N N _ _ c.new_unpacked-poly.ensures.weights) ∙ mapped r e ring_r ring_e to represents.back N poly.weights.evals.items)
-          c.requires.sum c.from_element.ensures
+          c.requires.true_sum c.from_element.ensures
           ∙ ap (λ k. inner r k (evals_in N poly) (weights_in N poly)) (sym size);
     }
 
 -- a refusal tells nothing of an answer
-pub returns-in_err-evals-clause-variables : goal.returns-in_err-evals-clause-variables
-returns-in_err-evals-clause-variables g c = IfOk-from_err c.from_residual.result _ c.from_residual.ensures.0
-
-pub returns-in_err-evals-clause-order : goal.returns-in_err-evals-clause-order
-returns-in_err-evals-clause-order g c = IfOk-from_err c.from_residual.result _ c.from_residual.ensures.0
-
-pub returns-in_err-evals-clause-evals : goal.returns-in_err-evals-clause-evals
-returns-in_err-evals-clause-evals g c = IfOk-from_err c.from_residual.result _ c.from_residual.ensures.0
-
-pub returns-in_err-evals-clause-weights : goal.returns-in_err-evals-clause-weights
-returns-in_err-evals-clause-weights g c = IfOk-from_err c.from_residual.result _ c.from_residual.ensures.0
-
-pub returns-in_err-evals-clause-claim : goal.returns-in_err-evals-clause-claim
-returns-in_err-evals-clause-claim g c = IfOk-from_err c.from_residual.result _ c.from_residual.ensures.0
+pub returns-in_err-evals : goal.returns-in_err-evals
+returns-in_err-evals g c = IfOk-from_err c.from_residual.result _ c.from_residual.ensures.0
