@@ -5,8 +5,9 @@ use Rattle.sc_definitions.specs.declared.events.Event.{Event}
 use Rattle.sc_definitions.specs.Events.{Rules, Extension, IsFirstWitness}
 use Rattle.sc_definitions.specs.Transcript.{Round, round_of, sent, round_events, rounds_events, challenge, HasFirstWitness, IsBuilt}
 use Rattle.sc_definitions.specs.Problem.{honest_of}
-use Rattle.sc_audit.specs.Audits.{begun, figures_from}
-use Rattle.sc_audit.specs.Laws.{built_by, BuildsAgree}
+use Rattle.sc_audit.specs.Cases.{start_of}
+use Rattle.sc_audit.specs.Audits.{figures_from}
+use Rattle.sc_audit.specs.Laws.{BuildsAgree}
 
 -- of two numbers that pass neither is below the other
 not_below : (R : Rules) (h : List Event) (bits a b : ℕ) → IsFirstWitness R h bits a → IsFirstWitness R h bits b → a < b → ⊥
@@ -49,9 +50,12 @@ same_rounds honest R E bits h rs (suc n) (r ∷ rounds) (s ∷ others) e f p q =
     ap (λ t. t ∷ rounds) same ∙ ap (λ t. s ∷ t) rest
 
 pub builds_agree : BuildsAgree
-builds_agree o R E h rows bits p one other report report' h₁ h₂ a b =
-    let k = built_by rows bits p one in
-    let same : a.rounds ≡ b.rounds = same_rounds (honest_of o p) R E bits (begun E h k) [] p.variables a.rounds b.rounds a.plays.count b.plays.count a.are b.are in (
-      a.figures ∙ ap (figures_from o R E h k) same ∙ sym b.figures,
-      a.plays.history ∙ ap (λ rounds. begun E h k ++ rounds_events E bits rounds) same ∙ sym b.plays.history,
-    )
+builds_agree q one other report report' h₁ h₂ x y =
+    let R = q.channel.rules in
+    let E = q.channel.extension in
+    let bits = q.channel.bits in
+    let h = (start_of q).history in
+    let a = x.played in
+    let b = y.played in
+    let same : a.rounds ≡ b.rounds = same_rounds (honest_of q.ops q.case.problem) R E bits h [] q.case.problem.variables a.rounds b.rounds a.count b.count a.are b.are in
+    (a.is ∙ ap (figures_from q) same ∙ sym b.is, a.history ∙ ap (λ rounds. h ++ rounds_events E bits rounds) same ∙ sym b.history)

@@ -1,214 +1,263 @@
--- The report on rounds that were built and replayed.
-use Rattle.std.proofs.Common.{◌≡◌, ℕ, suc, ◌+◌, ◌*◌, ◌^◌, ◌<◌, List, [], ◌++◌, All, length, true, None, refl, ap, sym, ◌∙◌, subst, arith, Result, Ok, Err}
+-- What was built, and the report on its replay.
+use Rattle.std.proofs.Common.{◌≡◌, ℕ, suc, ◌+◌, ◌-◌, ◌^◌, ◌<◌, List, [], ◌∷◌, ◌++◌, All, length, map, true, None, refl, ap, sym, ◌∙◌, subst, arith, inl, inr, Err}
 use Rattle.std.proofs.lemmas.Bool.{eq-eqb}
 use Rattle.sc_definitions.specs.declared.events.Event.{Event}
-use Rattle.sc_definitions.specs.Ring.{Ops, IsRing}
-use Rattle.sc_definitions.specs.Tables.{evaluation, Order, bound_by}
-use Rattle.sc_definitions.specs.Rounds.{honest_pair, next_claim, claim_along}
-use Rattle.sc_definitions.specs.Statements.{Statement}
-use Rattle.sc_definitions.specs.Events.{Rules, Extension}
-use Rattle.sc_definitions.specs.Transcript.{Round, sent, messages_of, rounds_events, challenges, IsBuilt}
-use Rattle.sc_definitions.specs.Replays.{Replays, ReplaysSome, IsInvalidAt, given_rounds}
+use Rattle.sc_definitions.specs.Ring.{IsRing}
+use Rattle.sc_definitions.specs.Tables.{Basis, evaluation, IsOffered, entries, rows_of, value_in, point_of, bound_by}
+use Rattle.sc_definitions.specs.Rounds.{honest_pair, next_claim}
+use Rattle.sc_definitions.specs.Transcript.{Round, messages_of, challenges, IsBuilt}
+use Rattle.sc_definitions.specs.Replays.{given_rounds}
+use Rattle.sc_definitions.specs.Channels.{Wire, empty_wire, witnesses_of, Footing, NoWitnessFound, IsReplayed, IsReplayedInPart, FailsAt}
+use Rattle.sc_definitions.specs.Standings.{Setting, Standing, entries_of, message_in, honest_in, IsPlayed, IsPlayedWithoutWitness}
 use Rattle.sc_definitions.specs.Problem.{weights_of, claim_of, honest_of, residual_of, eval_of, weight_value_of}
 use Rattle.sc_definitions.proofs.RingLaws.{element-small}
-use Rattle.std.proofs.Math.Nat.{pow-suc}
-use Rattle.sc_definitions.specs.Messages.{message_of}
-use Rattle.sc_definitions.proofs.RoundLaws.{honest_pair-message}
-use Rattle.sc_definitions.proofs.PlayedLaws.{value-played, message-same}
+use Rattle.sc_definitions.proofs.PlayedLaws.{value-played}
 use Rattle.sc_definitions.proofs.BuildLaws.{first_false_claim-all, built-residual}
-use Rattle.sc_transcript.specs.Data.{witnesses_of, witness_count}
-use Rattle.sc_rounds.specs.Batches.{PlaysBatch, FailsBatch}
-use Rattle.sc_rounds.specs.Products.{EndsRound}
+use Rattle.sc_definitions.proofs.BuiltLaws.{length-messages, length-challenges}
+use Rattle.sc_definitions.proofs.SameTables.{bound_by-same, built-same, honest-same}
+use Rattle.sc_definitions.proofs.StandingLaws.{rows-entries_of, message_honest}
 use Rattle.sc_transcript.specs.declared.error.SumcheckError.{SumcheckError}
-use Rattle.sc_transcript.specs.declared.error.SumcheckError.TheVariants.{RoundCountMismatch, MissingSumcheckData, InvalidPowWitness, MissingPowWitness, PowWitnessCountMismatch, WireSizeMismatch, EvenCharacteristic, MaskTooShort, NoRounds, OpeningShapeMismatch, NoWitness, NoMemory}
-use Rattle.sc_transcript.specs.Invalid.{FindsNone as IsUnfound}
-use Rattle.sc_definitions.proofs.BuiltLaws.{length-messages}
+use Rattle.sc_transcript.specs.declared.error.SumcheckError.TheVariants.{RoundCountMismatch, InvalidPowWitness, PowWitnessCountMismatch, NoWitness, NoMemory}
+use Rattle.sc_transcript.specs.Data.{witness_count}
+use Rattle.sc_transcript.specs.Replayed.{LeavesReplay}
+use Rattle.sc_definitions.specs.Events.{Rules, words}
+use Rattle.sc_definitions.specs.Seeds.{quadratic_seed}
+use Rattle.sc_definitions.specs.Channels.{channel}
+use Rattle.sc_table.specs.declared.strategy.Basis.TheVariants.{Evaluation}
+use Rattle.sc_transcript.specs.Shapes.{shape_of}
+use Rattle.sc_rounds.specs.Provers.{Shown, setting_at, standing_at}
+use Rattle.sc_rounds.specs.Standings.{Batch, batch_at, PlaysWhole, BreaksOff}
 use Rattle.sc_rounds.proofs.InStep.{given_played, count_witnesses, none_failing}
 use Rattle.sc_table.specs.declared.strategy.Strategy.{Strategy}
-use Rattle.sc_audit.specs.Cases.{Case, Task, build}
+use Rattle.sc_audit.specs.Cases.{build, Asked, with_task, start_of}
 use Rattle.sc_audit.specs.Figures.{holds, finding_by, false_claim_of, is_matched}
-use Rattle.sc_audit.specs.Audits.{begun, IsAudited, IsBrokenOff, FindsNone}
-use Rattle.sc_audit.specs.Built.{IsBuiltCase}
-use Rattle.sc_audit.proofs.FigureLaws.{stated, figures-are}
-use Rattle.sc_definitions.proofs.SameTables.{Agree, played-same}
+use Rattle.sc_audit.specs.Audits.{IsAudited, BuildStops, IsCaused, refusal_by}
+use Rattle.sc_audit.specs.Built.{as_build, prover_for, Kept, IsBuiltCase, LeavesBuild}
+use Rattle.sc_audit.specs.declared.error.AuditError.{AuditError}
+use Rattle.sc_audit.proofs.FigureLaws.{figures-are}
 
--- a batch that was appended to empty data, by the names of the case
-pub played-case : (order order₁ : Order) (o : Ops) → IsRing o → (R R₁ : Rules) (E : Extension) (bits n n₁ : ℕ) (f f₁ w w₁ : ℕ → ℕ) (claim claim₁ : ℕ) (h h₁ : List Event)
-    (rs : List ℕ) (left : ℕ) (f' w' : ℕ → ℕ) (claim' : ℕ) (h' : List Event) (ms ms' : List (List ℕ)) (ws ws' : List ℕ) →
-    order₁ ≡ order → R₁ ≡ R → n₁ ≡ n → Agree n f₁ f → Agree n w₁ w → claim₁ ≡ claim → h₁ ≡ h → ms ≡ [] → ws ≡ [] →
-    PlaysBatch order₁ o R₁ E bits n₁ f₁ w₁ claim₁ h₁ rs left f' w' claim' h' ms ws ms' ws' → PlaysBatch order o R E bits n f w claim h rs left f' w' claim' h' [] [] ms' ws'
-played-case order order₁ o ring R R₁ E bits n n₁ f f₁ w w₁ claim claim₁ h h₁ rs left f' w' claim' h' ms ms' ws ws' eo er en evals weights ec eh em ew p =
-    let q : PlaysBatch order o R E bits n f₁ w₁ claim h rs left f' w' claim' h' [] [] ms' ws' = rw (← eo, ← er, ← en, ← ec, ← eh, ← em, ← ew) p in
-    record {
-      rounds = q.rounds;
-      played = played-same order o ring n f₁ f w₁ w evals weights R E bits claim h q.rounds rs left f' w' claim' h' q.played;
-      appended = q.appended;
-      found = q.found;
-    }
+-- the numbers of a list of one
+pub one_entry : {X : Type 0} (number : X → ℕ) (xs : List X) (y : ℕ) → length xs ≡ 1 → entries number xs 0 ≡ y → map number xs ≡ y ∷ []
+unfolding entries
+one_entry number [] y one at = absurd (omega (arith, one))
+one_entry number (x ∷ []) y one at = ap (λ n. n ∷ []) at
+one_entry number (x ∷ z ∷ xs) y one at = absurd (omega (arith, one))
 
-module _ (order : Order) (o : Ops) (ring : IsRing o) (R : Rules) (E : Extension) (bits n : ℕ) (f : ℕ → ℕ) (ss : List Statement) (c i : ℕ) where
-  -- the value at the challenges is the one entry that is left
-  eval-left : (f' : ℕ → ℕ) (rs : List ℕ) → f' 0 < o.size → ((b : ℕ) → b < 2 ^ 0 → f' b ≡ bound_by evaluation order o rs 0 f b) → f' 0 ≡ eval_of o (stated order n f ss c i) rs
-  unfolding eval_of
-  eval-left f' rs low at = sym (value-played order o ring f f' rs at ∙ element-small o ring (f' 0) low)
+module _ (q : Asked) (ring : IsRing q.ops) (even : q.case.problem.basis ≡ evaluation) where
+  -- what stays, and where the first round stands
+  abbrev pub setting_for : Setting
+  setting_for = setting_at q.channel q.ops (prover_for q.ops q.case.problem)
 
-  weight-left : (w' : ℕ → ℕ) (rs : List ℕ) → w' 0 < o.size → ((b : ℕ) → b < 2 ^ 0 → w' b ≡ bound_by evaluation order o rs 0 (weights_of o (stated order n f ss c i)) b) →
-      w' 0 ≡ weight_value_of o (stated order n f ss c i) rs
-  unfolding weight_value_of
-  weight-left w' rs low at = sym (value-played order o ring (weights_of o (stated order n f ss c i)) w' rs at ∙ element-small o ring (w' 0) low)
+  abbrev pub start_for : Standing
+  start_for = standing_at (prover_for q.ops q.case.problem) (start_of q).history empty_wire
 
-  residual-left : (rounds : List Round) (rs : List ℕ) (x : ℕ) → x ≡ claim_along (next_claim evaluation o) (claim_of o (stated order n f ss c i)) (messages_of rounds) rs →
-      x ≡ residual_of o (stated order n f ss c i) (messages_of rounds) rs
-  unfolding residual_of
-  residual-left rounds rs x is = is
+  offered : IsOffered q.case.problem.basis q.case.problem.order
+  offered = subst (λ b. IsOffered b q.case.problem.order) (sym even) tt
 
-  -- the rounds that were built have what an honest prover sends
-  built-honest : (h : List Event) (rounds : List Round) → IsBuilt (honest_pair evaluation order o f (weights_of o (stated order n f ss c i))) R E bits h [] n rounds →
-      IsBuilt (honest_of o (stated order n f ss c i)) R E bits h [] n rounds
+  -- what the prover's tables tell is what an honest prover sends
+  told_honest : (rs : List ℕ) (m : ℕ) → length rs + suc m ≡ q.case.problem.variables → honest_in setting_for start_for rs m ≡ honest_of q.ops q.case.problem rs m
   unfolding honest_of
-  built-honest h rounds b = b
+  told_honest rs m whole =
+      let p = q.case.problem in
+      honest-same evaluation p.order q.ops ring tt p.variables _ p.table _ (weights_of q.ops p) (rows-entries_of p.variables p.table) (rows-entries_of p.variables (weights_of q.ops p)) rs m whole
+      ∙ ap (λ b. honest_pair b p.order q.ops p.table (weights_of q.ops p) rs m) (sym even)
 
-  -- built rounds on true statements hold
-  finding-built : (h : List Event) (rounds : List Round) → false_claim_of o (stated order n f ss c i) ≡ None → length rounds ≡ n →
-      IsBuilt (honest_of o (stated order n f ss c i)) R E bits h [] n rounds →
-      holds ≡ finding_by (is_matched o (stated order n f ss c i) (messages_of rounds) (challenges R E bits h rounds)) (false_claim_of o (stated order n f ss c i))
+  built_honest : (rounds : List Round) → IsBuilt (honest_in setting_for start_for) q.channel.rules q.channel.extension q.channel.bits (start_of q).history [] q.case.problem.variables rounds →
+      IsBuilt (honest_of q.ops q.case.problem) q.channel.rules q.channel.extension q.channel.bits (start_of q).history [] q.case.problem.variables rounds
   unfolding honest_of
-  finding-built h rounds none whole built =
-      let p = stated order n f ss c i in
-      let matched : is_matched o p (messages_of rounds) (challenges R E bits h rounds) ≡ true =
-      eq-eqb _ _ (built-residual o ring p R E bits h rounds tt (first_false_claim-all o n f 0 ss none) whole built) in
-      sym (ap (λ t. finding_by t (false_claim_of o p)) matched ∙ ap (finding_by true) none)
+  built_honest rounds b =
+      let p = q.case.problem in
+      let c = q.channel in
+      subst (λ k. IsBuilt (honest_pair k p.order q.ops p.table (weights_of q.ops p)) c.rules c.extension c.bits (start_of q).history [] p.variables rounds) (sym even)
+      (built-same evaluation p.order q.ops ring tt p.variables _ p.table _ (weights_of q.ops p) (rows-entries_of p.variables p.table) (rows-entries_of p.variables (weights_of q.ops p))
+      c.rules c.extension c.bits (start_of q).history [] p.variables rounds (omega arith) b)
 
-  -- what a prover's batch has built
-  pub built-case : (h : List Event) (rows : ℕ) (task : Task) (rs : List ℕ) (left : ℕ) (f' w' : ℕ → ℕ) (claim' : ℕ) (h' : List Event) (ms : List (List ℕ)) (ws : List ℕ)
-      (claim x y : ℕ) →
-      PlaysBatch order o R E bits n f (weights_of o (stated order n f ss c i)) (claim_of o (stated order n f ss c i))
-      (begun E h (record { rows = rows; bits = bits; problem = stated order n f ss c i; task = task })) rs left f' w' claim' h' [] [] ms ws →
-      left ≡ 0 → claim ≡ claim_of o (stated order n f ss c i) → x ≡ f' 0 → y ≡ w' 0 → x < o.size → y < o.size →
-      IsBuiltCase o R E h (record { rows = rows; bits = bits; problem = stated order n f ss c i; task = task }) claim ms ws rs x y
-  built-case h rows task rs left f' w' claim' h' ms ws claim x y batch none_left claim_is xe ye low high =
-      let p = stated order n f ss c i in
-      let k : Case = record { rows = rows; bits = bits; problem = p; task = task } in
-      let q : PlaysBatch order o R E bits n f (weights_of o p) (claim_of o p) (begun E h k) rs 0 f' w' claim' h' [] [] ms ws = rw (← none_left) batch in
-      let low' : f' 0 < o.size = rw (← xe) low in
-      let high' : w' 0 < o.size = rw (← ye) high in
-      record {
-        rounds = q.rounds;
-        built = built-honest (begun E h k) q.rounds q.played.built;
-        count = omega (arith, q.played.count);
-        sent = q.appended;
-        found = q.found;
-        drawn = q.played.drawn;
-        begins = claim_is;
-        eval_is = xe ∙ eval-left f' rs low' q.played.evals;
-        weight_is = ye ∙ weight-left w' rs high' q.played.weights;
-      }
+  -- the one entry that is left is the table's value at the challenges
+  value_left : (f : ℕ → ℕ) (rs xs : List ℕ) (x : ℕ) → length rs ≡ q.case.problem.variables →
+      xs ≡ entries_of 0 (bound_by evaluation q.case.problem.order q.ops rs 0 (rows_of (entries_of q.case.problem.variables f))) → xs ≡ x ∷ [] → x < q.ops.size →
+      x ≡ value_in q.case.problem.basis q.ops f (point_of q.case.problem.order rs)
+  unfolding rows_of
+  value_left f rs xs x count bound one low =
+      let p = q.case.problem in
+      let n = p.variables in
+      let whole : length rs + 0 ≡ n = omega (arith, count) in
+      let at : (b : ℕ) → b < 2 ^ 0 → x ≡ bound_by evaluation p.order q.ops rs 0 f b = λ b below.
+      let first : 0 ≡ b = omega (arith, below) in
+      let entry : x ≡ bound_by evaluation p.order q.ops rs 0 (rows_of (entries_of n f)) 0 =
+      ap (λ t. rows_of t 0) (sym one ∙ bound) ∙ rows-entries_of 0 (bound_by evaluation p.order q.ops rs 0 (rows_of (entries_of n f))) 0 (omega arith) in
+      entry ∙ bound_by-same evaluation p.order q.ops rs 0 (rows_of (entries_of n f)) f (λ k under. rows-entries_of n f k (subst (λ v. k < 2 ^ v) whole under)) 0 (omega arith)
+      ∙ ap (bound_by evaluation p.order q.ops rs 0 f) first in
+      sym (element-small q.ops ring x low) ∙ sym (value-played p.order q.ops ring f (λ b. x) rs at) ∙ ap (λ b. value_in b q.ops f (point_of p.order rs)) (sym even)
 
-  -- the report on what was built
-  pub report-built : (h : List Event) (rows : ℕ) (task : Task) (strategy : Strategy) (ms : List (List ℕ)) (ws rs : List ℕ) (claim x y : ℕ) (hv : List Event) (out : List ℕ) (residual : ℕ) →
-      IsBuiltCase o R E h (record { rows = rows; bits = bits; problem = stated order n f ss c i; task = task }) claim ms ws rs x y →
-      false_claim_of o (stated order n f ss c i) ≡ None →
-      Replays (next_claim evaluation o) R E bits (begun E h (record { rows = rows; bits = bits; problem = stated order n f ss c i; task = task })) claim (given_rounds ms ws) hv out residual →
-      IsAudited o R E h (record { rows = rows; bits = bits; problem = stated order n f ss c i; task = task }) (build strategy)
-      (record { claim = claim; messages = ms; witnesses = ws; challenges = rs; residual = residual; eval = x; weight = y; finding = holds }) hv
-  report-built h rows task strategy ms ws rs claim x y hv out residual b none replays =
-      let p = stated order n f ss c i in
-      let k : Case = record { rows = rows; bits = bits; problem = p; task = task } in
-      let given : given_rounds ms ws ≡ b.rounds =
-      ap (λ t. given_rounds t ws) b.sent ∙ ap (given_rounds (messages_of b.rounds)) b.found ∙ given_played _ R E bits (begun E h k) [] n b.rounds b.built in
-      let moved : Replays (next_claim evaluation o) R E bits (begun E h k) (claim_of o p) b.rounds hv out residual = rw (← given, ← b.begins) replays in
-      record {
-        rounds = b.rounds;
-        are = b.built;
-        plays = record { count = b.count; passes = moved.passes; history = moved.history };
-        figures = figures-are o p ms (messages_of b.rounds) ws (witnesses_of bits b.rounds) rs (challenges R E bits (begun E h k) b.rounds) claim residual x y holds
-            b.sent b.found b.drawn b.begins (residual-left b.rounds _ residual moved.claim)
-            (b.eval_is ∙ ap (eval_of o p) b.drawn) (b.weight_is ∙ ap (weight_value_of o p) b.drawn)
-            (finding-built (begun E h k) b.rounds none b.count b.built);
-      }
+  -- ---- a batch of a prover
 
-  -- a replay of it that was broken off
-  pub broken-built : (h : List Event) (rows : ℕ) (task : Task) (strategy : Strategy) (ms : List (List ℕ)) (ws rs : List ℕ) (claim x y : ℕ) (hv : List Event) (residual : ℕ) →
-      IsBuiltCase o R E h (record { rows = rows; bits = bits; problem = stated order n f ss c i; task = task }) claim ms ws rs x y →
-      ReplaysSome (next_claim evaluation o) R E bits (begun E h (record { rows = rows; bits = bits; problem = stated order n f ss c i; task = task })) claim (given_rounds ms ws) hv residual →
-      IsBrokenOff o R E h (record { rows = rows; bits = bits; problem = stated order n f ss c i; task = task }) (build strategy) hv
-  broken-built h rows task strategy ms ws rs claim x y hv residual b some =
-      let p = stated order n f ss c i in
-      let k : Case = record { rows = rows; bits = bits; problem = p; task = task } in
-      let given : given_rounds ms ws ≡ b.rounds =
-      ap (λ t. given_rounds t ws) b.sent ∙ ap (given_rounds (messages_of b.rounds)) b.found ∙ given_played _ R E bits (begun E h k) [] n b.rounds b.built in
-      let moved : ReplaysSome (next_claim evaluation o) R E bits (begun E h k) claim b.rounds hv residual = rw (← given) some in
-      record {
-        rounds = b.rounds;
-        are = b.built;
-        count = b.count;
-        played = moved.count;
-        passes = moved.replays.passes;
-        history = moved.replays.history;
-      }
+  module _ (b : Batch) (setting : b.setting ≡ setting_for) (start : b.start ≡ start_for) (rounds_are : b.rounds ≡ q.case.problem.variables) (after : Standing) where
+    -- that was played whole
+    pub built_case : (rs : List ℕ) (claim x y : ℕ) → PlaysWhole b after rs → claim ≡ claim_of q.ops q.case.problem → after.evals ≡ x ∷ [] → after.weights ≡ y ∷ [] →
+        x < q.ops.size → y < q.ops.size → IsBuiltCase q (record { claim = claim; wire = after.wire; challenges = rs; eval = x; weight = y })
+    unfolding eval_of weight_value_of
+    built_case rs claim x y whole claimed ex ey low high =
+        let p = q.case.problem in
+        let played : IsPlayed setting_for start_for after rs =
+        subst (λ t. IsPlayed setting_for t after rs) start (subst (λ s. IsPlayed s b.start after rs) setting whole.played) in
+        let none_left : after.variables ≡ 0 = omega (arith, whole.whole, rounds_are, ap (λ (t : Standing). t.variables) start) in
+        let count : length played.rounds ≡ p.variables = omega (arith, played.count, none_left) in
+        let drawn : length rs ≡ p.variables = ap length played.drawn ∙ length-challenges _ _ _ _ played.rounds ∙ count in
+        record {
+          rounds = played.rounds;
+          built = built_honest played.rounds played.built;
+          count = count;
+          wire = played.wire;
+          drawn = played.drawn;
+          claim = claimed;
+          eval = value_left p.table rs after.evals x drawn
+              (subst (λ m. after.evals ≡ entries_of m (bound_by evaluation p.order q.ops rs m (rows_of (entries_of p.variables p.table)))) none_left played.evals) ex low;
+          weight = value_left (weights_of q.ops p) rs after.weights y drawn
+              (subst (λ m. after.weights ≡ entries_of m (bound_by evaluation p.order q.ops rs m (rows_of (entries_of p.variables (weights_of q.ops p))))) none_left played.weights) ey high;
+        }
 
-  -- its counts, and that no witness of it fails
-  pub rounds-built : (h : List Event) (rows : ℕ) (task : Task) (ms : List (List ℕ)) (ws rs : List ℕ) (claim x y : ℕ) →
-      IsBuiltCase o R E h (record { rows = rows; bits = bits; problem = stated order n f ss c i; task = task }) claim ms ws rs x y → length ms ≡ n
-  rounds-built h rows task ms ws rs claim x y b = ap length b.sent ∙ length-messages b.rounds ∙ b.count
+    -- that stopped for want of a witness
+    pub build_stops : (i : ℕ) → All (λ w. w < q.channel.base_size) after.wire.witnesses → BreaksOff b after (NoWitness i) → BuildStops (as_build q) i
+    build_stops i low why =
+        let p = q.case.problem in
+        let stopped : IsPlayedWithoutWitness setting_for start_for after =
+        subst (λ t. IsPlayedWithoutWitness setting_for t after) start (subst (λ s. IsPlayedWithoutWitness s b.start after) setting why.2) in
+        let last = stopped.last in
+        let played = stopped.played in
+        let size : after.variables + i ≡ p.variables = why.1 ∙ ap (λ (t : Standing). t.variables) start in
+        let m = p.variables - suc i in
+        let some : i + suc m ≡ p.variables = omega (arith, why.0, rounds_are) in
+        let variables : last.variables ≡ suc m = sym (ap (λ (t : Standing). t.variables) stopped.ends.kept) ∙ omega (arith, size, some) in
+        let count : length played.rounds ≡ i = omega (arith, played.count, variables, some) in
+        let drawn = challenges q.channel.rules q.channel.extension q.channel.bits (start_of q).history played.rounds in
+        let full : length drawn + suc m ≡ p.variables = omega (arith, length-challenges q.channel.rules q.channel.extension q.channel.bits (start_of q).history played.rounds, count, some) in
+        let message : message_in setting_for last ≡ honest_of q.ops p drawn m =
+        message_honest setting_for ring tt start_for last stopped.rs m played variables ∙ ap (λ t. honest_in setting_for start_for t m) played.drawn ∙ told_honest drawn m full in
+        let wire : after.wire.witnesses ≡ witnesses_of q.channel.bits played.rounds = ap (λ (t : Standing). t.wire.witnesses) stopped.ends.kept ∙ ap (λ (w : Wire). w.witnesses) played.wire in
+        record {
+          rounds = played.rounds;
+          built = built_honest played.rounds played.built;
+          count = count;
+          low = subst (All (λ w. w < q.channel.base_size)) wire low;
+          left = m;
+          some = some;
+          end = after.history;
+          none = subst (λ h. NoWitnessFound q.channel h (honest_of q.ops p drawn m) after.history) played.history
+              (subst (λ vs. NoWitnessFound q.channel last.history vs after.history) message stopped.ends.none);
+        }
 
-  pub witnesses-built : (h : List Event) (rows : ℕ) (task : Task) (ms : List (List ℕ)) (ws rs : List ℕ) (claim x y : ℕ) →
-      IsBuiltCase o R E h (record { rows = rows; bits = bits; problem = stated order n f ss c i; task = task }) claim ms ws rs x y → length ws ≡ witness_count bits n
-  witnesses-built h rows task ms ws rs claim x y b = ap length b.found ∙ count_witnesses bits b.rounds ∙ ap (witness_count bits) b.count
+  -- a refused build
+  module _ (b : Batch) (setting : b.setting ≡ setting_for) (start : b.start ≡ start_for) (rounds_are : b.rounds ≡ q.case.problem.variables) (after : Standing) where
+    pub build_refused : {F EF : Type 0} (base : F → ℕ) (number : EF → ℕ) (e : SumcheckError) (r : AuditError) → r ≡ refusal_by e →
+        All (λ w. w < q.channel.base_size) after.wire.witnesses → BreaksOff b after e → LeavesBuild {F = F} {EF = EF} base number q (Err r)
+    build_refused {F = F} {EF = EF} base number e r is low why = subst (λ t. LeavesBuild {F = F} {EF = EF} base number q (Err t)) (sym is) (left e why) where
+      left : (e : SumcheckError) → BreaksOff b after e → LeavesBuild {F = F} {EF = EF} base number q (Err (refusal_by e))
+      left NoMemory stopped = tt
+      left (NoWitness i) stopped = build_stops b setting start rounds_are after i low stopped
+      left e stopped = absurd stopped
 
-  pub none_invalid-built : (h : List Event) (rows : ℕ) (task : Task) (ms : List (List ℕ)) (ws rs : List ℕ) (claim x y : ℕ) →
-      IsBuiltCase o R E h (record { rows = rows; bits = bits; problem = stated order n f ss c i; task = task }) claim ms ws rs x y →
-      (next : ℕ → List ℕ → ℕ → ℕ) (j : ℕ) (hv : List Event) (left : ℕ) →
-      IsInvalidAt next R E bits (begun E h (record { rows = rows; bits = bits; problem = stated order n f ss c i; task = task })) claim (given_rounds ms ws) j hv left → ⊥
-  none_invalid-built h rows task ms ws rs claim x y b next j hv left invalid =
-      let k : Case = record { rows = rows; bits = bits; problem = stated order n f ss c i; task = task } in
-      let given : given_rounds ms ws ≡ b.rounds =
-      ap (λ t. given_rounds t ws) b.sent ∙ ap (given_rounds (messages_of b.rounds)) b.found ∙ given_played _ R E bits (begun E h k) [] n b.rounds b.built in
-      none_failing next _ R E bits (begun E h k) n claim (given_rounds ms ws) b.rounds given b.built j hv left invalid
+  -- ---- the batch that a prover of it plays
 
--- rounds that are built stop where none passes
-pub unground-built : (order order₁ : Order) (o : Ops) → IsRing o → (R R₁ : Rules) (E : Extension) (bits n n₁ : ℕ) (f f₁ : ℕ → ℕ) (ss : List Statement) (c i : ℕ) (w₁ : ℕ → ℕ) (claim₁ : ℕ) (h h₁ : List Event) (rows : ℕ) (task : Task)
-    (size m : ℕ) (f' w' : ℕ → ℕ) (claim' : ℕ) (h' : List Event) (ms ms' : List (List ℕ)) (ws ws' : List ℕ) (round : ℕ) →
-    order₁ ≡ order → R₁ ≡ R → n₁ ≡ n → Agree n f₁ f → Agree n w₁ (weights_of o (stated order n f ss c i)) → claim₁ ≡ claim_of o (stated order n f ss c i) →
-    h₁ ≡ begun E h (record { rows = rows; bits = bits; problem = stated order n f ss c i; task = task }) → ms ≡ [] → ws ≡ [] → All (λ w. w < size) ws' → round + suc m ≡ n →
-    FailsBatch order₁ o R₁ E bits n₁ f₁ w₁ claim₁ h₁ size m f' w' claim' h' ms ws ms' ws' →
-    FindsNone o R E size h (record { rows = rows; bits = bits; problem = stated order n f ss c i; task = task }) round
-unfolding honest_of
-unground-built order order₁ o ring R R₁ E bits n n₁ f f₁ ss c i w₁ claim₁ h h₁ rows task size m f' w' claim' h' ms ms' ws ws' round eo er en evals weights ec eh em ew low whole fails =
-    let p = stated order n f ss c i in
-    let k : Case = record { rows = rows; bits = bits; problem = p; task = task } in
-    let q = played-case order order₁ o ring R R₁ E bits n n₁ f f₁ (weights_of o p) w₁ (claim_of o p) claim₁ (begun E h k) h₁ _ _ _ _ _ _ _ _ _ _ eo er en evals weights ec eh em ew fails.batch in
-    let ends : EndsRound order o R E bits m size f' w' fails.before h' = rw (← eo, ← er) fails.ends in
-    let twice : 2 ^ suc m ≡ 2 ^ m * 2 = pow-suc 2 m in
-    let message : message_of evaluation order o (2 ^ m) f' w' ≡ honest_pair evaluation order o f (weights_of o p) (challenges R E bits (begun E h k) q.rounds) m =
-    message-same evaluation order o (2 ^ m) _ _ _ _ (λ b low. q.played.evals b (omega (arith, low, twice))) (λ b low. q.played.weights b (omega (arith, low, twice)))
-    ∙ sym (honest_pair-message o ring evaluation order tt f (weights_of o p) fails.rs m) ∙ ap (λ t. honest_pair evaluation order o f (weights_of o p) t m) q.played.drawn in
-    let place : h' ≡ (begun E h k ++ rounds_events E bits q.rounds) ++ sent E (honest_pair evaluation order o f (weights_of o p) (challenges R E bits (begun E h k) q.rounds) m) =
-    ends.ends ∙ ap (λ t. t ++ sent E (message_of evaluation order o (2 ^ m) f' w')) q.played.history
-    ∙ ap (λ t. (begun E h k ++ rounds_events E bits q.rounds) ++ sent E t) message in
-    record {
-      rounds = q.rounds;
-      built = q.played.built;
-      count = omega (arith, whole, q.played.count);
-      low = subst (All (λ w. w < size)) q.found low;
-      left = m;
-      some = whole;
-      positive = ends.positive;
-      none_passes = rw place at ends.none_passes;
-    }
+  module _ (shown : Shown) (R : Rules) (h : List Event) (on : Wire) (degree k : ℕ) (rules : R ≡ q.channel.rules) (history : h ≡ q.history) (shows : shown ≡ prover_for q.ops q.case.problem)
+      (none_sent : on ≡ empty_wire) (degree_is : degree ≡ q.channel.extension.degree) (count : k ≡ q.case.problem.variables) where
+    abbrev pub batch_here : Batch
+    batch_here =
+        batch_at (setting_at (channel R q.channel.extension q.channel.base_size q.channel.bits) q.ops shown) (standing_at shown h on) degree (shape_of k q.channel.bits Evaluation)
 
--- a refusal that finds no witness names a round
-pub finds_none_is : {T : Type 0} (r : Result T SumcheckError) → IsUnfound r → (i : ℕ) × (r ≡ Err (NoWitness i))
-finds_none_is (Ok x) p = absurd p
-finds_none_is (Err (NoWitness i)) p = (i, refl)
-finds_none_is (Err (InvalidPowWitness i d)) p = absurd p
-finds_none_is (Err (RoundCountMismatch a b)) p = absurd p
-finds_none_is (Err (MissingSumcheckData a)) p = absurd p
-finds_none_is (Err (MissingPowWitness a b)) p = absurd p
-finds_none_is (Err (PowWitnessCountMismatch a b)) p = absurd p
-finds_none_is (Err (WireSizeMismatch a b c)) p = absurd p
-finds_none_is (Err EvenCharacteristic) p = absurd p
-finds_none_is (Err (MaskTooShort a)) p = absurd p
-finds_none_is (Err NoRounds) p = absurd p
-finds_none_is (Err (OpeningShapeMismatch a b c d e)) p = absurd p
-finds_none_is (Err NoMemory) p = absurd p
+    pub same_setting : batch_here.setting ≡ setting_for
+    same_setting = rw (rules, shows) refl
+
+    pub same_start : batch_here.start ≡ start_for
+    same_start =
+        let seed = λ (b : Basis). words (quadratic_seed q.channel.extension.degree b q.channel.bits q.case.problem.variables) in
+        rw (history, shows, none_sent, degree_is, count) (ap (λ b. standing_at (prover_for q.ops q.case.problem) (q.history ++ seed b) empty_wire) (sym even))
+
+  -- ---- a replay of what was built
+
+  module _ (k : Kept) (b : IsBuiltCase q k) where
+    rounds_given : given_rounds k.wire.messages k.wire.witnesses ≡ b.rounds
+    rounds_given =
+        ap (λ (w : Wire). given_rounds w.messages w.witnesses) b.wire
+        ∙ given_played (honest_of q.ops q.case.problem) q.channel.rules q.channel.extension q.channel.bits (start_of q).history [] q.case.problem.variables b.rounds b.built
+
+    -- its counts
+    pub rounds_built : length k.wire.messages ≡ q.case.problem.variables
+    rounds_built = ap (λ (w : Wire). length w.messages) b.wire ∙ length-messages b.rounds ∙ b.count
+
+    pub witnesses_built : length k.wire.witnesses ≡ witness_count q.channel.bits q.case.problem.variables
+    witnesses_built = ap (λ (w : Wire). length w.witnesses) b.wire ∙ count_witnesses q.channel.bits b.rounds ∙ ap (witness_count q.channel.bits) b.count
+
+    -- the report on it, where the statements are true
+    pub report_built : (strategy : Strategy) (end : Footing) (out : List ℕ) {grids : List (List ℕ × List ℕ)} → grids ≡ [] → false_claim_of q.ops q.case.problem ≡ None →
+        IsReplayed (next_claim q.case.problem.basis q.ops) q.channel (start_of q) end (given_rounds k.wire.messages k.wire.witnesses) out →
+        IsAudited (with_task q (build strategy))
+        (record {
+          figures = record {
+            claim = k.claim;
+            messages = k.wire.messages;
+            witnesses = k.wire.witnesses;
+            challenges = k.challenges;
+            residual = end.claim;
+            eval = k.eval;
+            weight = k.weight;
+            finding = holds;
+          };
+          grids = grids;
+        }) end.history
+    unfolding residual_of honest_of
+    report_built strategy end out none true_all replays =
+        let p = q.case.problem in
+        let o = q.ops in
+        let rs = challenges q.channel.rules q.channel.extension q.channel.bits (start_of q).history b.rounds in
+        let moved : IsReplayed (next_claim p.basis o) q.channel (start_of q) end b.rounds out =
+        subst (λ rounds. IsReplayed (next_claim p.basis o) q.channel (start_of q) end rounds out) rounds_given replays in
+        let matched : is_matched o p (messages_of b.rounds) rs ≡ true =
+        eq-eqb _ _ (built-residual o ring p q.channel.rules q.channel.extension q.channel.bits (start_of q).history b.rounds offered (first_false_claim-all o p.variables p.table 0 p.statements true_all) b.count b.built) in
+        let finding : holds ≡ finding_by (is_matched o p (messages_of b.rounds) rs) (false_claim_of o p) =
+        sym (ap (λ t. finding_by t (false_claim_of o p)) matched ∙ ap (finding_by true) true_all) in
+        record {
+          played = record {
+            rounds = b.rounds;
+            are = b.built;
+            count = b.count;
+            passes = moved.passes;
+            history = moved.history;
+            is = figures-are o p k.wire.messages (messages_of b.rounds) k.wire.witnesses (witnesses_of q.channel.bits b.rounds) k.challenges rs k.claim end.claim k.eval k.weight holds
+                (ap (λ (w : Wire). w.messages) b.wire) (ap (λ (w : Wire). w.witnesses) b.wire) b.drawn b.claim moved.claim
+                (b.eval ∙ ap (eval_of o p) b.drawn) (b.weight ∙ ap (weight_value_of o p) b.drawn) finding;
+          };
+          no_luck = λ e. cc;
+          grids = none;
+        }
+
+    -- a replay of it is broken off for want of memory alone
+    pub replay_broken : {X : Type 0} (strategy : Strategy) (number : X → ℕ) (history claim : Type 0) (start end : Footing) (expected came found : ℕ) (e : SumcheckError) →
+        start ≡ start_of q → (history → end.history ≡ q.history) → came ≡ expected → found ≡ witness_count q.channel.bits expected →
+        LeavesReplay number (history × claim)
+        (record {
+          next = next_claim q.case.problem.basis q.ops;
+          channel = q.channel;
+          start = start;
+          rounds = given_rounds k.wire.messages k.wire.witnesses;
+          expected = expected;
+          came = came;
+          witnesses = found;
+        }) (Err e) end →
+        IsCaused None (with_task q (build strategy)) end.history (refusal_by e)
+    replay_broken strategy number history claim start end expected came found NoMemory begun kept counted witnessed left = elim left.1 [
+      | inl none ↦ inl (kept none.0)
+      | inr part ↦
+          let next = next_claim q.case.problem.basis q.ops in
+          let some : IsReplayedInPart next q.channel (start_of q) end b.rounds =
+          subst (λ rounds. IsReplayedInPart next q.channel (start_of q) end rounds) rounds_given
+          (subst (λ f. IsReplayedInPart next q.channel f end (given_rounds k.wire.messages k.wire.witnesses)) begun part) in
+          inr (record { rounds = b.rounds; are = b.built; count = b.count; played = some.count; passes = some.replays.passes; history = some.replays.history })
+    ]
+    replay_broken strategy number history claim start end expected came found (InvalidPowWitness i bits) begun kept counted witnessed left =
+        let next = next_claim q.case.problem.basis q.ops in
+        absurd (none_failing next (honest_of q.ops q.case.problem) q.channel (start_of q) end q.case.problem.variables b.rounds i b.built
+        (subst (λ rounds. FailsAt next q.channel (start_of q) end rounds i) rounds_given
+        (subst (λ f. FailsAt next q.channel f end (given_rounds k.wire.messages k.wire.witnesses) i) begun left.2)))
+    replay_broken strategy number history claim start end expected came found (RoundCountMismatch n m) begun kept counted witnessed left = absurd (left.2 counted)
+    replay_broken strategy number history claim start end expected came found (PowWitnessCountMismatch n m) begun kept counted witnessed left = absurd (left.3 witnessed)
+    replay_broken strategy number history claim start end expected came found e begun kept counted witnessed left = absurd left

@@ -1,67 +1,60 @@
 -- What a refusal is caused by.
-use Rattle.std.proofs.Common.{rules, ◌≡◌, ℕ, zero, suc, true, false, List, [], ◌∷◌, ◌++◌, take, Option, Some, None, Result, Ok, Err, ◌⊎◌, inl, inr, refl, sym, ◌∙◌, ap, subst, append_assoc}
+use Rattle.std.proofs.Common.{rules, ◌≡◌, ℕ, zero, suc, true, false, List, [], ◌∷◌, ◌++◌, take, Option, Some, None, Result, Ok, Err, IfErr, inl, inr, refl, sym, ◌∙◌, ap, subst, append_assoc}
 use Rattle.std.proofs.lemmas.List.{append-nil}
 use Rattle.std.specs.List.{slice_get}
 use Rattle.sc_definitions.specs.declared.events.Event.{Event}
-use Rattle.sc_definitions.specs.Ring.{Ops}
 use Rattle.sc_definitions.specs.Events.{Rules, Extension}
 use Rattle.sc_definitions.specs.Transcript.{Round, round_events, rounds_events}
 use Rattle.sc_definitions.specs.Replays.{round_passes, AllPass, given_rounds}
+use Rattle.sc_audit.specs.declared.report.Report.{Report}
 use Rattle.sc_audit.specs.declared.error.AuditError.{AuditError}
-use Rattle.sc_audit.specs.declared.error.AuditError.TheVariants.{Unbuilt, JobShape, StrategyUnfit, FalseClaim, MissingSumcheckData, NoWitness, RoundCountMismatch, PowWitnessCountMismatch, InvalidPowWitness, NoMemory}
+use Rattle.sc_audit.specs.declared.error.AuditError.TheVariants.{Unbuilt, NoWitness, InvalidPowWitness, NoMemory}
 use Rattle.sc_audit.specs.declared.error.Form.TheVariants.{Mode, Groups, Verdict}
-use Rattle.sc_audit.specs.Cases.{Case, Task, Given, build, check}
-use Rattle.sc_audit.specs.Refusals.{or_later, mode_refusal, shape_refusal, missing_refusal, count_refusal, task_refusal, refusal_of}
+use Rattle.sc_audit.specs.Cases.{Task, Given, build, check, Asked, with_task, start_of}
+use Rattle.sc_audit.specs.Refusals.{arity_of, shape_by, or_later, mode_refusal, shape_refusal, missing_refusal, count_refusal, task_refusal, refusal_of}
 use Rattle.sc_audit.specs.Figures.{Figures}
-use Rattle.sc_audit.specs.Audits.{begun, IsAudited, IsLucky, IsBrokenOff, FailsAt, IsFailing, IsUnground, IsCaused, PassesAll, IsValid, MayMeet, IsUngroundResult}
-
--- in no rounds there is no round
-no_round : {T : Type 0} {x : T} → ◌≡◌ {A = Option T} None (Some x) → ⊥
-no_round is = cc
+use Rattle.sc_audit.specs.Audits.{IsPlayed, WitnessFails, IsCaused, Answers, IsRefusedBy, PassesAll, IsValid, MayMeet}
 
 -- nothing is no error
 pub no_error : (e : AuditError) → ◌≡◌ {A = Option AuditError} None (Some e) → ⊥
-no_error e is = no_round is
+no_error e is = cc
 
--- want of memory is no want of a witness, which is told of one round
-pub unlike : (i : ℕ) → NoMemory ≡ NoWitness i → ⊥
-unlike i e = cc
+-- ---- what is answered, by other names
 
-pub same_round : (i j : ℕ) → NoWitness i ≡ NoWitness j → i ≡ j
-same_round i j e = cc
+pub answers_as : {F EF : Type 0} (base : F → ℕ) (number : EF → ℕ) (first first' : Option AuditError) (q q' : Asked) (r : Result (Report F EF) AuditError) (h : List Event) →
+    first ≡ first' → q ≡ q' → Answers base number first q r h → Answers base number first' q' r h
+answers_as base number first first' q q' r h ef eq p =
+    subst (λ f. Answers base number f q' r h) ef (subst (λ t. Answers base number first t r h) eq p)
 
--- no witness was found in a round that has a number
-pub unground_is : {T : Type 0} (r : Result T AuditError) → IsUngroundResult r → (i : ℕ) × (r ≡ Err (NoWitness i))
-unground_is (Ok x) p = absurd p
-unground_is (Err (Unbuilt form)) p = absurd p
-unground_is (Err (JobShape fault)) p = absurd p
-unground_is (Err (StrategyUnfit fault)) p = absurd p
-unground_is (Err (FalseClaim i a b)) p = absurd p
-unground_is (Err (MissingSumcheckData n)) p = absurd p
-unground_is (Err (RoundCountMismatch n m)) p = absurd p
-unground_is (Err (PowWitnessCountMismatch n m)) p = absurd p
-unground_is (Err (InvalidPowWitness i d)) p = absurd p
-unground_is (Err (NoWitness i)) p = (i, refl)
-unground_is (Err NoMemory) p = absurd p
+-- an error that is this one
+pub caused_err : (first : Option AuditError) (q : Asked) (h : List Event) (e e' : AuditError) → e ≡ e' → IsCaused first q h e' → IsCaused first q h e
+caused_err first q h e e' is p = subst (IsCaused first q h) (sym is) p
 
-module _ (first : Option AuditError) (o : Ops) (R : Rules) (E : Extension) (size : ℕ) (h : List Event) (k : Case) (h' : List Event) (e : AuditError) where
-  pub caused-memory : (task : Task) → e ≡ NoMemory → (h' ≡ h) ⊎ IsBrokenOff o R E h k task h' → IsCaused first o R E size h k task e h'
-  caused-memory task is left = subst (λ t. IsCaused first o R E size h k task t h') (sym is) left
+pub refused_err : (T : Type 0) (first : Option AuditError) (e e' : AuditError) → e ≡ e' → IsRefusedBy {T = T} first (Err e') → IsRefusedBy {T = T} first (Err e)
+refused_err T first e e' is p = subst (λ t. IsRefusedBy {T = T} first (Err t)) (sym is) p
 
-  pub caused-lucky : (task : Task) → e ≡ Unbuilt Verdict → IsLucky o R E h k task h' → IsCaused first o R E size h k task e h'
-  caused-lucky task is found = subst (λ t. IsCaused first o R E size h k task t h') (sym is) found
+-- want of memory that leaves the history as it was
+pub no_memory_answers : {F EF : Type 0} (base : F → ℕ) (number : EF → ℕ) (first : Option AuditError) (q : Asked) (r : Result (Report F EF) AuditError) (h : List Event) →
+    r ≡ Err NoMemory → h ≡ q.history → Answers base number first q r h
+no_memory_answers base number first q r h is kept = subst (λ t. Answers base number first q t h) (sym is) (inl kept)
 
-  pub caused-unground : (task : Task) (i : ℕ) → e ≡ NoWitness i → IsUnground o R E size h k task i → h' ≡ h → IsCaused first o R E size h k task e h'
-  caused-unground task i is found kept = subst (λ t. IsCaused first o R E size h k task t h') (sym is) (found, kept)
+pub refused_by_name : {T : Type 0} (first first' : Option AuditError) (r : Result T AuditError) → first ≡ first' → IsRefusedBy first r → IsRefusedBy first' r
+refused_by_name first first' r same p = subst (λ f. IsRefusedBy f r) same p
 
-  pub caused-rounds : (task : Task) (n m : ℕ) → e ≡ RoundCountMismatch n m → first ≡ Some (RoundCountMismatch n m) → h' ≡ h → IsCaused first o R E size h k task e h'
-  caused-rounds task n m is found kept = subst (λ t. IsCaused first o R E size h k task t h') (sym is) (found, kept)
+-- nothing is refused
+pub unrefused : {T : Type 0} (first : Option AuditError) (r : Result T AuditError) → first ≡ None → IsRefusedBy first r
+unrefused first r none = subst (λ f. IsRefusedBy f r) (sym none) tt
 
-  pub caused-witnesses : (task : Task) (n m : ℕ) → e ≡ PowWitnessCountMismatch n m → first ≡ Some (PowWitnessCountMismatch n m) → h' ≡ h → IsCaused first o R E size h k task e h'
-  caused-witnesses task n m is found kept = subst (λ t. IsCaused first o R E size h k task t h') (sym is) (found, kept)
+-- the refusal is answered
+pub refused_as : (T : Type 0) (first : Option AuditError) (e : AuditError) → first ≡ Some e → IsRefusedBy {T = T} first (Err e)
+refused_as T first e is = subst (λ f. IsRefusedBy {T = T} f (Err e)) (sym is) (inl refl)
 
-  pub caused-invalid : (given : Given) (i d : ℕ) → e ≡ InvalidPowWitness i d → d ≡ k.bits → FailsAt o R E h k given i h' → IsCaused first o R E size h k (check (Some given)) e h'
-  caused-invalid given i d is same found = subst (λ t. IsCaused first o R E size h k (check (Some given)) t h') (sym is) (same, found)
+-- or memory is wanted
+pub refused_or_memory : {T : Type 0} (first : Option AuditError) (r : Result T AuditError) → r ≡ Err NoMemory → IsRefusedBy first r
+refused_or_memory None r none = tt
+refused_or_memory (Some e) r none = inr none
+
+-- ---- an absent proof
 
 -- a proof of no rounds
 abbrev nothing : Given
@@ -70,50 +63,64 @@ nothing = record { messages = []; witnesses = [] }
 no_count : (bits : ℕ) → count_refusal 0 bits nothing ≡ None
 no_count bits = search rules
 
--- without a variable no proof is refused for want of one
-pub none_missing : (n : ℕ) (e : AuditError) → n ≡ 0 → missing_refusal n ≡ Some e → ⊥
-none_missing n e none is = no_error e (sym (ap missing_refusal none) ∙ is)
+pub none_missing : (n : ℕ) → n ≡ 0 → missing_refusal n ≡ None
+none_missing n none = ap missing_refusal none ∙ search rules
 
-no_proof : (o : Ops) (R : Rules) (E : Extension) (h : List Event) (k : Case) (r : Figures) (h' : List Event) →
-    IsAudited o R E h k (check (Some nothing)) r h' → IsAudited o R E h k (check None) r h'
-no_proof o R E h k r h' a = record { rounds = a.rounds; are = a.are; plays = a.plays; figures = a.figures }
+module _ (q : Asked) where
+  abbrev absent : Asked
+  absent = with_task q (check None)
 
-module _ (o : Ops) (R : Rules) (E : Extension) (size : ℕ) (h : List Event) (k : Case) (h' : List Event) where
-  unrefused : (bits : ℕ) (e : AuditError) → count_refusal 0 bits nothing ≡ Some e → ⊥
-  unrefused bits e is = no_error e (sym (no_count bits) ∙ is)
+  abbrev empty : Asked
+  empty = with_task q (check (Some nothing))
+
+  unplayed : {figures : Figures} {h : List Event} → IsPlayed empty figures h → IsPlayed absent figures h
+  unplayed p = record { rounds = p.rounds; are = p.are; count = p.count; passes = p.passes; history = p.history; is = p.is }
 
   -- what a proof of no rounds meets, an absent one does
-  caused-nothing : (bits : ℕ) (e : AuditError) → IsCaused (count_refusal 0 bits nothing) o R E size h k (check (Some nothing)) e h' →
-      IsCaused (missing_refusal 0) o R E size h k (check None) e h'
-  caused-nothing bits (Unbuilt Mode) found = absurd (unrefused bits (Unbuilt Mode) found.0)
-  caused-nothing bits (Unbuilt Groups) found = found
-  caused-nothing bits (Unbuilt Verdict) found = record { report = found.report; audited = no_proof o R E h k found.report h' found.audited; lucky = found.lucky }
-  caused-nothing bits (JobShape fault) found = absurd (unrefused bits (JobShape fault) found.0)
-  caused-nothing bits (StrategyUnfit fault) found = absurd (unrefused bits (StrategyUnfit fault) found.0)
-  caused-nothing bits (FalseClaim i a b) found = absurd (unrefused bits (FalseClaim i a b) found.0)
-  caused-nothing bits (MissingSumcheckData n) found = absurd (unrefused bits (MissingSumcheckData n) found.0)
-  caused-nothing bits (RoundCountMismatch n m) found = absurd (unrefused bits (RoundCountMismatch n m) found.0)
-  caused-nothing bits (PowWitnessCountMismatch n m) found = absurd (unrefused bits (PowWitnessCountMismatch n m) found.0)
-  caused-nothing bits (InvalidPowWitness i d) found = (let clash : ⊥ = no_round found.1.at.is in absurd clash)
-  caused-nothing bits (NoWitness i) found = found
-  caused-nothing bits NoMemory (inl kept) = inl kept
-  caused-nothing bits NoMemory (inr some) = inr (record { rounds = some.rounds; are = some.are; count = some.count; played = some.played; passes = some.passes; history = some.history })
+  caused_nothing : (bits : ℕ) (h : List Event) (e : AuditError) → IsCaused (count_refusal 0 bits nothing) empty h e → IsCaused (missing_refusal 0) absent h e
+  caused_nothing bits h (Unbuilt Mode) found = absurd (no_error _ (sym (no_count bits) ∙ found.0))
+  caused_nothing bits h (Unbuilt Groups) found = found
+  caused_nothing bits h (Unbuilt Verdict) found = record { figures = found.figures; played = unplayed found.played; lucky = found.lucky }
+  caused_nothing bits h (InvalidPowWitness i d) found = (let none = found.1.at.is in absurd cc)
+  caused_nothing bits h (NoWitness i) found = found
+  caused_nothing bits h NoMemory (inl kept) = inl kept
+  caused_nothing bits h NoMemory (inr some) =
+      inr (record { rounds = some.rounds; are = some.are; count = some.count; played = some.played; passes = some.passes; history = some.history })
+  caused_nothing bits h e found = absurd (no_error _ (sym (no_count bits) ∙ found.0))
 
-  pub caused-none : (n bits : ℕ) (messages : List (List ℕ)) (witnesses : List ℕ) (e : AuditError) → n ≡ 0 → messages ≡ [] → witnesses ≡ [] →
-      IsCaused (count_refusal n bits (record { messages = messages; witnesses = witnesses })) o R E size h k (check (Some (record { messages = messages; witnesses = witnesses }))) e h' →
-      IsCaused (missing_refusal n) o R E size h k (check None) e h'
-  caused-none n bits messages witnesses e none no_messages no_witnesses found =
-      subst (λ m. IsCaused (missing_refusal m) o R E size h k (check None) e h') (sym none)
-      (caused-nothing bits e
-      (subst (λ m. IsCaused (count_refusal m bits nothing) o R E size h k (check (Some nothing)) e h') none
-      (subst (λ w. IsCaused (count_refusal n bits (record { messages = []; witnesses = w })) o R E size h k (check (Some (record { messages = []; witnesses = w }))) e h') no_witnesses
-      (subst (λ l. IsCaused (count_refusal n bits (record { messages = l; witnesses = witnesses })) o R E size h k (check (Some (record { messages = l; witnesses = witnesses }))) e h') no_messages found))))
+  answers_nothing : {F EF : Type 0} (base : F → ℕ) (number : EF → ℕ) (bits : ℕ) (r : Result (Report F EF) AuditError) (h : List Event) →
+      Answers base number (count_refusal 0 bits nothing) empty r h → Answers base number (missing_refusal 0) absent r h
+  answers_nothing base number bits (Ok r) h p = record { played = unplayed p.played; no_luck = p.no_luck; grids = p.grids }
+  answers_nothing base number bits (Err e) h p = caused_nothing bits h e p
+
+  pub answers_none : {F EF : Type 0} (base : F → ℕ) (number : EF → ℕ) (n bits : ℕ) (given : Given) (r : Result (Report F EF) AuditError) (h : List Event) → n ≡ 0 → given ≡ nothing →
+      Answers base number (count_refusal n bits given) (with_task q (check (Some given))) r h → Answers base number (missing_refusal n) absent r h
+  answers_none base number n bits given r h none empty_one p =
+      subst (λ m. Answers base number (missing_refusal m) absent r h) (sym none)
+      (answers_nothing base number bits r h
+      (subst (λ g. Answers base number (count_refusal 0 bits g) (with_task q (check (Some g))) r h) empty_one
+      (subst (λ m. Answers base number (count_refusal m bits given) (with_task q (check (Some given))) r h) none p)))
+
+-- ---- earlier refusals
 
 -- nothing earlier refuses: the refusal is that of what is done
-pub no_earlier : (o : Ops) (max_bits : ℕ) (k : Case) → mode_refusal k.task ≡ None → shape_refusal max_bits k ≡ None → refusal_of o max_bits k ≡ task_refusal o k.problem k.bits k.task
-no_earlier o max_bits k mode shape =
-    ap (λ t. or_later t (or_later (shape_refusal max_bits k) (task_refusal o k.problem k.bits k.task))) mode
-    ∙ ap (λ t. or_later t (task_refusal o k.problem k.bits k.task)) shape
+pub no_earlier : (q : Asked) → mode_refusal q.case.task ≡ None → shape_refusal q ≡ None → task_refusal q ≡ refusal_of q
+no_earlier q mode shape =
+    sym (ap (λ t. or_later t (or_later (shape_refusal q) (task_refusal q))) mode ∙ ap (λ t. or_later t (task_refusal q)) shape)
+
+-- a shape by other names of the number of rows and of the greatest difficulty
+pub shape_as : (rows rows' most most' bits n : ℕ) (first : Option AuditError) → rows ≡ rows' → most ≡ most' → shape_by (arity_of rows) most rows bits n ≡ first →
+    shape_by (arity_of rows') most' rows' bits n ≡ first
+shape_as rows rows' most most' bits n first er em is = rw (er, em) at is
+
+-- an earlier one is the refusal
+pub mode_first : (q : Asked) (e : AuditError) → mode_refusal q.case.task ≡ Some e → refusal_of q ≡ Some e
+mode_first q e mode = ap (λ t. or_later t (or_later (shape_refusal q) (task_refusal q))) mode
+
+pub shape_first : (q : Asked) (e : AuditError) → mode_refusal q.case.task ≡ None → shape_refusal q ≡ Some e → refusal_of q ≡ Some e
+shape_first q e mode shape = ap (λ t. or_later t (or_later (shape_refusal q) (task_refusal q))) mode ∙ ap (λ t. or_later t (task_refusal q)) shape
+
+-- ---- valid cases
 
 -- a round of which each witness passes
 passes_at : (R : Rules) (E : Extension) (bits : ℕ) (h : List Event) (rounds : List Round) (i : ℕ) (r : Round) → AllPass R E bits h rounds → slice_get rounds i ≡ Some r →
@@ -127,26 +134,29 @@ passes_at R E bits h (q ∷ rounds) (suc i) r p is =
     ∙ passes_at R E bits (h ++ round_events E bits q) rounds i r p.1 is
 
 -- no round fails where all pass
-not_failing : (o : Ops) (R : Rules) (E : Extension) (h : List Event) (k : Case) (i : ℕ) (h' : List Event) (task : Task) → PassesAll R E h k task → IsFailing o R E h k task i h' → ⊥
-not_failing o R E h k i h' (build strategy) all fails = fails
-not_failing o R E h k i h' (check None) all fails = fails
-not_failing o R E h k i h' (check (Some given)) all fails =
-    let passes : round_passes R E k.bits fails.at.before fails.at.round ≡ true =
-    ap (λ t. round_passes R E k.bits t fails.at.round) fails.at.replays.history ∙ passes_at R E k.bits (begun E h k) (given_rounds given.messages given.witnesses) i fails.at.round all fails.at.is in
-    let clash : true ≡ false = sym passes ∙ fails.at.fails in cc
+not_failing : (q : Asked) (i : ℕ) (h : List Event) (task : Task) → PassesAll q task → WitnessFails q task i h → ⊥
+not_failing q i h (build strategy) all fails = fails
+not_failing q i h (check None) all fails = fails
+not_failing q i h (check (Some given)) all fails =
+    let R = q.channel.rules in
+    let E = q.channel.extension in
+    let bits = q.channel.bits in
+    let at = fails.at in
+    let passes : round_passes R E bits at.last at.round ≡ true =
+    ap (λ t. round_passes R E bits t at.round) at.replays.history ∙ passes_at R E bits (start_of q).history (given_rounds given.messages given.witnesses) i at.round all at.is in
+    let clash : true ≡ false = sym passes ∙ at.test.fails in cc
 
 -- what a valid case may meet
-pub valid-answered : (o : Ops) (R : Rules) (E : Extension) (size : ℕ) (h : List Event) (k : Case) (h' : List Event) (e : AuditError) →
-    IsValid o R E h k → IsCaused (refusal_of o R.max_bits k) o R E size h k k.task e h' → MayMeet e
-valid-answered o R E size h k h' (Unbuilt Mode) valid found = (let clash = sym valid.fits ∙ found.0 in cc)
-valid-answered o R E size h k h' (Unbuilt Groups) valid found = found
-valid-answered o R E size h k h' (Unbuilt Verdict) valid found = tt
-valid-answered o R E size h k h' (JobShape fault) valid found = (let clash = sym valid.fits ∙ found.0 in cc)
-valid-answered o R E size h k h' (StrategyUnfit fault) valid found = (let clash = sym valid.fits ∙ found.0 in cc)
-valid-answered o R E size h k h' (FalseClaim i a b) valid found = (let clash = sym valid.fits ∙ found.0 in cc)
-valid-answered o R E size h k h' (MissingSumcheckData n) valid found = (let clash = sym valid.fits ∙ found.0 in cc)
-valid-answered o R E size h k h' (RoundCountMismatch n m) valid found = (let clash = sym valid.fits ∙ found.0 in cc)
-valid-answered o R E size h k h' (PowWitnessCountMismatch n m) valid found = (let clash = sym valid.fits ∙ found.0 in cc)
-valid-answered o R E size h k h' (InvalidPowWitness i d) valid found = absurd (not_failing o R E h k i h' k.task valid.passes found.1)
-valid-answered o R E size h k h' (NoWitness i) valid found = tt
-valid-answered o R E size h k h' NoMemory valid found = tt
+may_meet : (q : Asked) (h : List Event) (e : AuditError) → IsValid q → IsCaused (refusal_of q) q h e → MayMeet e
+may_meet q h (Unbuilt Mode) valid found = absurd (no_error _ (sym valid.fits ∙ found.0))
+may_meet q h (Unbuilt Groups) valid found = found
+may_meet q h (Unbuilt Verdict) valid found = tt
+may_meet q h (InvalidPowWitness i bits) valid found = absurd (not_failing q i h q.case.task valid.passes found.1)
+may_meet q h (NoWitness i) valid found = tt
+may_meet q h NoMemory valid found = tt
+may_meet q h e valid found = absurd (no_error _ (sym valid.fits ∙ found.0))
+
+pub valid_answered : {F EF : Type 0} (base : F → ℕ) (number : EF → ℕ) (q : Asked) (r : Result (Report F EF) AuditError) (h : List Event) →
+    Answers base number (refusal_of q) q r h → IsValid q → IfErr r MayMeet
+valid_answered base number q (Ok r) h p valid = tt
+valid_answered base number q (Err e) h p valid = may_meet q h e valid p

@@ -1,22 +1,29 @@
 -- The report on rounds of a proof that were replayed.
-use Rattle.std.proofs.Common.{◌≡◌, ℕ, zero, suc, List, [], ◌∷◌, length, map, Some, refl, ap, sym, ◌∙◌, arith, inl, inr}
+use Rattle.std.proofs.Common.{◌≡◌, ℕ, zero, suc, List, [], ◌∷◌, length, map, Some, refl, ap, sym, ◌∙◌, subst, arith, inl, inr, Option, Result, Ok, Err}
 use Rattle.std.proofs.lemmas.Bool.Decides.{eqb_tells}
 use Rattle.std.proofs.Math.Seq.{take-length}
-use Rattle.sc_definitions.specs.declared.events.Event.{Event}
-use Rattle.sc_definitions.specs.Ring.{Ops}
-use Rattle.sc_definitions.specs.Tables.{evaluation, Order}
 use Rattle.sc_definitions.specs.Rounds.{next_claim}
-use Rattle.sc_definitions.specs.Statements.{Statement}
-use Rattle.sc_definitions.specs.Events.{Rules, Extension}
 use Rattle.sc_definitions.specs.Transcript.{Round, messages_of}
-use Rattle.sc_definitions.specs.Replays.{Replays, ReplaysSome, given_rounds}
-use Rattle.sc_definitions.specs.Problem.{claim_of, residual_of}
+use Rattle.sc_definitions.specs.Replays.{given_rounds}
+use Rattle.sc_definitions.specs.Channels.{Footing, witnesses_of, IsReplayed, IsReplayedInPart, FailsAt}
+use Rattle.sc_definitions.specs.Problem.{residual_of}
+use Rattle.sc_definitions.proofs.BuiltLaws.{length-challenges}
 use Rattle.sc_definitions.proofs.ReplayLaws.{length-given_rounds, messages-given_rounds}
-use Rattle.sc_transcript.specs.Data.{witness_count, witnesses_of}
-use Rattle.sc_audit.specs.Cases.{Task, check}
-use Rattle.sc_audit.specs.Figures.{Figures, figures_of}
-use Rattle.sc_audit.specs.Audits.{begun, IsAudited, IsBrokenOff}
-use Rattle.sc_audit.proofs.FigureLaws.{stated}
+use Rattle.sc_transcript.specs.Data.{witness_count}
+use Rattle.sc_transcript.specs.Replayed.{Replay, LeavesReplay}
+use Rattle.sc_transcript.specs.declared.error.SumcheckError.{SumcheckError}
+use Rattle.sc_transcript.specs.declared.error.SumcheckError.TheVariants as replay
+use Rattle.sc_audit.specs.declared.report.Report.{Report}
+use Rattle.sc_audit.specs.declared.error.AuditError.{AuditError}
+use Rattle.sc_audit.specs.declared.error.AuditError.TheVariants.{Unbuilt, RoundCountMismatch, PowWitnessCountMismatch, NoMemory}
+use Rattle.sc_audit.specs.declared.error.Form.TheVariants.{Verdict}
+use Rattle.sc_audit.specs.Cases.{Given, check, Asked, with_task, start_of}
+use Rattle.sc_audit.specs.Refusals.{count_refusal}
+use Rattle.sc_audit.specs.Figures.{figures_of}
+use Rattle.sc_audit.specs.Audits.{IsPlayed, IsCaused, Answers, IsRefusedBy, refusal_by}
+use Rattle.sc_audit.specs.Checked.{LeavesReport}
+use Rattle.sc_audit.proofs.CauseLaws.{unrefused, refused_as}
+use Rattle.sc_audit.proofs.CountLaws.{count-rounds, count-witnesses, count-none}
 
 -- the witnesses of the rounds are those that were handed in
 all_witnesses : (ms : List (List ℕ)) (ws : List ℕ) → length ws ≡ length ms → map (λ r. r.witness) (given_rounds ms ws) ≡ ws
@@ -29,7 +36,7 @@ no_witnesses : (ws : List ℕ) → length ws ≡ 0 → ws ≡ []
 no_witnesses [] e = refl
 no_witnesses (w ∷ ws) e = absurd (omega (arith, e))
 
-pub witnesses-given : (bits n : ℕ) (ms : List (List ℕ)) (ws : List ℕ) → length ms ≡ n → length ws ≡ witness_count bits n → witnesses_of bits (given_rounds ms ws) ≡ ws
+witnesses-given : (bits n : ℕ) (ms : List (List ℕ)) (ws : List ℕ) → length ms ≡ n → length ws ≡ witness_count bits n → witnesses_of bits (given_rounds ms ws) ≡ ws
 witnesses-given zero n ms ws em ew = sym (no_witnesses ws ew)
 witnesses-given (suc bits) n ms ws em ew =
     elim (eqb_tells (suc bits) 0) [
@@ -37,43 +44,115 @@ witnesses-given (suc bits) n ms ws em ew =
       | inr t ↦ let count : length ws ≡ n = rw t.0 at ew in all_witnesses ms ws (count ∙ sym em)
     ]
 
--- all rounds are some of them
-pub all-some : (next : ℕ → List ℕ → ℕ → ℕ) (R : Rules) (E : Extension) (bits : ℕ) (start : List Event) (claim : ℕ) (rounds : List Round) (hv : List Event) (out : List ℕ) (residual : ℕ) →
-    Replays next R E bits start claim rounds hv out residual → ReplaysSome next R E bits start claim rounds hv residual
-all-some next R E bits start claim rounds hv out residual p = record { count = length rounds; out = out; replays = rw (take-length rounds) p }
+module _ (q : Asked) (given : Given) where
+  abbrev checked : Asked
+  checked = with_task q (check (Some given))
 
--- a replay of a proof that was broken off
-pub broken-checked : (order : Order) (o : Ops) (R : Rules) (E : Extension) (bits n : ℕ) (f : ℕ → ℕ) (ss : List Statement) (c i : ℕ) (h : List Event) (rows : ℕ) (task : Task)
-    (ms : List (List ℕ)) (ws : List ℕ) (hv : List Event) (residual : ℕ) →
-    ReplaysSome (next_claim evaluation o) R E bits (begun E h (record { rows = rows; bits = bits; problem = stated order n f ss c i; task = task }))
-    (claim_of o (stated order n f ss c i)) (given_rounds ms ws) hv residual → length ms ≡ n →
-    IsBrokenOff o R E h (record { rows = rows; bits = bits; problem = stated order n f ss c i; task = task }) (check (Some (record { messages = ms; witnesses = ws }))) hv
-broken-checked order o R E bits n f ss c i h rows task ms ws hv residual some count = record {
-  rounds = given_rounds ms ws;
-  are = refl;
-  count = length-given_rounds ms ws ∙ count;
-  played = some.count;
-  passes = some.replays.passes;
-  history = some.replays.history;
-}
+  abbrev rounds_of : List Round
+  rounds_of = given_rounds given.messages given.witnesses
 
-module _ (order : Order) (o : Ops) (R : Rules) (E : Extension) (bits n : ℕ) (f : ℕ → ℕ) (ss : List Statement) (c i : ℕ) (h : List Event) (rows : ℕ) (task : Task)
-    (ms : List (List ℕ)) (ws : List ℕ) (hv : List Event) (out : List ℕ) (residual : ℕ)
-    (replays : Replays (next_claim evaluation o) R E bits (begun E h (record { rows = rows; bits = bits; problem = stated order n f ss c i; task = task }))
-    (claim_of o (stated order n f ss c i)) (given_rounds ms ws) hv out residual) (count : length ms ≡ n) where
-  pub residual-checked : residual ≡ residual_of o (stated order n f ss c i) ms out
-  unfolding residual_of
-  residual-checked = rw (← replays.drawn, messages-given_rounds) at replays.claim
+  abbrev next : ℕ → List ℕ → ℕ → ℕ
+  next = next_claim q.case.problem.basis q.ops
 
-  pub report-checked : (report : Figures) → length ws ≡ witness_count bits n → report ≡ figures_of o (stated order n f ss c i) ms ws out →
-      IsAudited o R E h (record { rows = rows; bits = bits; problem = stated order n f ss c i; task = task }) (check (Some (record { messages = ms; witnesses = ws }))) report hv
-  report-checked report found is =
-      let p = stated order n f ss c i in
-      record {
-        rounds = given_rounds ms ws;
-        are = refl;
-        plays = record { count = length-given_rounds ms ws ∙ count; passes = replays.passes; history = replays.history };
-        figures = is ∙ ap (λ t. figures_of o p t ws out) (sym (messages-given_rounds ms ws))
-            ∙ ap (λ t. figures_of o p (messages_of (given_rounds ms ws)) t out) (sym (witnesses-given bits n ms ws count found))
-            ∙ ap (figures_of o p (messages_of (given_rounds ms ws)) (witnesses_of bits (given_rounds ms ws))) replays.drawn;
-      }
+  -- a replay of it from a footing on, where so many rounds are expected
+  abbrev replay_from : Footing → ℕ → ℕ → ℕ → Replay
+  replay_from start expected came found =
+      record { next = next; channel = q.channel; start = start; rounds = rounds_of; expected = expected; came = came; witnesses = found }
+
+  -- ---- a proof that was replayed whole
+
+  module _ (end : Footing) (out : List ℕ) (replays : IsReplayed next q.channel (start_of q) end rounds_of out) (count : length given.messages ≡ q.case.problem.variables)
+      (found : length given.witnesses ≡ witness_count q.channel.bits q.case.problem.variables) where
+    pub residual_checked : end.claim ≡ residual_of q.ops q.case.problem given.messages out
+    unfolding residual_of
+    residual_checked = rw (← replays.drawn, messages-given_rounds) at replays.claim
+
+    pub challenges_checked : length out ≡ q.case.problem.variables
+    challenges_checked = ap length replays.drawn ∙ length-challenges _ _ _ _ rounds_of ∙ length-given_rounds _ _ ∙ count
+
+    played_checked : IsPlayed checked (figures_of q.ops q.case.problem given.messages given.witnesses out) end.history
+    played_checked =
+        let o = q.ops in
+        let p = q.case.problem in
+        let ms = given.messages in
+        let ws = given.witnesses in
+        record {
+          rounds = rounds_of;
+          are = refl;
+          count = length-given_rounds ms ws ∙ count;
+          passes = replays.passes;
+          history = replays.history;
+          is = ap (λ t. figures_of o p t ws out) (sym (messages-given_rounds ms ws))
+              ∙ ap (λ t. figures_of o p (messages_of rounds_of) t out) (sym (witnesses-given q.channel.bits p.variables ms ws count found))
+              ∙ ap (figures_of o p (messages_of rounds_of) (witnesses_of q.channel.bits rounds_of)) replays.drawn;
+        }
+
+    -- what the report on it is
+    pub report_checked : {F EF : Type 0} (base : F → ℕ) (number : EF → ℕ) (first : Option AuditError) (r : Result (Report F EF) AuditError) →
+        LeavesReport base number (figures_of q.ops q.case.problem given.messages given.witnesses out) r → Answers base number first checked r end.history
+    report_checked base number first (Ok r) p = record {
+      played = subst (λ figures. IsPlayed checked figures end.history) (sym p.figures_are) played_checked;
+      no_luck = p.no_luck;
+      grids = p.grids;
+    }
+    report_checked base number first (Err NoMemory) p =
+        let whole = take-length rounds_of in
+        inr (record {
+          rounds = rounds_of;
+          are = refl;
+          count = length-given_rounds given.messages given.witnesses ∙ count;
+          played = length rounds_of;
+          passes = rw whole replays.passes;
+          history = rw whole replays.history;
+        })
+    report_checked base number first (Err (Unbuilt Verdict)) p =
+        record { figures = figures_of q.ops q.case.problem given.messages given.witnesses out; played = played_checked; lucky = p }
+    report_checked base number first (Err e) p = absurd p
+
+  -- ---- a proof that was refused
+
+  pub proof_refused : {X : Type 0} (number : X → ℕ) (history claim : Type 0) (start end : Footing) (expected came found : ℕ) (e : SumcheckError) →
+      expected ≡ q.case.problem.variables → start ≡ start_of q → (history → end.history ≡ q.history) → length given.messages ≡ came → length given.witnesses ≡ found →
+      LeavesReplay number (history × claim)
+      (replay_from start expected came found) (Err e) end →
+      IsCaused (count_refusal q.case.problem.variables q.channel.bits given) checked end.history (refusal_by e)
+  proof_refused number history claim start end expected came found replay.NoMemory size begun kept messages witnesses left = elim left.1 [
+    | inl none ↦ inl (kept none.0)
+    | inr part ↦
+        let some : IsReplayedInPart next q.channel (start_of q) end rounds_of = subst (λ f. IsReplayedInPart next q.channel f end rounds_of) begun part in
+        inr (record {
+          rounds = rounds_of;
+          are = refl;
+          count = length-given_rounds given.messages given.witnesses ∙ messages ∙ left.0.rounds ∙ size;
+          played = some.count;
+          passes = some.replays.passes;
+          history = some.replays.history;
+        })
+  ]
+  proof_refused number history claim start end expected came found (replay.InvalidPowWitness i bits) size begun kept messages witnesses left =
+      (left.1, record { claim = end.claim; at = subst (λ f. FailsAt next q.channel f end rounds_of i) begun left.2 })
+  proof_refused number history claim start end expected came found (replay.RoundCountMismatch n m) size begun kept messages witnesses left =
+      let error : RoundCountMismatch q.case.problem.variables (length given.messages) ≡ RoundCountMismatch n m = rw (left.0, left.1, messages, size) refl in
+      (count-rounds q.case.problem.variables q.channel.bits given (λ equal. left.2 (sym messages ∙ equal ∙ sym size)) ∙ ap Some error, kept left.3.0)
+  proof_refused number history claim start end expected came found (replay.PowWitnessCountMismatch n m) size begun kept messages witnesses left =
+      let error : PowWitnessCountMismatch (witness_count q.channel.bits q.case.problem.variables) (length given.witnesses) ≡ PowWitnessCountMismatch n m = rw (left.0, left.1, witnesses, size) refl in
+      (count-witnesses q.case.problem.variables q.channel.bits given (messages ∙ left.2 ∙ size) (λ equal. left.3 (sym witnesses ∙ equal ∙ ap (witness_count q.channel.bits) (sym size))) ∙ ap Some error, kept left.4.0)
+  proof_refused number history claim start end expected came found e size begun kept messages witnesses left = absurd left
+
+  -- the counts are refused
+  pub counts_refused : {X : Type 0} (T : Type 0) (number : X → ℕ) (untouched : Type 0) (start end : Footing) (expected came found : ℕ) (e : SumcheckError) →
+      expected ≡ q.case.problem.variables → length given.messages ≡ came → length given.witnesses ≡ found →
+      LeavesReplay number untouched
+      (replay_from start expected came found) (Err e) end →
+      IsRefusedBy {T = T} (count_refusal q.case.problem.variables q.channel.bits given) (Err (refusal_by e))
+  counts_refused T number untouched start end expected came found replay.NoMemory size messages witnesses left =
+      unrefused _ _ (count-none q.case.problem.variables q.channel.bits given (messages ∙ left.0.rounds ∙ size) (witnesses ∙ left.0.witnesses ∙ ap (witness_count q.channel.bits) size))
+  counts_refused T number untouched start end expected came found (replay.InvalidPowWitness i bits) size messages witnesses left =
+      unrefused _ _ (count-none q.case.problem.variables q.channel.bits given (messages ∙ left.0.rounds ∙ size) (witnesses ∙ left.0.witnesses ∙ ap (witness_count q.channel.bits) size))
+  counts_refused T number untouched start end expected came found (replay.RoundCountMismatch n m) size messages witnesses left =
+      let error : RoundCountMismatch q.case.problem.variables (length given.messages) ≡ RoundCountMismatch n m = rw (left.0, left.1, messages, size) refl in
+      refused_as T _ _ (count-rounds q.case.problem.variables q.channel.bits given (λ equal. left.2 (sym messages ∙ equal ∙ sym size)) ∙ ap Some error)
+  counts_refused T number untouched start end expected came found (replay.PowWitnessCountMismatch n m) size messages witnesses left =
+      let error : PowWitnessCountMismatch (witness_count q.channel.bits q.case.problem.variables) (length given.witnesses) ≡ PowWitnessCountMismatch n m = rw (left.0, left.1, witnesses, size) refl in
+      refused_as T _ _ (count-witnesses q.case.problem.variables q.channel.bits given (messages ∙ left.2 ∙ size) (λ equal. left.3 (sym witnesses ∙ equal ∙ ap (witness_count q.channel.bits) (sym size))) ∙ ap Some error)
+  counts_refused T number untouched start end expected came found e size messages witnesses left = absurd left

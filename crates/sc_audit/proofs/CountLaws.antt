@@ -1,5 +1,5 @@
 -- The counts of a proof.
-use Rattle.std.proofs.Common.{◌≡◌, ℕ, length, if◌then◌else◌, ◌==◌, Some, refl, ◌∙◌, inl, inr}
+use Rattle.std.proofs.Common.{◌≡◌, ℕ, length, if◌then◌else◌, ◌==◌, Some, None, refl, ◌∙◌, inl, inr}
 use Rattle.std.proofs.lemmas.Bool.Decides.{eqb_tells}
 use Rattle.std.specs.Prelude.{Option}
 use Rattle.sc_transcript.specs.Data.{witness_count}
@@ -21,3 +21,6 @@ module _ (n bits : ℕ) (g : Given) where
 
   pub count-witnesses : length g.messages ≡ n → (length g.witnesses ≡ witness_count bits n → ⊥) → count_refusal n bits g ≡ Some (PowWitnessCountMismatch (witness_count bits n) (length g.witnesses))
   count-witnesses rounds apart = chosen (length g.messages) n _ _ rounds ∙ other (length g.witnesses) (witness_count bits n) _ _ apart
+
+  pub count-none : length g.messages ≡ n → length g.witnesses ≡ witness_count bits n → count_refusal n bits g ≡ None
+  count-none rounds witnesses = chosen (length g.messages) n _ _ rounds ∙ chosen (length g.witnesses) (witness_count bits n) _ _ witnesses

@@ -1,5 +1,14 @@
 -- The figures of a report, one by one.
-use Rattle.std.proofs.Common.{◌≡◌, ℕ, ◌==◌, List, Bool, refl, ◌∙◌}
+use Rattle.std.proofs.Common.{◌≡◌, ℕ, ◌==◌, List, ◌++◌, Bool, refl, sym, subst, ◌∙◌, Result, Ok, Err, IsErrAnd}
+use Rattle.sc_definitions.specs.Events.{words}
+use Rattle.sc_definitions.specs.Seeds.{quadratic_seed}
+use Rattle.sc_definitions.specs.Channels.{footing}
+use Rattle.sc_audit.specs.declared.report.Report.{Report}
+use Rattle.sc_audit.specs.declared.error.AuditError.{AuditError}
+use Rattle.sc_audit.specs.declared.error.AuditError.TheVariants.{Unbuilt}
+use Rattle.sc_audit.specs.declared.error.Form.TheVariants.{Verdict}
+use Rattle.sc_audit.specs.Cases.{Asked, start_of}
+use Rattle.sc_audit.specs.Checked.{LeavesReport, LeavesVerdict}
 use Rattle.sc_definitions.specs.Ring.{Ops, times}
 use Rattle.sc_definitions.specs.Tables.{evaluation, Order, value, point_of}
 use Rattle.sc_definitions.specs.Statements.{Statement, batched_weight, batched_claim}
@@ -46,3 +55,17 @@ module _ (o : Ops) (order : Order) (n : ℕ) (f : ℕ → ℕ) (ss : List Statem
   pub weight-at : (rs : List ℕ) (x : ℕ) → x ≡ value o (batched_weight o c i ss) (point_of order rs) → x ≡ weight_value_of o (stated order n f ss c i) rs
   unfolding weight_value_of weights_of
   weight-at rs x is = is
+
+-- where the first round stands, by other names
+pub start_is : (q : Asked) (degree k claim : ℕ) → degree ≡ q.channel.extension.degree → k ≡ q.case.problem.variables → claim ≡ claim_of q.ops q.case.problem →
+    footing (q.history ++ words (quadratic_seed degree q.case.problem.basis q.channel.bits k)) claim ≡ start_of q
+start_is q degree k claim ed ek ec = rw (ed, ek, ec) refl
+
+-- a verdict that there is none of, passed on
+pub report_passed : {F EF : Type 0} (V : Type 0) (base : F → ℕ) (number : EF → ℕ) (figures : Figures) (found : Finding) (r : Result (Report F EF) AuditError) (e : AuditError) →
+    IsErrAnd r (λ x. x ≡ e) → figures.finding ≡ found → LeavesVerdict {EF = V} found (Err e) → LeavesReport base number figures r
+report_passed V base number figures found (Ok r) e is same p = elim is [ ]
+report_passed V base number figures found (Err x) e is same p = lucky_passed x (subst (λ t. LeavesVerdict {EF = V} found (Err t)) (sym is) p) where
+  lucky_passed : (x : AuditError) → LeavesVerdict {EF = V} found (Err x) → LeavesReport base number figures (Err x)
+  lucky_passed (Unbuilt Verdict) lucky_one = same ∙ lucky_one
+  lucky_passed x none = absurd none

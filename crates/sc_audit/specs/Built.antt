@@ -1,29 +1,64 @@
 -- Rounds that were built, before they are replayed.
-use Rattle.std.specs.Prelude.{◌≡◌, ℕ, List, [], length, map}
-use Rattle.sc_definitions.specs.declared.events.Event.{Event}
+use Rattle.std.specs.Prelude.{◌≡◌, ℕ, List, length, map, Result, Ok, Err}
 use Rattle.sc_definitions.specs.Ring.{Ops}
-use Rattle.sc_definitions.specs.Events.{Rules, Extension}
-use Rattle.sc_definitions.specs.Transcript.{Round, messages_of, challenges, IsBuilt}
-use Rattle.sc_definitions.specs.Problem.{claim_of, honest_of, eval_of, weight_value_of}
-use Rattle.sc_transcript.specs.Data.{messages_in, witnesses_in, witnesses_of}
+use Rattle.sc_definitions.specs.Transcript.{Round, challenges}
+use Rattle.sc_definitions.specs.Channels.{Wire, empty_wire, with_rounds}
+use Rattle.sc_definitions.specs.Standings.{entries_of}
+use Rattle.sc_definitions.specs.Problem.{Problem, weights_of, claim_of, eval_of, weight_value_of}
+use Rattle.sc_transcript.specs.Data.{wire_in}
+use Rattle.sc_rounds.specs.Provers.{Shown}
+use Rattle.sc_audit.specs.declared.error.AuditError.{AuditError}
+use Rattle.sc_audit.specs.declared.error.AuditError.TheVariants.{NoWitness, NoMemory}
 use Rattle.sc_audit.specs.declared.strategies.Built.{Built}
-use Rattle.sc_audit.specs.Cases.{Case}
-use Rattle.sc_audit.specs.Audits.{begun}
+use Rattle.sc_audit.specs.Cases.{build, Asked, with_task, start_of}
+use Rattle.sc_audit.specs.Audits.{AreRounds, BuildStops}
+use Rattle.sc_table.specs.declared.strategy.Strategy.TheVariants.{Plain}
 
--- The rounds that an honest prover builds of a case from h on, by their messages, witnesses and challenges rs; the case's claim; and the values of its
--- table and of its weights at the challenges.
-pub record IsBuiltCase (o : Ops) (R : Rules) (E : Extension) (h : List Event) (c : Case) (claim : ℕ) (messages : List (List ℕ)) (witnesses rs : List ℕ) (eval weight : ℕ) : Type 0 where
+-- a build of it; with what strategy makes no difference to its rounds
+abbrev pub as_build : Asked → Asked
+as_build q = with_task q (build Plain)
+
+-- what a prover shows of a problem before its first round
+abbrev pub prover_for : Ops → Problem → Shown
+prover_for o p = record {
+  order = p.order;
+  variables = p.variables;
+  evals = entries_of p.variables p.table;
+  weights = entries_of p.variables (weights_of o p);
+  claim = claim_of o p;
+}
+
+-- what a build keeps: the claim that it began with, what it has put on the wire, its challenges, and the values of the table and of the weights there
+pub record Kept : Type 0 where
+  pub claim : ℕ
+  pub wire : Wire
+  pub challenges : List ℕ
+  pub eval : ℕ
+  pub weight : ℕ
+
+abbrev pub kept_in : {F EF : Type 0} → (F → ℕ) → (EF → ℕ) → Built F EF → Kept
+kept_in base number b = record {
+  claim = number b.claim;
+  wire = wire_in base number b.rounds;
+  challenges = map number b.challenges;
+  eval = number b.eval;
+  weight = number b.weight;
+}
+
+-- They are the rounds that an honest prover builds, with the case's claim and its values at their challenges.
+pub record IsBuiltCase (q : Asked) (b : Kept) : Type 0 where
   pub rounds : List Round
-  pub built : IsBuilt (honest_of o c.problem) R E c.bits (begun E h c) [] c.problem.variables rounds
-  pub count : length rounds ≡ c.problem.variables
-  pub sent : messages ≡ messages_of rounds
-  pub found : witnesses ≡ witnesses_of c.bits rounds
-  pub drawn : rs ≡ challenges R E c.bits (begun E h c) rounds
-  pub begins : claim ≡ claim_of o c.problem
-  pub eval_is : eval ≡ eval_of o c.problem rs
-  pub weight_is : weight ≡ weight_value_of o c.problem rs
+  pub built : AreRounds (as_build q) (build Plain) rounds
+  pub count : length rounds ≡ q.case.problem.variables
+  pub wire : b.wire ≡ with_rounds q.channel.bits empty_wire rounds
+  pub drawn : b.challenges ≡ challenges q.channel.rules q.channel.extension q.channel.bits (start_of q).history rounds
+  pub claim : b.claim ≡ claim_of q.ops q.case.problem
+  pub eval : b.eval ≡ eval_of q.ops q.case.problem b.challenges
+  pub weight : b.weight ≡ weight_value_of q.ops q.case.problem b.challenges
 
--- the same, of what a build keeps
-abbrev pub IsBuiltJob : {F EF : Type 0} → Ops → Rules → Extension → List Event → Case → (F → ℕ) → (EF → ℕ) → Built F EF → Type 0
-IsBuiltJob o R E h c base number b =
-    IsBuiltCase o R E h c (number b.claim) (messages_in number b.rounds) (witnesses_in base b.rounds) (map number b.challenges) (number b.eval) (number b.weight)
+-- what a build leaves, by its result
+abbrev pub LeavesBuild : {F EF : Type 0} → (F → ℕ) → (EF → ℕ) → Asked → Result (Built F EF) AuditError → Type 0
+LeavesBuild base number q (Ok b) = IsBuiltCase q (kept_in base number b)
+LeavesBuild base number q (Err NoMemory) = Unit {0}
+LeavesBuild base number q (Err (NoWitness i)) = BuildStops (as_build q) i
+LeavesBuild base number q (Err e) = ⊥

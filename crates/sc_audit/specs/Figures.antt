@@ -5,6 +5,7 @@ use Rattle.sc_definitions.specs.Ring.{Ops, times}
 use Rattle.sc_definitions.specs.Statements.{first_false_claim}
 use Rattle.sc_definitions.specs.Problem.{Problem, claim_of, residual_of, eval_of, weight_value_of}
 use Rattle.sc_transcript.specs.Data.{messages_in, witnesses_in}
+use Rattle.sc_svo.specs.declared.grid.Grid.{Grid}
 use Rattle.sc_audit.specs.declared.report.Report.{Report}
 use Rattle.sc_audit.specs.declared.report.Verdict.{Verdict}
 use Rattle.sc_audit.specs.declared.report.Verdict.TheVariants.{Holds, Refuted, LuckyBatch, LuckyRound}
@@ -60,15 +61,27 @@ finding_in Refuted = refuted
 finding_in (LuckyBatch poly vanishing) = lucky
 finding_in (LuckyRound round poly vanishing) = lucky
 
--- the figures that a report shows
-abbrev pub figures_in : {F EF : Type 0} → (F → ℕ) → (EF → ℕ) → Report F EF → Figures
-figures_in base number r = record {
-  claim = number r.claim;
-  messages = messages_in number r.rounds;
-  witnesses = witnesses_in base r.rounds;
-  challenges = map number r.challenges;
-  residual = number r.residual;
-  eval = number r.eval;
-  weight = number r.weight;
-  finding = finding_in r.verdict;
+-- a report as it is shown: its figures, and the grids of its small-value rounds, each by the values at 0 and those at infinity
+pub record Reported : Type 0 where
+  pub figures : Figures
+  pub grids : List (List ℕ × List ℕ)
+
+-- the two lists of a grid
+abbrev pub grid_in : {EF : Type 0} → (EF → ℕ) → Grid EF → List ℕ × List ℕ
+grid_in number g = (map number g.zero, map number g.infinity)
+
+-- what a report shows
+abbrev pub report_in : {F EF : Type 0} → (F → ℕ) → (EF → ℕ) → Report F EF → Reported
+report_in base number r = record {
+  figures = record {
+    claim = number r.claim;
+    messages = messages_in number r.rounds;
+    witnesses = witnesses_in base r.rounds;
+    challenges = map number r.challenges;
+    residual = number r.residual;
+    eval = number r.eval;
+    weight = number r.weight;
+    finding = finding_in r.verdict;
+  };
+  grids = map (grid_in number) r.grids.rounds;
 }

@@ -1,6 +1,9 @@
+pub mod Over
 pub mod Cases
+pub mod Fitting
 pub mod Refusals
 pub mod Figures
 pub mod Audits
 pub mod Built
+pub mod Checked
 pub mod Laws

@@ -1,9 +1,7 @@
 -- What is refused before a round is played, in the order in which it is tested.
-use Rattle.std.specs.Prelude.{ℕ, zero, suc, ◌^◌, ◌==◌, length, nat_lt, if◌then◌else◌, Option, Some, None}
+use Rattle.std.specs.Prelude.{ℕ, zero, suc, ◌^◌, ◌==◌, length, nat_lt, if◌then◌else◌, Option, Some, None, Result, Ok, Err}
 use Rattle.sc_definitions.specs.declared.false_claim.FalseClaim.{FalseClaim as FalseStatement}
-use Rattle.sc_definitions.specs.Ring.{Ops}
 use Rattle.sc_definitions.specs.Statements.{first_false_claim}
-use Rattle.sc_definitions.specs.Problem.{Problem}
 use Rattle.sc_statements.specs.FalseClaims.{told}
 use Rattle.sc_transcript.specs.Data.{witness_count}
 use Rattle.sc_table.specs.declared.strategy.Strategy.TheVariants.{Plain, Represented, SmallValue}
@@ -11,7 +9,7 @@ use Rattle.sc_audit.specs.declared.error.AuditError.{AuditError}
 use Rattle.sc_audit.specs.declared.error.AuditError.TheVariants.{Unbuilt, JobShape, FalseClaim, MissingSumcheckData, RoundCountMismatch, PowWitnessCountMismatch}
 use Rattle.sc_audit.specs.declared.error.Form.TheVariants.{Mode}
 use Rattle.sc_audit.specs.declared.error.ShapeFault.TheVariants.{TableLength, Difficulty, Arity}
-use Rattle.sc_audit.specs.Cases.{Case, Given, Task, build, check}
+use Rattle.sc_audit.specs.Cases.{Given, Task, build, check, Asked}
 
 -- the first refusal, or else the later one
 abbrev pub or_later : Option AuditError → Option AuditError → Option AuditError
@@ -30,9 +28,13 @@ abbrev pub exponent_from : ℕ → ℕ → ℕ → Option ℕ
 exponent_from n zero len = None
 exponent_from n (suc count) len = if len == 2 ^ n then Some n else exponent_from (suc n) count len
 
--- the number of variables, at most 24, of a table of so many rows
+-- the greatest number of variables
+abbrev pub most_variables : ℕ
+most_variables = 24
+
+-- the number of variables, at most the greatest one, of a table of so many rows
 unfoldable pub arity_of : ℕ → Option ℕ
-arity_of len = exponent_from 0 25 len
+arity_of len = exponent_from 0 (suc most_variables) len
 
 -- the difficulty is above the challenger's bound, or else the statements are on another number of variables than the table has
 abbrev pub shape_by : Option ℕ → ℕ → ℕ → ℕ → ℕ → Option AuditError
@@ -41,9 +43,9 @@ shape_by (Some n) max_bits rows bits variables =
     if nat_lt max_bits bits then Some (JobShape (Difficulty bits max_bits))
     else (if n == variables then None else Some (JobShape (Arity n variables)))
 
--- a table whose number of rows is no power of two up to 2^24, or else one of these
-abbrev pub shape_refusal : ℕ → Case → Option AuditError
-shape_refusal max_bits c = shape_by (arity_of c.rows) max_bits c.rows c.bits c.problem.variables
+-- a table whose number of rows is no power of two up to that of the greatest number of variables, or else one of these
+abbrev pub shape_refusal : Asked → Option AuditError
+shape_refusal q = shape_by (arity_of q.case.rows) q.channel.rules.max_bits q.case.rows q.channel.bits q.case.problem.variables
 
 abbrev pub false_refusal : Option FalseStatement → Option AuditError
 false_refusal (Some s) = Some (FalseClaim s.statement s.claimed s.actual)
@@ -61,12 +63,19 @@ count_refusal n bits g =
     else Some (RoundCountMismatch n (length g.messages))
 
 -- a build's first false statement; a proof's absence, or its counts
-abbrev pub task_refusal : Ops → Problem → ℕ → Task → Option AuditError
-task_refusal o p bits (build strategy) = false_refusal (told (first_false_claim o p.variables p.table 0 p.statements))
-task_refusal o p bits (check None) = missing_refusal p.variables
-task_refusal o p bits (check (Some given)) = count_refusal p.variables bits given
+abbrev pub refusal_for : Asked → Task → Option AuditError
+refusal_for q (build strategy) = false_refusal (told (first_false_claim q.ops q.case.problem.variables q.case.problem.table 0 q.case.problem.statements))
+refusal_for q (check None) = missing_refusal q.case.problem.variables
+refusal_for q (check (Some given)) = count_refusal q.case.problem.variables q.channel.bits given
 
--- the first refusal of a case before a round is played, if there is one, under a challenger of this greatest difficulty
-abbrev pub refusal_of : Ops → ℕ → Case → Option AuditError
-refusal_of o max_bits c =
-    or_later (mode_refusal c.task) (or_later (shape_refusal max_bits c) (task_refusal o c.problem c.bits c.task))
+abbrev pub task_refusal : Asked → Option AuditError
+task_refusal q = refusal_for q q.case.task
+
+-- the first refusal before a round is played, if there is one
+abbrev pub refusal_of : Asked → Option AuditError
+refusal_of q = or_later (mode_refusal q.case.task) (or_later (shape_refusal q) (task_refusal q))
+
+-- the refusal that a result is, if it is one
+abbrev pub refusal_in : {T : Type 0} → Result T AuditError → Option AuditError
+refusal_in (Ok x) = None
+refusal_in (Err e) = Some e

@@ -1,16 +1,16 @@
 //! The one call.
-ghost use Rattle.std.specs.Prelude.{◌≡◌, ◌⊎◌, ◌<◌, Err, IfOk, IsOk, Some, None, []};
-ghost use Rattle.sc_audit.specs.Cases.{case_in, task_in, build, check};
-ghost use Rattle.sc_audit.specs.Refusals.{refusal_of, mode_refusal};
-ghost use Rattle.sc_audit.specs.Figures.{figures_in, finding_in, lucky};
-ghost use Rattle.sc_audit.specs.Audits.{IsAudited, IsCaused, IsValid, MayMeet};
+ghost use Rattle.std.specs.Prelude.{◌≡◌, IfOk, IfErr};
+ghost use Rattle.sc_audit.specs.Cases.{asked_of, task_in};
+ghost use Rattle.sc_audit.specs.Refusals.{refusal_of, mode_refusal, refusal_in};
+ghost use Rattle.sc_audit.specs.Figures.{report_in};
+ghost use Rattle.sc_audit.specs.Audits.{Answers, IsRefusedBy, HoldsIfBuilt, IsValid, MayMeet};
 
 use crate::building::build;
 use crate::checking::check;
 use crate::error::{AuditError, Form};
 use crate::job::{Job, Mode};
-use crate::report::{Report, Verdict};
-use crate::shape::check_shape;
+use crate::report::Report;
+use crate::shape::FittingJob;
 use sc_challenger::Challenger;
 use sc_field::{ExtensionField, Field, IntoTranscriptField};
 use sc_table::Strategy;
@@ -30,42 +30,30 @@ pub fn audit<F: Field, EF: ExtensionField<F>, R: IntoTranscriptField<EF>, C: Cha
 ) -> Result<Report<F, EF>, AuditError>
     ensures rules { C.rules challenger.new ≡ C.rules challenger.old }
 
-    // The report shows the rounds of the job, and what they and their challenges determine.
-    ensures report { IfOk result (λ r. IsAudited EF.ops (C.rules challenger.old) EF.extension (C.history challenger.old)
-        (case_in F.number EF.number EF.embedding job.now) (task_in F.number EF.number job.now.mode) (figures_in F.number EF.number r) (C.history challenger.new)) }
-    ensures grids { IfOk result (λ r. r.grids.rounds ≡ []) }
-    ensures no_luck { IfOk result (λ r. finding_in r.verdict ≡ lucky → ⊥) }
+    // A report shows the rounds of the job, and what they and their challenges determine; a refusal has its one cause, want of memory aside.
+    ensures answers { Answers F.number EF.number (refusal_of (asked_of job.now (C.rules challenger.old) (C.history challenger.old)))
+        (asked_of job.now (C.rules challenger.old) (C.history challenger.old)) result (C.history challenger.new) }
 
     // The verdict on a build is that the statements hold.
-    ensures holds { IfOk result (λ r. (strategy : Strategy) → job.now.mode ≡ Mode.Build strategy → r.verdict ≡ Verdict.Holds) }
+    ensures holds { IfOk result (λ r. HoldsIfBuilt (task_in F.number EF.number job.now.mode) (report_in F.number EF.number r).figures) }
 
-    // Each refusal has its one cause, want of memory aside, and a cause is refused.
-    ensures caused { (e : AuditError) → result ≡ Err e → IsCaused (refusal_of EF.ops (C.rules challenger.old).max_bits (case_in F.number EF.number EF.embedding job.now))
-        EF.ops (C.rules challenger.old) EF.extension F.ops.size (C.history challenger.old) (case_in F.number EF.number EF.embedding job.now) (task_in F.number EF.number job.now.mode) e (C.history challenger.new) }
-    ensures refused { (e : AuditError) → refusal_of EF.ops (C.rules challenger.old).max_bits (case_in F.number EF.number EF.embedding job.now) ≡ Some e
-        → (result ≡ Err e) ⊎ (result ≡ Err AuditError.NoMemory) }
+    // A cause is refused.
+    ensures refused { IsRefusedBy (refusal_of (asked_of job.now (C.rules challenger.old) (C.history challenger.old))) result }
 
     // A valid job is answered.
-    ensures answered { (e : AuditError) → IsValid EF.ops (C.rules challenger.old) EF.extension (C.history challenger.old) (case_in F.number EF.number EF.embedding job.now)
-        → result ≡ Err e → MayMeet e }
+    ensures answered { IsValid (asked_of job.now (C.rules challenger.old) (C.history challenger.old)) → IfErr result MayMeet }
 {
     check_mode(&job.mode)?;
-    check_shape(
-        job.table.len(),
-        job.pow_bits,
-        challenger.max_bits(),
-        job.constraint.num_variables(),
-    )?;
+    let fitting = FittingJob::of(job, challenger.max_bits())?;
     match &job.mode {
-        Mode::Build(strategy) => build::<F, EF, R, C>(alloc, job, *strategy, challenger),
-        Mode::Check(proof) => check(alloc, job, proof, challenger),
+        Mode::Build(strategy) => build::<F, EF, R, C>(alloc, &fitting, *strategy, challenger),
+        Mode::Check(proof) => check(alloc, &fitting, proof, challenger),
     }
 }
 
 // Refuses a strategy that is not built yet.
 fn check_mode<F: Field, EF: ExtensionField<F>>(mode: &Mode<F, EF>) -> Result<(), AuditError>
-    ensures refused { (e : AuditError) → result ≡ Err e → mode_refusal (task_in F.number EF.number mode.now) ≡ Some e }
-    ensures fits { IsOk result → mode_refusal (task_in F.number EF.number mode.now) ≡ None }
+    ensures { mode_refusal (task_in F.number EF.number mode.now) ≡ refusal_in result }
 {
     match mode {
         Mode::Build(Strategy::SmallValue { .. }) => Err(AuditError::Unbuilt(Form::Mode)),

@@ -1,5 +1,5 @@
 //! Rounds of a proof that are checked.
-ghost use Rattle.std.specs.Prelude.{◌≡◌, ◌⊎◌, ◌≤◌, ◌^◌, Err, IfOk, OnErr, Some, None, [], length, map, vec_len};
+ghost use Rattle.std.specs.Prelude.{◌≡◌, ◌≤◌, IfOk, OnErr, Err, Some, None, [], length, map};
 ghost use Rattle.std.specs.Option.{option_map};
 ghost use Rattle.sc_definitions.specs.Tables.{entries, point_of};
 ghost use Rattle.sc_definitions.specs.Problem.{claim_of, residual_of};
@@ -7,15 +7,17 @@ ghost use Rattle.sc_table.specs.Polys.{variables_of, table_of};
 ghost use Rattle.sc_table.specs.Strategy.{order_of};
 ghost use Rattle.sc_statements.specs.Constraints.{constraint_arity};
 ghost use Rattle.sc_transcript.specs.Data.{messages_in, witnesses_in};
-ghost use Rattle.sc_audit.specs.Cases.{case_in, given_in, problem_in, check};
-ghost use Rattle.sc_audit.specs.Refusals.{task_refusal, count_refusal};
-ghost use Rattle.sc_audit.specs.Figures.{figures_in, figures_of, finding_by, finding_in, false_claim_of, lucky};
-ghost use Rattle.sc_audit.specs.Audits.{IsAudited, IsCaused};
+ghost use Rattle.sc_audit.specs.Cases.{asked_to, given_in, problem_in, check};
+ghost use Rattle.sc_audit.specs.Fitting.{job_in};
+ghost use Rattle.sc_audit.specs.Refusals.{task_refusal};
+ghost use Rattle.sc_audit.specs.Figures.{report_in, figures_of, finding_by, finding_in, false_claim_of, lucky};
+ghost use Rattle.sc_audit.specs.Audits.{Answers, IsRefusedBy};
+ghost use Rattle.sc_audit.specs.Checked.{LeavesReport, LeavesVerdict};
 
 use crate::common::{refusal, table_of_job};
 use crate::error::{AuditError, Form};
-use crate::job::Job;
 use crate::report::{Report, Verdict};
+use crate::shape::FittingJob;
 use sc_challenger::Challenger;
 use sc_field::{ExtensionField, Field, NoMemory};
 use sc_rounds::SumcheckData;
@@ -26,80 +28,60 @@ use std::alloc::Global;
 // Checks the rounds of a proof for a job of the right shape. No proof has no rounds.
 pub(crate) fn check<F: Field, EF: ExtensionField<F>, C: Challenger<F>>(
     alloc: Global,
-    job: &Job<F, EF>,
+    fitting: &FittingJob<'_, F, EF>,
     proof: &Option<SumcheckData<F, EF>>,
     challenger: &mut C,
 ) -> Result<Report<F, EF>, AuditError>
-    requires rows { vec_len job.now.table ≡ 2 ^ constraint_arity job.now.constraint }
-    requires few { constraint_arity job.now.constraint ≤ 24 }
-    requires difficulty { job.now.pow_bits ≤ (C.rules challenger.old).max_bits }
+    requires { (job_in fitting.now).pow_bits ≤ (C.rules challenger.old).max_bits }
     ensures rules { C.rules challenger.new ≡ C.rules challenger.old }
-    ensures report { IfOk result (λ r. IsAudited EF.ops (C.rules challenger.old) EF.extension (C.history challenger.old)
-        (case_in F.number EF.number EF.embedding job.now) (check (option_map (given_in F.number EF.number) proof.now)) (figures_in F.number EF.number r) (C.history challenger.new)) }
-    ensures no_luck { IfOk result (λ r. finding_in r.verdict ≡ lucky → ⊥) }
-    ensures grids { IfOk result (λ r. r.grids.rounds ≡ []) }
-    ensures caused { (e : AuditError) → result ≡ Err e
-        → IsCaused (task_refusal EF.ops (problem_in F.number EF.number EF.embedding job.now) job.now.pow_bits (check (option_map (given_in F.number EF.number) proof.now)))
-        EF.ops (C.rules challenger.old) EF.extension F.ops.size (C.history challenger.old) (case_in F.number EF.number EF.embedding job.now) (check (option_map (given_in F.number EF.number) proof.now)) e (C.history challenger.new) }
-    ensures refused { (e : AuditError) → task_refusal EF.ops (problem_in F.number EF.number EF.embedding job.now) job.now.pow_bits (check (option_map (given_in F.number EF.number) proof.now)) ≡ Some e
-        → (result ≡ Err e) ⊎ (result ≡ Err AuditError.NoMemory) }
+    ensures answers { Answers F.number EF.number
+        (task_refusal (asked_to (job_in fitting.now) (check (option_map (given_in F.number EF.number) proof.now)) (C.rules challenger.old) (C.history challenger.old)))
+        (asked_to (job_in fitting.now) (check (option_map (given_in F.number EF.number) proof.now)) (C.rules challenger.old) (C.history challenger.old)) result (C.history challenger.new) }
+    ensures refused { IsRefusedBy (task_refusal (asked_to (job_in fitting.now) (check (option_map (given_in F.number EF.number) proof.now)) (C.rules challenger.old) (C.history challenger.old))) result }
 {
     match proof {
-        Some(proof) => check_rounds(alloc, job, proof, challenger),
-        None => check_none(alloc, job, challenger),
+        Some(proof) => check_rounds(alloc, fitting, proof, challenger),
+        None => check_none(alloc, fitting, challenger),
     }
 }
 
 // The same, where no proof came.
 fn check_none<F: Field, EF: ExtensionField<F>, C: Challenger<F>>(
     alloc: Global,
-    job: &Job<F, EF>,
+    fitting: &FittingJob<'_, F, EF>,
     challenger: &mut C,
 ) -> Result<Report<F, EF>, AuditError>
-    requires rows { vec_len job.now.table ≡ 2 ^ constraint_arity job.now.constraint }
-    requires few { constraint_arity job.now.constraint ≤ 24 }
-    requires difficulty { job.now.pow_bits ≤ (C.rules challenger.old).max_bits }
+    requires { (job_in fitting.now).pow_bits ≤ (C.rules challenger.old).max_bits }
     ensures rules { C.rules challenger.new ≡ C.rules challenger.old }
-    ensures report { IfOk result (λ r. IsAudited EF.ops (C.rules challenger.old) EF.extension (C.history challenger.old)
-        (case_in F.number EF.number EF.embedding job.now) (check None) (figures_in F.number EF.number r) (C.history challenger.new)) }
-    ensures no_luck { IfOk result (λ r. finding_in r.verdict ≡ lucky → ⊥) }
-    ensures grids { IfOk result (λ r. r.grids.rounds ≡ []) }
-    ensures caused { (e : AuditError) → result ≡ Err e
-        → IsCaused (task_refusal EF.ops (problem_in F.number EF.number EF.embedding job.now) job.now.pow_bits (check None))
-        EF.ops (C.rules challenger.old) EF.extension F.ops.size (C.history challenger.old) (case_in F.number EF.number EF.embedding job.now) (check None) e (C.history challenger.new) }
-    ensures refused { (e : AuditError) → task_refusal EF.ops (problem_in F.number EF.number EF.embedding job.now) job.now.pow_bits (check None) ≡ Some e
-        → (result ≡ Err e) ⊎ (result ≡ Err AuditError.NoMemory) }
+    ensures answers { Answers F.number EF.number
+        (task_refusal (asked_to (job_in fitting.now) (check None) (C.rules challenger.old) (C.history challenger.old)))
+        (asked_to (job_in fitting.now) (check None) (C.rules challenger.old) (C.history challenger.old)) result (C.history challenger.new) }
+    ensures refused { IsRefusedBy (task_refusal (asked_to (job_in fitting.now) (check None) (C.rules challenger.old) (C.history challenger.old))) result }
 {
-    let variables = job.constraint.num_variables();
+    let variables = fitting.job.constraint.num_variables();
     if variables > 0 {
         return Err(AuditError::MissingSumcheckData {
             expected_rounds: variables,
         });
     }
-    check_rounds(alloc, job, &SumcheckData::new(alloc), challenger)
+    check_rounds(alloc, fitting, &SumcheckData::new(alloc), challenger)
 }
 
 // Replays the rounds of a proof, and reports on them.
 fn check_rounds<F: Field, EF: ExtensionField<F>, C: Challenger<F>>(
     alloc: Global,
-    job: &Job<F, EF>,
+    fitting: &FittingJob<'_, F, EF>,
     proof: &SumcheckData<F, EF>,
     challenger: &mut C,
 ) -> Result<Report<F, EF>, AuditError>
-    requires rows { vec_len job.now.table ≡ 2 ^ constraint_arity job.now.constraint }
-    requires few { constraint_arity job.now.constraint ≤ 24 }
-    requires difficulty { job.now.pow_bits ≤ (C.rules challenger.old).max_bits }
+    requires { (job_in fitting.now).pow_bits ≤ (C.rules challenger.old).max_bits }
     ensures rules { C.rules challenger.new ≡ C.rules challenger.old }
-    ensures report { IfOk result (λ r. IsAudited EF.ops (C.rules challenger.old) EF.extension (C.history challenger.old)
-        (case_in F.number EF.number EF.embedding job.now) (check (Some (given_in F.number EF.number proof.now))) (figures_in F.number EF.number r) (C.history challenger.new)) }
-    ensures no_luck { IfOk result (λ r. finding_in r.verdict ≡ lucky → ⊥) }
-    ensures grids { IfOk result (λ r. r.grids.rounds ≡ []) }
-    ensures caused { (e : AuditError) → result ≡ Err e
-        → IsCaused (count_refusal (constraint_arity job.now.constraint) job.now.pow_bits (given_in F.number EF.number proof.now))
-        EF.ops (C.rules challenger.old) EF.extension F.ops.size (C.history challenger.old) (case_in F.number EF.number EF.embedding job.now) (check (Some (given_in F.number EF.number proof.now))) e (C.history challenger.new) }
-    ensures refused { (e : AuditError) → count_refusal (constraint_arity job.now.constraint) job.now.pow_bits (given_in F.number EF.number proof.now) ≡ Some e
-        → (result ≡ Err e) ⊎ (result ≡ Err AuditError.NoMemory) }
+    ensures answers { Answers F.number EF.number
+        (task_refusal (asked_to (job_in fitting.now) (check (Some (given_in F.number EF.number proof.now))) (C.rules challenger.old) (C.history challenger.old)))
+        (asked_to (job_in fitting.now) (check (Some (given_in F.number EF.number proof.now))) (C.rules challenger.old) (C.history challenger.old)) result (C.history challenger.new) }
+    ensures refused { IsRefusedBy (task_refusal (asked_to (job_in fitting.now) (check (Some (given_in F.number EF.number proof.now))) (C.rules challenger.old) (C.history challenger.old))) result }
 {
+    let job = fitting.job;
     let mut claim = EF::ZERO;
     job.constraint.combine_evals(&mut claim);
     let mut residual = claim;
@@ -114,36 +96,31 @@ fn check_rounds<F: Field, EF: ExtensionField<F>, C: Challenger<F>>(
         Ok(challenges) => challenges,
         Err(error) => return Err(refusal(error)),
     };
-    report_on(alloc, job, proof, claim, residual, challenges)
+    report_on(alloc, fitting, proof, claim, residual, challenges)
 }
 
 // The report on rounds that were replayed: the claim that they began with, what they leave of it, and their challenges.
 fn report_on<F: Field, EF: ExtensionField<F>>(
     alloc: Global,
-    job: &Job<F, EF>,
+    fitting: &FittingJob<'_, F, EF>,
     proof: &SumcheckData<F, EF>,
     claim: EF,
     residual: EF,
     challenges: Point<EF>,
 ) -> Result<Report<F, EF>, AuditError>
-    requires rows { vec_len job.now.table ≡ 2 ^ constraint_arity job.now.constraint }
-    requires count { length challenges ≡ constraint_arity job.now.constraint }
-    requires claim { EF.number claim ≡ claim_of EF.ops (problem_in F.number EF.number EF.embedding job.now) }
-    requires residual { EF.number residual ≡ residual_of EF.ops (problem_in F.number EF.number EF.embedding job.now) (messages_in EF.number proof.now) (map EF.number challenges) }
-    ensures figures { IfOk result (λ r. figures_in F.number EF.number r
-        ≡ figures_of EF.ops (problem_in F.number EF.number EF.embedding job.now) (messages_in EF.number proof.now) (witnesses_in F.number proof.now) (map EF.number challenges)) }
-    ensures no_luck { IfOk result (λ r. finding_in r.verdict ≡ lucky → ⊥) }
-    ensures grids { IfOk result (λ r. r.grids.rounds ≡ []) }
-    ensures causes { OnErr result ((result ≡ Err AuditError.NoMemory) ⊎ (result ≡ Err (AuditError.Unbuilt Form.Verdict))) }
-    ensures lucky { result ≡ Err (AuditError.Unbuilt Form.Verdict)
-        → (figures_of EF.ops (problem_in F.number EF.number EF.embedding job.now) (messages_in EF.number proof.now) (witnesses_in F.number proof.now) (map EF.number challenges)).finding ≡ lucky }
+    requires count { length challenges ≡ (problem_in (job_in fitting.now)).variables }
+    requires claim { EF.number claim ≡ claim_of EF.ops (problem_in (job_in fitting.now)) }
+    requires residual { EF.number residual ≡ residual_of EF.ops (problem_in (job_in fitting.now)) (messages_in EF.number proof.now) (map EF.number challenges) }
+    ensures { LeavesReport F.number EF.number (figures_of EF.ops (problem_in (job_in fitting.now))
+        (messages_in EF.number proof.now) (witnesses_in F.number proof.now) (map EF.number challenges)) result }
 {
-    let table = table_of_job(alloc, job)?;
+    let job = fitting.job;
+    let table = table_of_job(alloc, fitting)?;
     let point = point_at(alloc, job.order, &challenges)?;
     let eval = table.eval(&point);
     let weight = job.constraint.eval_at(&point);
     let matched = residual.index() == eval.mul(weight).index();
-    let verdict = verdict_on(job, &table, matched)?;
+    let verdict = verdict_on(fitting, &table, matched)?;
     let rounds = proof.copy(alloc)?;
     Ok(Report {
         claim,
@@ -159,20 +136,18 @@ fn report_on<F: Field, EF: ExtensionField<F>>(
 
 // The verdict on rounds, as their residual is right or not. The table is the job's.
 fn verdict_on<F: Field, EF: ExtensionField<F>>(
-    job: &Job<F, EF>,
+    fitting: &FittingJob<'_, F, EF>,
     table: &Poly<F>,
     matched: bool,
 ) -> Result<Verdict<EF>, AuditError>
-    requires variables { variables_of table.now ≡ constraint_arity job.now.constraint }
-    requires table { table_of F.number table.now ≡ entries F.number job.now.table.items }
-    ensures found { IfOk result (λ v. finding_in v ≡ finding_by matched (false_claim_of EF.ops (problem_in F.number EF.number EF.embedding job.now))) }
-    ensures no_luck { IfOk result (λ v. finding_in v ≡ lucky → ⊥) }
-    ensures lucky { OnErr result ((result ≡ Err (AuditError.Unbuilt Form.Verdict)) × (finding_by matched (false_claim_of EF.ops (problem_in F.number EF.number EF.embedding job.now)) ≡ lucky)) }
+    requires variables { variables_of table.now ≡ (problem_in (job_in fitting.now)).variables }
+    requires table { table_of F.number table.now ≡ entries F.number (job_in fitting.now).table.items }
+    ensures { LeavesVerdict (finding_by matched (false_claim_of EF.ops (problem_in (job_in fitting.now)))) result }
 {
     if !matched {
         return Ok(Verdict::Refuted);
     }
-    match job.constraint.first_false(table) {
+    match fitting.job.constraint.first_false(table) {
         None => Ok(Verdict::Holds),
         Some(_) => Err(AuditError::Unbuilt(Form::Verdict)),
     }

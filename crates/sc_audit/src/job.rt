@@ -1,4 +1,7 @@
 //! What is asked.
+ghost use Rattle.sc_audit.specs.Over.{IsOver};
+
+use sc_field::{ExtensionField, Field};
 use sc_rounds::SumcheckData;
 use sc_statements::Constraint;
 use sc_table::{Strategy, VariableOrder};
@@ -14,7 +17,7 @@ pub enum Mode<F, EF> {
 
 /// A table, statements on it, and what is done with them.
 #[derive(Drop)]
-pub struct Job<F, EF> {
+pub struct Job<F: Field, EF: ExtensionField<F>> {
     /// The table, row 0 first; the first variable belongs to the highest bit of a row.
     pub table: Vec<F>,
     /// The statements, with the challenge that batches them.
@@ -25,4 +28,6 @@ pub struct Job<F, EF> {
     pub pow_bits: usize,
     /// What is done.
     pub mode: Mode<F, EF>,
+    // It says nothing but which fields the job is over, so that contracts need not say it again.
+    ghost over: { IsOver F.number EF.number EF.embedding EF.extension },
 }

@@ -1,8 +1,11 @@
 //! What a job has to be like before a round is played.
-ghost use Rattle.std.specs.Prelude.{◌≡◌, ◌≤◌, ◌<◌, ◌^◌, Err, IsOk, Some, None};
-ghost use Rattle.sc_audit.specs.Refusals.{arity_of, shape_by};
+ghost use Rattle.std.specs.Prelude.{◌≡◌, ◌≤◌, ◌^◌, Some, None, IfOk, OnOk, vec_len};
+ghost use Rattle.sc_statements.specs.Constraints.{constraint_arity};
+ghost use Rattle.sc_audit.specs.Refusals.{most_variables, arity_of, shape_by, refusal_in};
 
-use crate::error::{AuditError, Form, ShapeFault};
+use crate::error::{AuditError, ShapeFault};
+use crate::job::Job;
+use sc_field::{ExtensionField, Field};
 
 // The greatest number of a table's variables.
 const MOST_VARIABLES: usize = 24;
@@ -19,34 +22,41 @@ pub(crate) fn arity(len: usize) -> Option<usize>
     None
 }
 
-/// Refuses a table of so many rows that is no power of two up to 2^24, a difficulty above the greatest one, and statements on another number of
-/// variables than the table has, in this order.
-pub(crate) fn check_shape(
-    rows: usize,
-    pow_bits: usize,
-    max_bits: usize,
-    variables: usize,
-) -> Result<(), AuditError>
-    ensures refused { (e : AuditError) → result ≡ Err e → shape_by (arity_of rows) max_bits rows pow_bits variables ≡ Some e }
-    ensures fits { IsOk result → shape_by (arity_of rows) max_bits rows pow_bits variables ≡ None }
-    ensures rows { IsOk result → rows ≡ 2 ^ variables }
-    ensures few { IsOk result → variables ≤ 24 }
-    ensures difficulty { IsOk result → pow_bits ≤ max_bits }
-{
-    let Some(n) = arity(rows) else {
-        return Err(AuditError::JobShape(ShapeFault::TableLength { len: rows }));
-    };
-    if pow_bits > max_bits {
-        return Err(AuditError::JobShape(ShapeFault::Difficulty {
-            bits: pow_bits,
-            bound: max_bits,
-        }));
+/// A job of the right shape: its table has a row for each choice of its statements' variables, of which there are at most the greatest number.
+#[derive(Drop)]
+pub(crate) struct FittingJob<'a, F: Field, EF: ExtensionField<F>> {
+    pub(crate) job: &'a Job<F, EF>,
+    ghost rows: { vec_len job.now.table ≡ 2 ^ constraint_arity job.now.constraint },
+    ghost few: { constraint_arity job.now.constraint ≤ most_variables },
+}
+
+impl<'a, F: Field, EF: ExtensionField<F>> FittingJob<'a, F, EF> {
+    ghost use Rattle.sc_audit.specs.Fitting.{job_in};
+
+    /// The job, unless its table's number of rows is no power of two up to that of the greatest number of variables, its difficulty is above the greatest one,
+    /// or its statements are on another number of variables than the table has, in this order.
+    pub(crate) fn of(job: &'a Job<F, EF>, max_bits: usize) -> Result<Self, AuditError>
+        ensures same { IfOk result (λ f. job_in f ≡ job.now) }
+        ensures shape { shape_by (arity_of (vec_len job.now.table)) max_bits (vec_len job.now.table) job.now.pow_bits (constraint_arity job.now.constraint) ≡ refusal_in result }
+        ensures difficulty { OnOk result (job.now.pow_bits ≤ max_bits) }
+    {
+        let rows = job.table.len();
+        let variables = job.constraint.num_variables();
+        let Some(n) = arity(rows) else {
+            return Err(AuditError::JobShape(ShapeFault::TableLength { len: rows }));
+        };
+        if job.pow_bits > max_bits {
+            return Err(AuditError::JobShape(ShapeFault::Difficulty {
+                bits: job.pow_bits,
+                bound: max_bits,
+            }));
+        }
+        if n != variables {
+            return Err(AuditError::JobShape(ShapeFault::Arity {
+                expected: n,
+                actual: variables,
+            }));
+        }
+        Ok(FittingJob { job })
     }
-    if n != variables {
-        return Err(AuditError::JobShape(ShapeFault::Arity {
-            expected: n,
-            actual: variables,
-        }));
-    }
-    Ok(())
 }

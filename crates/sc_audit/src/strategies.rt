@@ -1,17 +1,14 @@
 //! How the rounds of a job are built.
-ghost use Rattle.std.specs.Prelude.{◌≡◌, ◌⊎◌, ◌<◌, ◌≤◌, ◌^◌, ℕ, Err, IfOk, OnErr, None, map, vec_len};
-ghost use Rattle.sc_definitions.specs.Problem.{weights_of, claim_of};
-ghost use Rattle.sc_table.specs.Strategy.{order_of};
-ghost use Rattle.sc_statements.specs.Constraints.{constraint_arity};
-ghost use Rattle.sc_rounds.specs.Products.{variables_in, order_in, evals_in, weights_in};
-ghost use Rattle.sc_audit.specs.Cases.{case_in, problem_in};
+ghost use Rattle.std.specs.Prelude.{◌≡◌, ◌≤◌, ◌∷◌, [], IfOk, None, map};
+ghost use Rattle.sc_rounds.specs.ProverViews.{shown_by, image_shown_by};
+ghost use Rattle.sc_audit.specs.Cases.{asked_of, problem_in};
+ghost use Rattle.sc_audit.specs.Fitting.{job_in};
 ghost use Rattle.sc_audit.specs.Figures.{false_claim_of};
-ghost use Rattle.sc_audit.specs.Audits.{FindsNone, IsUngroundResult};
-ghost use Rattle.sc_audit.specs.Built.{IsBuiltJob};
+ghost use Rattle.sc_audit.specs.Built.{LeavesBuild, prover_for};
 
 use crate::common::refusal;
 use crate::error::AuditError;
-use crate::job::Job;
+use crate::shape::FittingJob;
 use sc_challenger::Challenger;
 use sc_field::{ExtensionField, Field, IntoTranscriptField, NoMemory};
 use sc_rounds::{ProductPolynomial, ReprSumcheckProver, SumcheckData, SumcheckProver};
@@ -31,20 +28,14 @@ pub(crate) struct Built<F, EF> {
 // Builds the rounds of a job whose statements are true on the table of the extension's elements, in the transcript of a copy of the challenger.
 pub(crate) fn plain<F: Field, EF: ExtensionField<F>, C: Challenger<F>>(
     alloc: Global,
-    job: &Job<F, EF>,
+    fitting: &FittingJob<'_, F, EF>,
     challenger: &C,
 ) -> Result<Built<F, EF>, AuditError>
-    requires rows { vec_len job.now.table ≡ 2 ^ constraint_arity job.now.constraint }
-    requires few { constraint_arity job.now.constraint ≤ 24 }
-    requires difficulty { job.now.pow_bits ≤ (C.rules challenger.now).max_bits }
-    requires all_true { false_claim_of EF.ops (problem_in F.number EF.number EF.embedding job.now) ≡ None }
-    ensures built { IfOk result (λ b. IsBuiltJob EF.ops (C.rules challenger.now) EF.extension (C.history challenger.now)
-        (case_in F.number EF.number EF.embedding job.now) F.number EF.number b) }
-    ensures causes { OnErr result ((result ≡ Err AuditError.NoMemory) ⊎ IsUngroundResult result) }
-    ensures no_witness { (i : ℕ) → result ≡ Err (AuditError.NoWitness i)
-        → FindsNone EF.ops (C.rules challenger.now) EF.extension F.ops.size (C.history challenger.now) (case_in F.number EF.number EF.embedding job.now) i }
+    requires difficulty { (job_in fitting.now).pow_bits ≤ (C.rules challenger.now).max_bits }
+    requires all_true { false_claim_of EF.ops (problem_in (job_in fitting.now)) ≡ None }
+    ensures { LeavesBuild F.number EF.number (asked_of (job_in fitting.now) (C.rules challenger.now) (C.history challenger.now)) result }
 {
-    let mut prover = prover_of(alloc, job)?;
+    let mut prover = prover_of(alloc, fitting)?;
     let claim = prover.claimed_sum();
     let mut copied = challenger.copy(alloc)?;
     let mut rounds = SumcheckData::new(alloc);
@@ -52,8 +43,8 @@ pub(crate) fn plain<F: Field, EF: ExtensionField<F>, C: Challenger<F>>(
         alloc,
         &mut rounds,
         &mut copied,
-        job.constraint.num_variables(),
-        job.pow_bits,
+        fitting.job.constraint.num_variables(),
+        fitting.job.pow_bits,
         None,
     ) {
         Ok(challenges) => challenges,
@@ -76,20 +67,18 @@ pub(crate) fn represented<
     EF: ExtensionField<F>,
     R: IntoTranscriptField<EF>,
     C: Challenger<F>,
->(alloc: Global, job: &Job<F, EF>, challenger: &C) -> Result<Built<F, EF>, AuditError>
-    requires rows { vec_len job.now.table ≡ 2 ^ constraint_arity job.now.constraint }
-    requires few { constraint_arity job.now.constraint ≤ 24 }
-    requires difficulty { job.now.pow_bits ≤ (C.rules challenger.now).max_bits }
-    requires all_true { false_claim_of EF.ops (problem_in F.number EF.number EF.embedding job.now) ≡ None }
-    ensures built { IfOk result (λ b. IsBuiltJob EF.ops (C.rules challenger.now) EF.extension (C.history challenger.now)
-        (case_in F.number EF.number EF.embedding job.now) F.number EF.number b) }
-    ensures causes { OnErr result ((result ≡ Err AuditError.NoMemory) ⊎ IsUngroundResult result) }
-    ensures no_witness { (i : ℕ) → result ≡ Err (AuditError.NoWitness i)
-        → FindsNone EF.ops (C.rules challenger.now) EF.extension F.ops.size (C.history challenger.now) (case_in F.number EF.number EF.embedding job.now) i }
+>(
+    alloc: Global,
+    fitting: &FittingJob<'_, F, EF>,
+    challenger: &C,
+) -> Result<Built<F, EF>, AuditError>
+    requires difficulty { (job_in fitting.now).pow_bits ≤ (C.rules challenger.now).max_bits }
+    requires all_true { false_claim_of EF.ops (problem_in (job_in fitting.now)) ≡ None }
+    ensures { LeavesBuild F.number EF.number (asked_of (job_in fitting.now) (C.rules challenger.now) (C.history challenger.now)) result }
 {
     let mut prover: ReprSumcheckProver<F, EF, R> = ReprSumcheckProver::new(
         alloc,
-        prover_of(alloc, job)?,
+        prover_of(alloc, fitting)?,
     )?;
     let claim = prover.claimed_sum();
     let mut copied = challenger.copy(alloc)?;
@@ -98,8 +87,8 @@ pub(crate) fn represented<
         alloc,
         &mut rounds,
         &mut copied,
-        job.constraint.num_variables(),
-        job.pow_bits,
+        fitting.job.constraint.num_variables(),
+        fitting.job.pow_bits,
     ) {
         Ok(challenges) => challenges,
         Err(error) => return Err(refusal(error)),
@@ -119,9 +108,9 @@ fn last_values<F: Field, EF: ExtensionField<F>, R: IntoTranscriptField<EF>>(
     alloc: Global,
     prover: &mut ReprSumcheckProver<F, EF, R>,
 ) -> Result<(EF, EF), NoMemory>
-    requires { variables_in prover.old.poly ≡ 0 }
-    ensures eval { IfOk result (λ p. EF.number p.0 ≡ evals_in (λ x. R.to_number (R.number x)) prover.old.poly 0) }
-    ensures weight { IfOk result (λ p. EF.number p.1 ≡ weights_in (λ x. R.to_number (R.number x)) prover.old.poly 0) }
+    requires { (image_shown_by prover.old).variables ≡ 0 }
+    ensures eval { IfOk result (λ p. (image_shown_by prover.old).evals ≡ EF.number p.0 ∷ []) }
+    ensures weight { IfOk result (λ p. (image_shown_by prover.old).weights ≡ EF.number p.1 ∷ []) }
 {
     let weight = prover.weights(alloc)?.as_slice()[0].into_transcript();
     let eval = prover.evals(alloc)?.as_slice()[0].into_transcript();
@@ -131,17 +120,12 @@ fn last_values<F: Field, EF: ExtensionField<F>, R: IntoTranscriptField<EF>>(
 // The prover of a job whose statements are true.
 fn prover_of<F: Field, EF: ExtensionField<F>>(
     alloc: Global,
-    job: &Job<F, EF>,
+    fitting: &FittingJob<'_, F, EF>,
 ) -> Result<SumcheckProver<F, EF>, NoMemory>
-    requires rows { vec_len job.now.table ≡ 2 ^ constraint_arity job.now.constraint }
-    requires few { constraint_arity job.now.constraint ≤ 24 }
-    requires all_true { false_claim_of EF.ops (problem_in F.number EF.number EF.embedding job.now) ≡ None }
-    ensures order { IfOk result (λ p. order_in p.poly ≡ order_of job.now.order) }
-    ensures variables { IfOk result (λ p. variables_in p.poly ≡ constraint_arity job.now.constraint) }
-    ensures evals { IfOk result (λ p. (b : ℕ) → b < 2 ^ constraint_arity job.now.constraint → evals_in EF.number p.poly b ≡ (problem_in F.number EF.number EF.embedding job.now).table b) }
-    ensures weights { IfOk result (λ p. (b : ℕ) → b < 2 ^ constraint_arity job.now.constraint → weights_in EF.number p.poly b ≡ weights_of EF.ops (problem_in F.number EF.number EF.embedding job.now) b) }
-    ensures claim { IfOk result (λ p. EF.number p.sum ≡ claim_of EF.ops (problem_in F.number EF.number EF.embedding job.now)) }
+    requires { false_claim_of EF.ops (problem_in (job_in fitting.now)) ≡ None }
+    ensures { IfOk result (λ p. shown_by p ≡ prover_for EF.ops (problem_in (job_in fitting.now))) }
 {
+    let job = fitting.job;
     let (weights, claim) = job.constraint.combine_new(alloc)?;
     let evals = Poly::new(embedded(alloc, &job.table)?);
     let poly = ProductPolynomial::new_unpacked(job.order, evals, weights);

@@ -3,7 +3,7 @@ use Rattle.std.proofs.Common.{◌≡◌, ℕ, zero, suc, ◌+◌, ◌*◌, ◌^�
 use Rattle.std.proofs.Math.Nat.{pow-suc}
 use Rattle.sc_definitions.specs.declared.events.Event.{Event}
 use Rattle.sc_definitions.specs.Ring.{Ops, IsRing}
-use Rattle.sc_definitions.specs.Tables.{evaluation, Order, bound_in, bound_by, inner}
+use Rattle.sc_definitions.specs.Tables.{Basis, Order, IsOffered, bound_in, bound_by, inner}
 use Rattle.sc_definitions.specs.Rounds.{honest_pair}
 use Rattle.sc_definitions.specs.Events.{Rules, Extension}
 use Rattle.sc_definitions.specs.Transcript.{Round, round_events, challenge, IsBuilt}
@@ -20,29 +20,29 @@ pub inner-same : (o : Ops) (n : ℕ) (f g w v : ℕ → ℕ) → ((b : ℕ) → 
 unfolding inner
 inner-same o n f g w v evals weights = sum-same o (2 ^ n) _ _ (λ b low. cc (evals b low, weights b low))
 
-module _ (order : Order) (o : Ops) where
-  pub bound_by-same : (rs : List ℕ) (left : ℕ) (f g : ℕ → ℕ) → Agree (length rs + left) f g → Agree left (bound_by evaluation order o rs left f) (bound_by evaluation order o rs left g)
+module _ (basis : Basis) (order : Order) (o : Ops) where
+  pub bound_by-same : (rs : List ℕ) (left : ℕ) (f g : ℕ → ℕ) → Agree (length rs + left) f g → Agree left (bound_by basis order o rs left f) (bound_by basis order o rs left g)
   unfolding bound_by
   bound_by-same [] left f g same b low = let none : length {A = ℕ} [] + left ≡ left = omega arith in same b (rw none low)
   bound_by-same (r ∷ rs) left f g same b low =
       let more : length (r ∷ rs) + left ≡ suc (length rs + left) = omega arith in
-      bound_by-same rs left (bound_in evaluation order o (length rs + left) r f) (bound_in evaluation order o (length rs + left) r g)
-      (λ k below. bound_in-same evaluation order o (length rs + left) r k f g below (λ j under. same j (rw more under))) b low
+      bound_by-same rs left (bound_in basis order o (length rs + left) r f) (bound_in basis order o (length rs + left) r g)
+      (λ k below. bound_in-same basis order o (length rs + left) r k f g below (λ j under. same j (rw more under))) b low
 
-  module _ (ring : IsRing o) (n : ℕ) (f g w v : ℕ → ℕ) (evals : Agree n f g) (weights : Agree n w v) where
-    pub honest-same : (rs : List ℕ) (m : ℕ) → length rs + suc m ≡ n → honest_pair evaluation order o f w rs m ≡ honest_pair evaluation order o g v rs m
+  module _ (ring : IsRing o) (offered : IsOffered basis order) (n : ℕ) (f g w v : ℕ → ℕ) (evals : Agree n f g) (weights : Agree n w v) where
+    pub honest-same : (rs : List ℕ) (m : ℕ) → length rs + suc m ≡ n → honest_pair basis order o f w rs m ≡ honest_pair basis order o g v rs m
     honest-same rs m whole =
         let twice : 2 ^ suc m ≡ 2 ^ m * 2 = pow-suc 2 m in
         let f_at : Agree (length rs + suc m) f g = rw whole evals in
         let w_at : Agree (length rs + suc m) w v = rw whole weights in
-        honest_pair-message o ring evaluation order tt f w rs m
-        ∙ message-same evaluation order o (2 ^ m) _ _ _ _
+        honest_pair-message o ring basis order offered f w rs m
+        ∙ message-same basis order o (2 ^ m) _ _ _ _
         (λ b low. bound_by-same rs (suc m) f g f_at b (omega (arith, low, twice)))
         (λ b low. bound_by-same rs (suc m) w v w_at b (omega (arith, low, twice)))
-        ∙ sym (honest_pair-message o ring evaluation order tt g v rs m)
+        ∙ sym (honest_pair-message o ring basis order offered g v rs m)
 
     pub built-same : (R : Rules) (E : Extension) (bits : ℕ) (h : List Event) (rs : List ℕ) (k : ℕ) (rounds : List Round) → length rs + k ≡ n →
-        IsBuilt (honest_pair evaluation order o f w) R E bits h rs k rounds → IsBuilt (honest_pair evaluation order o g v) R E bits h rs k rounds
+        IsBuilt (honest_pair basis order o f w) R E bits h rs k rounds → IsBuilt (honest_pair basis order o g v) R E bits h rs k rounds
     built-same R E bits h rs k [] whole b = tt
     built-same R E bits h rs zero (r ∷ rounds) whole b = b
     built-same R E bits h rs (suc k) (r ∷ rounds) whole b = (

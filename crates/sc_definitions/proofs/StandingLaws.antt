@@ -101,19 +101,19 @@ bound_more s rs r n m f xs ys fewer p q =
     ∙ sym (ap (λ g. g b) (bound_by-append s.basis s.order s.ops rs r m f)))
 
 -- the message of tables that were bound is what an honest prover sends
-module _ (s : Setting) (ring : IsRing s.ops) (offered : IsOffered s.basis s.order) (t u v : Standing) (rs : List ℕ) (r : ℕ) (p : IsPlayed s t u rs) (q : IsRound s u v r) where
-  honest_now : q.round.values ≡ honest_in s t rs v.variables
-  honest_now =
-      let m = v.variables in
-      let twice : 2 ^ suc m ≡ 2 ^ m + 2 ^ m = pow-suc 2 m ∙ omega arith in
-      let far : (k : ℕ) → k < 2 ^ m + 2 ^ m → k < 2 ^ u.variables = λ k low. subst (λ n. k < 2 ^ n) (sym q.fewer) (omega (arith, low, twice)) in
-      q.message ∙ ap (λ n. message_in s (record u { variables = n })) q.fewer
-      ∙ message-same s.basis s.order s.ops (2 ^ m) (rows_of u.evals) (bound_by s.basis s.order s.ops rs (suc m) (rows_of t.evals))
-      (rows_of u.weights) (bound_by s.basis s.order s.ops rs (suc m) (rows_of t.weights))
-      (λ k low. evals_at s t u rs p k (far k low) ∙ ap (λ n. bound_by s.basis s.order s.ops rs n (rows_of t.evals) k) q.fewer)
-      (λ k low. weights_at s t u rs p k (far k low) ∙ ap (λ n. bound_by s.basis s.order s.ops rs n (rows_of t.weights) k) q.fewer)
-      ∙ sym (honest_pair-message s.ops ring s.basis s.order offered (rows_of t.evals) (rows_of t.weights) rs m)
+pub message_honest : (s : Setting) → IsRing s.ops → IsOffered s.basis s.order → (t u : Standing) (rs : List ℕ) (m : ℕ) → IsPlayed s t u rs → u.variables ≡ suc m →
+    message_in s u ≡ honest_in s t rs m
+message_honest s ring offered t u rs m p fewer =
+    let twice : 2 ^ suc m ≡ 2 ^ m + 2 ^ m = pow-suc 2 m ∙ omega arith in
+    let far : (k : ℕ) → k < 2 ^ m + 2 ^ m → k < 2 ^ u.variables = λ k low. subst (λ n. k < 2 ^ n) (sym fewer) (omega (arith, low, twice)) in
+    ap (λ n. message_in s (record u { variables = n })) fewer
+    ∙ message-same s.basis s.order s.ops (2 ^ m) (rows_of u.evals) (bound_by s.basis s.order s.ops rs (suc m) (rows_of t.evals))
+    (rows_of u.weights) (bound_by s.basis s.order s.ops rs (suc m) (rows_of t.weights))
+    (λ k low. evals_at s t u rs p k (far k low) ∙ ap (λ n. bound_by s.basis s.order s.ops rs n (rows_of t.evals) k) fewer)
+    (λ k low. weights_at s t u rs p k (far k low) ∙ ap (λ n. bound_by s.basis s.order s.ops rs n (rows_of t.weights) k) fewer)
+    ∙ sym (honest_pair-message s.ops ring s.basis s.order offered (rows_of t.evals) (rows_of t.weights) rs m)
 
+module _ (s : Setting) (ring : IsRing s.ops) (offered : IsOffered s.basis s.order) (t u v : Standing) (rs : List ℕ) (r : ℕ) (p : IsPlayed s t u rs) (q : IsRound s u v r) where
   -- one round more
   pub played_more : IsPlayed s t v (rs ++ r ∷ [])
   played_more =
@@ -125,7 +125,7 @@ module _ (s : Setting) (ring : IsRing s.ops) (offered : IsOffered s.basis s.orde
       let last = q.round in
       let next = next_claim s.basis s.ops in
       let witnessed : HasFirstWitness R E bits (h ++ so_far) last = subst (λ x. HasFirstWitness R E bits x last) p.history q.sent.witness in
-      let honest : last.values ≡ honest_in s t (challenges R E bits h p.rounds) v.variables = honest_now ∙ ap (λ x. honest_in s t x v.variables) p.drawn in
+      let honest : last.values ≡ honest_in s t (challenges R E bits h p.rounds) v.variables = q.message ∙ message_honest s ring offered t u rs v.variables p q.fewer ∙ ap (λ x. honest_in s t x v.variables) p.drawn in
       let count : t.variables ≡ length p.rounds + suc v.variables = p.count ∙ ap (λ n. length p.rounds + n) q.fewer in
       record {
         rounds = p.rounds ++ last ∷ [];

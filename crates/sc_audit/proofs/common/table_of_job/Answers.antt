@@ -1,14 +1,8 @@
-use Rattle.std.proofs.Common.{sym, ◌∙◌, rules}
-use Rattle.std.proofs.lemmas.Result.{IfOk-from_err}
+use Rattle.std.proofs.Common.{sym, ◌∙◌, ap, length}
 use Rattle.sc_definitions.proofs.Lengths.{pow-same}
 use Rattle.sc_audit.proofs.common.table_of_job.Goals as goal
 
 pub returns-clause-variables : goal.returns-clause-variables
-returns-clause-variables g c = pow-same _ _ (sym c.new.ensures.size ∙ search rules)
-
--- a refusal tells nothing of an answer
-pub returns-in_err-from_slice-clause-variables : goal.returns-in_err-from_slice-clause-variables
-returns-in_err-from_slice-clause-variables g c = IfOk-from_err c.from_residual.result _ c.from_residual.ensures.0
-
-pub returns-in_err-from_slice-clause-table : goal.returns-in_err-from_slice-clause-table
-returns-in_err-from_slice-clause-table g c = IfOk-from_err c.from_residual.result _ c.from_residual.ensures.0
+returns-clause-variables g c =
+    let job = c.args.fitting.now.job.now in
+    pow-same _ _ (sym c.new.ensures.size ∙ ap length (c.in_ok-from_slice.ensures.items ∙ c.deref.ensures.value) ∙ sym job.table.ok.0 ∙ c.args.fitting.now.rows)

@@ -1,101 +1,42 @@
-use Rattle.std.proofs.Common.{Err, ◌≡◌, ℕ, ◌<◌, suc, ◌-◌, ◌++◌, refl, sym, ◌∙◌, ap, arith, inl, inr, length}
-use Rattle.std.proofs.lemmas.Result.{IfOk-from_err}
+use Rattle.std.proofs.Common.{◌<◌, refl, sym, ◌∙◌, ap, arith}
 use Rattle.std.proofs.lemmas.List.Elements.{All-map}
-use Rattle.sc_definitions.specs.Tables.{evaluation, entries, rows_of}
-use Rattle.sc_definitions.specs.Channels.{Wire}
-use Rattle.sc_definitions.specs.Events.{words}
-use Rattle.sc_definitions.specs.Seeds.{quadratic_seed}
-use Rattle.sc_table.specs.Strategy.{order_of}
-use Rattle.sc_statements.specs.Constraints.{constraint_arity}
-use Rattle.sc_rounds.specs.Products.{variables_in, order_in}
-use Rattle.sc_transcript.specs.declared.error.SumcheckError.TheVariants.{NoWitness}
-use Rattle.sc_rounds.proofs.PositionalBatches.{without_witness, stopped_for, positional, failed_batch}
-use Rattle.sc_audit.specs.Audits.{refusal_by}
-use Rattle.sc_definitions.proofs.Results.{same_error}
-use Rattle.sc_audit.proofs.CauseLaws.{same_round, unlike}
-use Rattle.sc_audit.proofs.BuiltReports.{played-case, built-case, unground-built, finds_none_is}
+use Rattle.sc_rounds.specs.Provers.{Shown}
+use Rattle.sc_rounds.specs.ProverViews.{image_standing_of}
+use Rattle.sc_audit.specs.Cases.{asked_of}
+use Rattle.sc_audit.proofs.BuiltReports.{same_setting, same_start, built_case, build_refused}
 use Rattle.sc_audit.proofs.strategies.represented.Goals as goal
 
 -- each variable has had its round
 pub last_values-requires : goal.last_values-requires
-last_values-requires g c = omega (arith, c.in-Ok.ensures.fewer, c.num_variables.ensures, c.in_ok-prover.ensures.variables, c.in_ok-prover_of.ensures.variables)
+last_values-requires g c =
+    omega (arith, c.in-Ok.ensures.batch.whole, c.num_variables.ensures, ap (λ (s : Shown). s.variables) (c.in_ok-prover.ensures ∙ c.in_ok-prover_of.ensures))
 
-pub returns-clause-built : goal.returns-clause-built
-unfolding entries rows_of
-returns-clause-built g c =
+-- the rounds were built
+pub returns : goal.returns
+returns g c =
     let N = g.EF.Field.number in
-    let T : g.row.R.Denot → ℕ = λ x. g.R.FromTable.to_number (g.R.Field.number x) in
-    let o = g.EF.Field.ops in
+    let job = c.args.fitting.now.job.now in
+    let q = asked_of job (g.C.Challenger.rules c.args.challenger.now) (g.C.Challenger.history c.args.challenger.now) in
     let ring = g.met.EF.Field.is_field.ring in
-    let E = g.EF.ExtensionField.extension in
-    let job = c.args.job.now in
-    let n = constraint_arity job.constraint in
-    let bits = job.pow_bits in
-    let H = g.C.Challenger.history c.args.challenger.now in
-    let poly = c.in_ok-prover.prover.poly in
-    let count = c.num_variables.ensures in
-    let size : variables_in poly ≡ n = c.in_ok-prover.ensures.variables ∙ c.in_ok-prover_of.ensures.variables in
-    let seed : words (quadratic_seed g.EF.ExtensionField.DEGREE evaluation bits c.num_variables.result) ≡ words (quadratic_seed E.degree evaluation bits n) =
-    ap (λ d. words (quadratic_seed d evaluation bits c.num_variables.result)) (sym g.met.EF.ExtensionField.degree_is) ∙ ap (λ k. words (quadratic_seed E.degree evaluation bits k)) count in
-    let batch = played-case (order_of job.order) (order_in poly) o ring _ _ E bits n _ _ _ _ _ _ _ _ _ _ _ _ _ _ _ _ _ _ _
-    (c.in_ok-prover.ensures.order ∙ c.in_ok-prover_of.ensures.order) c.in_ok-copied.ensures.rules size
-    (λ b low. ap (λ t. t b) c.in_ok-prover.ensures.evals ∙ c.in_ok-prover_of.ensures.evals b low)
-    (λ b low. ap (λ t. t b) c.in_ok-prover.ensures.weights ∙ c.in_ok-prover_of.ensures.weights b low)
-    (c.in_ok-prover.ensures.claim ∙ c.in_ok-prover_of.ensures.claim)
-    (ap (λ t. t ++ words (quadratic_seed g.EF.ExtensionField.DEGREE evaluation bits c.num_variables.result)) c.in_ok-copied.ensures.history ∙ ap (λ t. H ++ t) seed)
-    (ap (λ (w : Wire). w.messages) c.new-rounds.ensures) (ap (λ (w : Wire). w.witnesses) c.new-rounds.ensures) (positional (order_in poly) o _ E g.F.Field.ops.size bits _ _ _ c.in-Ok.ensures.batch) in
-    let end = c.compute_sumcheck_polynomials.new.self.poly in
-    let none_left : variables_in end ≡ 0 = omega (arith, c.in-Ok.ensures.fewer, count, size) in
-    built-case (order_of job.order) o ring _ E bits n _ _ _ _ H (length job.table.items) _ _ (variables_in end) _ _ _ _ _ _ _ _ _
-    batch none_left (c.claimed_sum-claim.ensures ∙ c.in_ok-prover.ensures.claim ∙ c.in_ok-prover_of.ensures.claim)
-    (c.in_ok-eval.ensures.eval) (c.in_ok-eval.ensures.weight) (g.met.EF.Field.number_below _) (g.met.EF.Field.number_below _)
+    let degree = sym g.met.EF.ExtensionField.degree_is in
+    let shows = c.in_ok-prover.ensures ∙ c.in_ok-prover_of.ensures in
+    let setting = same_setting q ring refl _ _ _ _ _ _ c.in_ok-copied.ensures.rules c.in_ok-copied.ensures.history shows c.new-rounds.ensures degree c.num_variables.ensures in
+    let start = same_start q ring refl _ _ _ _ _ _ c.in_ok-copied.ensures.rules c.in_ok-copied.ensures.history shows c.new-rounds.ensures degree c.num_variables.ensures in
+    let after = image_standing_of c.compute_sumcheck_polynomials.new.self c.compute_sumcheck_polynomials.new.sumcheck_data (g.C.Challenger.history c.compute_sumcheck_polynomials.new.challenger) in
+    built_case q ring refl _ setting start c.num_variables.ensures after _ _ _ _ c.in-Ok.ensures.batch (c.claimed_sum-claim.ensures ∙ ap (λ (s : Shown). s.claim) shows)
+    c.in_ok-eval.ensures.eval c.in_ok-eval.ensures.weight (g.met.EF.Field.number_below _) (g.met.EF.Field.number_below _)
 
-pub returns-in-Err-clause-no_witness : goal.returns-in-Err-clause-no_witness
-unfolding entries rows_of
-returns-in-Err-clause-no_witness g c = λ i e.
-    let o = g.EF.Field.ops in
+-- they were refused
+pub returns-in-Err : goal.returns-in-Err
+returns-in-Err g c =
+    let N = g.EF.Field.number in
+    let job = c.args.fitting.now.job.now in
+    let q = asked_of job (g.C.Challenger.rules c.args.challenger.now) (g.C.Challenger.history c.args.challenger.now) in
     let ring = g.met.EF.Field.is_field.ring in
-    let E = g.EF.ExtensionField.extension in
-    let job = c.args.job.now in
-    let n = constraint_arity job.constraint in
-    let bits = job.pow_bits in
-    let H = g.C.Challenger.history c.args.challenger.now in
-    let poly = c.in_ok-prover.prover.poly in
-    let count = c.num_variables.ensures in
-    let size : variables_in poly ≡ n = c.in_ok-prover.ensures.variables ∙ c.in_ok-prover_of.ensures.variables in
-    let seed : words (quadratic_seed g.EF.ExtensionField.DEGREE evaluation bits c.num_variables.result) ≡ words (quadratic_seed E.degree evaluation bits n) =
-    ap (λ d. words (quadratic_seed d evaluation bits c.num_variables.result)) (sym g.met.EF.ExtensionField.degree_is) ∙ ap (λ k. words (quadratic_seed E.degree evaluation bits k)) count in
-    elim (stopped_for {T = ℕ} (Err c.in-Err.error) _ _ _ _ _ c.in-Err.ensures.batch) [
-      | inl memory ↦ absurd (unlike i (sym (c.refusal.ensures ∙ ap refusal_by (same_error _ _ _ refl memory)) ∙ same_error _ _ _ refl e))
-      | inr unfound ↦
-          let named = finds_none_is _ unfound in
-          let error_is : c.in-Err.error ≡ NoWitness named.0 = same_error _ _ _ refl named.1 in
-          let told = c.refusal.ensures ∙ ap refusal_by error_is in
-          let same : named.0 ≡ i = same_round _ _ (sym told ∙ same_error _ _ _ refl e) in
-          let stopped = without_witness {T = ℕ} c.in-Err.error named.0 _ _ _ _ _ c.in-Err.ensures.batch named.1 in
-          let end = c.compute_sumcheck_polynomials.new.self.poly in
-          let some : variables_in end ≡ suc (variables_in end - 1) = omega (arith, stopped.0, stopped.1, count, size) in
-          let fails = failed_batch (order_in poly) (order_in poly) o ring _ E g.F.Field.ops.size bits bits _ _ _ _ _ _ _ refl refl refl refl refl (λ b below. refl) (λ b below. refl) (variables_in end - 1) some stopped.2 in
-          unground-built (order_of job.order) (order_in poly) o ring _ _ E bits n _ _ _ _ _ _ _ _ H _ (length job.table.items) _ _ _ _ _ _ _ _ _ _ _ i
-          (c.in_ok-prover.ensures.order ∙ c.in_ok-prover_of.ensures.order) c.in_ok-copied.ensures.rules size
-          (λ b low. ap (λ t. t b) c.in_ok-prover.ensures.evals ∙ c.in_ok-prover_of.ensures.evals b low)
-          (λ b low. ap (λ t. t b) c.in_ok-prover.ensures.weights ∙ c.in_ok-prover_of.ensures.weights b low)
-          (c.in_ok-prover.ensures.claim ∙ c.in_ok-prover_of.ensures.claim)
-          (ap (λ t. t ++ words (quadratic_seed g.EF.ExtensionField.DEGREE evaluation bits c.num_variables.result)) c.in_ok-copied.ensures.history ∙ ap (λ t. H ++ t) seed)
-          (ap (λ (w : Wire). w.messages) c.new-rounds.ensures) (ap (λ (w : Wire). w.witnesses) c.new-rounds.ensures) (All-map (λ n. n < g.F.Field.ops.size) g.F.Field.number _ (λ k d low. g.met.F.Field.number_below _))
-          (omega (arith, same, some, stopped.1, size)) fails
-    ]
-
--- a refusal tells nothing of an answer
-pub returns-in_err-prover_of-clause-built : goal.returns-in_err-prover_of-clause-built
-returns-in_err-prover_of-clause-built g c = IfOk-from_err c.from_residual.result _ c.from_residual.ensures.0
-
-pub returns-in_err-prover-clause-built : goal.returns-in_err-prover-clause-built
-returns-in_err-prover-clause-built g c = IfOk-from_err c.from_residual-in_err-prover.result _ c.from_residual-in_err-prover.ensures.0
-
-pub returns-in_err-copied-clause-built : goal.returns-in_err-copied-clause-built
-returns-in_err-copied-clause-built g c = IfOk-from_err c.from_residual-in_err-copied.result _ c.from_residual-in_err-copied.ensures.0
-
--- a refusal tells nothing of an answer
-pub returns-in_err-eval-clause-built : goal.returns-in_err-eval-clause-built
-returns-in_err-eval-clause-built g c = IfOk-from_err c.from_residual-in_err-eval.result _ c.from_residual-in_err-eval.ensures.0
+    let degree = sym g.met.EF.ExtensionField.degree_is in
+    let shows = c.in_ok-prover.ensures ∙ c.in_ok-prover_of.ensures in
+    let setting = same_setting q ring refl _ _ _ _ _ _ c.in_ok-copied.ensures.rules c.in_ok-copied.ensures.history shows c.new-rounds.ensures degree c.num_variables.ensures in
+    let start = same_start q ring refl _ _ _ _ _ _ c.in_ok-copied.ensures.rules c.in_ok-copied.ensures.history shows c.new-rounds.ensures degree c.num_variables.ensures in
+    let after = image_standing_of c.compute_sumcheck_polynomials.new.self c.compute_sumcheck_polynomials.new.sumcheck_data (g.C.Challenger.history c.compute_sumcheck_polynomials.new.challenger) in
+    build_refused q ring refl _ setting start c.num_variables.ensures after g.F.Field.number N c.in-Err.error c.refusal.result c.refusal.ensures
+    (All-map (λ n. n < g.F.Field.ops.size) g.F.Field.number _ (λ k d low. g.met.F.Field.number_below _)) c.in-Err.ensures.batch
