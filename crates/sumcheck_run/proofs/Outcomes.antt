@@ -1,5 +1,5 @@
 -- How the replies to commands end.
-use Rattle.std.proofs.Common.{◌≡◌, ℕ, List, [], Bool, true, false, Option, Some, None, length, refl}
+use Rattle.std.proofs.Common.{◌≡◌, ℕ, List, Bool, true, false, Option, Some, None, length, refl}
 use Rattle.std.specs.Prelude.{if◌then◌else◌, nat_lt, Result, Ok, Err}
 use Rattle.serde_json.specs.Data.{Data}
 use Rattle.sc_forms.specs.Values.{value_of}
@@ -13,13 +13,10 @@ use Rattle.sc_audit.specs.declared.error.AuditError.{AuditError}
 use Rattle.sc_audit.specs.declared.error.AuditError.TheVariants.{Unbuilt, JobShape, StrategyUnfit, FalseClaim, MissingSumcheckData, RoundCountMismatch, PowWitnessCountMismatch, InvalidPowWitness, NoWitness, NoMemory}
 use Rattle.sc_audit.specs.Refusals.{refusal_of}
 use Rattle.sc_audit.specs.Figures.{Finding, holds, refuted, lucky}
-use Rattle.sc_definitions.specs.Ring.{Ops}
-use Rattle.sc_definitions.specs.declared.events.Event.{Event}
-use Rattle.sc_definitions.specs.Events.{Rules, Extension}
 use Rattle.sc_definitions.specs.Transcript.{Round}
-use Rattle.sc_audit.specs.Cases.{Case}
+use Rattle.sc_audit.specs.Cases.{Asked}
 use Rattle.sc_audit.specs.Audits.{figures_from}
-use Rattle.sumcheck_run.specs.Report.{Fields, fields_of, case_of, rules_of, figure_lines, refusal_reply, finding_reply, rounds_of, rounds_reply, reply_by, case_reply, judge_over}
+use Rattle.sumcheck_run.specs.Report.{Fields, fields_of, asked_by, figure_lines, refusal_reply, finding_reply, rounds_of, rounds_reply, reply_by, case_reply, judge_over}
 use Rattle.sumcheck_run.specs.Program.{max_input, too_long, bad_json, job_reply, audit_reply, value_reply, json_reply, reply_of}
 
 -- it is no usage
@@ -55,9 +52,9 @@ finding-answer holds lines = λ e. cc
 finding-answer refuted lines = λ e. cc
 finding-answer lucky lines = refused-answer _
 
-rounds-answer : (o : Ops) (R : Rules) (E : Extension) (h : List Event) (c : Case) (r : Result (List Round) AuditError) → IsAnswer (rounds_reply o R E h c r)
-rounds-answer o R E h c (Err e) = refusal-answer e
-rounds-answer o R E h c (Ok rounds) = let report = figures_from o R E h c rounds in finding-answer report.finding (figure_lines report)
+rounds-answer : (q : Asked) (r : Result (List Round) AuditError) → IsAnswer (rounds_reply q r)
+rounds-answer q (Err e) = refusal-answer e
+rounds-answer q (Ok rounds) = let report = figures_from q rounds in finding-answer report.finding (figure_lines report)
 
 reply-answer : (first : Option AuditError) (reply : Reply) → IsAnswer reply → IsAnswer (reply_by first reply)
 reply-answer (Some e) reply answer = refusal-answer e
@@ -66,10 +63,9 @@ reply-answer None reply answer = answer
 judge-answer : (k : Fields) (job : Job) → IsAnswer (judge_over k job)
 unfolding judge_over case_reply
 judge-answer k job =
-    let R = rules_of k job in
-    let c = case_of k.embedding job in
-    let rounds = rounds_of k.ops R k.extension k.base_size [] c c.task in
-    reply-answer (refusal_of k.ops R.max_bits c) (rounds_reply k.ops R k.extension [] c rounds) (rounds-answer k.ops R k.extension [] c rounds)
+    let q = asked_by k job in
+    let rounds = rounds_of q q.case.task in
+    reply-answer (refusal_of q) (rounds_reply q rounds) (rounds-answer q rounds)
 
 job-answer : (r : Result Job Misfit) → IsAnswer (job_reply r)
 job-answer (Err fault) = refused-answer _

@@ -11,16 +11,17 @@ use Rattle.sc_definitions.specs.Events.{Rules, Extension, own_extension}
 use Rattle.sc_definitions.specs.Scripted.{scripted_rules}
 use Rattle.sc_definitions.specs.Transcript.{Round}
 use Rattle.sc_definitions.specs.Replays.{given_rounds}
+use Rattle.sc_definitions.specs.Channels.{channel}
 use Rattle.sc_definitions.specs.Problem.{Problem, honest_of}
 use Rattle.sc_challenger.specs.Hashed.{hash_rules}
 use Rattle.sc_table.specs.Strategy.{order_of}
 use Rattle.sc_audit.specs.declared.error.AuditError.{AuditError}
 use Rattle.sc_audit.specs.declared.error.AuditError.TheVariants.{Unbuilt, JobShape, StrategyUnfit, FalseClaim, MissingSumcheckData, RoundCountMismatch, PowWitnessCountMismatch, InvalidPowWitness, NoWitness, NoMemory}
 use Rattle.sc_audit.specs.declared.error.Form.TheVariants.{Verdict}
-use Rattle.sc_audit.specs.Cases.{Case, Given, Task, build, check}
+use Rattle.sc_audit.specs.Cases.{Case, Given, Task, build, check, Asked, start_of}
 use Rattle.sc_audit.specs.Refusals.{refusal_of}
 use Rattle.sc_audit.specs.Figures.{Figures, Finding, holds, refuted, lucky}
-use Rattle.sc_audit.specs.Audits.{begun, figures_from}
+use Rattle.sc_audit.specs.Audits.{figures_from}
 use Rattle.sumcheck_run.specs.declared.reply.Outcome.TheVariants.{Holds, Refuted}
 use Rattle.sumcheck_jobs.specs.declared.job.FieldName.{FieldName}
 use Rattle.sumcheck_jobs.specs.declared.job.FieldName.TheVariants.{F65537, F257x2, F16}
@@ -79,7 +80,6 @@ task_of (Check proof) = check (option_map given_of proof)
 abbrev pub case_of : (ℕ → ℕ) → Job → Case
 case_of embedding job = record {
   rows = length job.table;
-  bits = job.bits;
   problem = problem_of embedding job;
   task = task_of job.mode;
 }
@@ -93,7 +93,20 @@ rules_by base_size Hash = hash_rules base_size
 abbrev pub rules_of : Fields → Job → Rules
 rules_of k job = rules_by k.base_size job.challenger
 
--- ---- the reply to a case
+-- what the job asks of a challenger that answers by these rules and has this history
+abbrev pub asked_with : Fields → Job → Rules → List Event → Asked
+asked_with k job R h = record {
+  case = case_of k.embedding job;
+  ops = k.ops;
+  channel = channel R k.extension k.base_size job.bits;
+  history = h;
+}
+
+-- what it asks of its own challenger
+abbrev pub asked_by : Fields → Job → Asked
+asked_by k job = asked_with k job (rules_of k job) []
+
+-- ---- the reply to it
 
 -- the lines of a report up to the verdict
 unfoldable pub figure_lines : Figures → List ℕ
@@ -136,29 +149,30 @@ unless_failing (Some i) bits rounds = Err (InvalidPowWitness i bits)
 abbrev pub passing_rounds : Rules → Extension → ℕ → List Event → List Round → Result (List Round) AuditError
 passing_rounds R E bits h rounds = unless_failing (first_failing R E bits h rounds) bits rounds
 
--- The rounds of a case that is played from a history on: those that an honest prover builds, or those of the proof; or why they cannot be played. The
--- base field has so many elements.
-abbrev pub rounds_of : Ops → Rules → Extension → ℕ → List Event → Case → Task → Result (List Round) AuditError
-rounds_of o R E size h c (build strategy) = or_no_witness (honest_rounds (honest_of o c.problem) R E size c.bits (begun E h c) [] c.problem.variables)
-rounds_of o R E size h c (check None) = Ok []
-rounds_of o R E size h c (check (Some given)) = passing_rounds R E c.bits (begun E h c) (given_rounds given.messages given.witnesses)
+-- The rounds of what is asked: those that an honest prover builds, or those of the proof; or why they cannot be played.
+abbrev pub rounds_of : Asked → Task → Result (List Round) AuditError
+rounds_of q (build strategy) =
+    or_no_witness (honest_rounds (honest_of q.ops q.case.problem) q.channel.rules q.channel.extension q.channel.base_size q.channel.bits (start_of q).history [] q.case.problem.variables)
+rounds_of q (check None) = Ok []
+rounds_of q (check (Some given)) =
+    passing_rounds q.channel.rules q.channel.extension q.channel.bits (start_of q).history (given_rounds given.messages given.witnesses)
 
--- the reply to rounds that are played from a history on: their report, or why they cannot be played
-abbrev pub rounds_reply : Ops → Rules → Extension → List Event → Case → Result (List Round) AuditError → Reply
-rounds_reply o R E h c (Ok rounds) = figures_reply (figures_from o R E h c rounds)
-rounds_reply o R E h c (Err e) = refusal_reply e
+-- the reply to rounds: their report, or why they cannot be played
+abbrev pub rounds_reply : Asked → Result (List Round) AuditError → Reply
+rounds_reply q (Ok rounds) = figures_reply (figures_from q rounds)
+rounds_reply q (Err e) = refusal_reply e
 
 abbrev pub reply_by : Option AuditError → Reply → Reply
 reply_by (Some e) reply = refusal_reply e
 reply_by None reply = reply
 
--- what a case is answered: its first refusal before a round is played, or else the reply to its rounds
-unfoldable pub case_reply : Ops → Rules → Extension → ℕ → List Event → Case → Reply
-case_reply o R E size h c = reply_by (refusal_of o R.max_bits c) (rounds_reply o R E h c (rounds_of o R E size h c c.task))
+-- what is answered: the first refusal before a round is played, or else the reply to the rounds
+unfoldable pub case_reply : Asked → Reply
+case_reply q = reply_by (refusal_of q) (rounds_reply q (rounds_of q q.case.task))
 
 -- what a job is answered over these fields and under its own challenger
 unfoldable pub judge_over : Fields → Job → Reply
-judge_over k job = case_reply k.ops (rules_of k job) k.extension k.base_size [] (case_of k.embedding job)
+judge_over k job = case_reply (asked_by k job)
 
 -- what a job is answered, over the fields that it names
 abbrev pub judge : Job → Reply

@@ -1,8 +1,10 @@
 //! The audit that a job asks for.
-ghost use Rattle.std.specs.Prelude.{◌≡◌, IfOk};
-ghost use Rattle.sc_audit.specs.Cases.{case_in, given_in, task_in};
+ghost use Rattle.std.specs.Prelude.{◌≡◌, List, IfOk};
+ghost use Rattle.sc_definitions.specs.declared.events.Event.{Event};
+ghost use Rattle.sc_definitions.specs.Events.{Rules};
+ghost use Rattle.sc_audit.specs.Cases.{asked_of, given_in, task_in};
 ghost use Rattle.sumcheck_jobs.specs.Job.{JobFits, ModeFits, ProofFits};
-ghost use Rattle.sumcheck_run.specs.Report.{case_of, given_of, task_of};
+ghost use Rattle.sumcheck_run.specs.Report.{asked_with, given_of, task_of};
 
 use crate::elements::{elements, messages};
 use crate::statements::constraint_of;
@@ -18,7 +20,8 @@ pub(crate) fn audit_job<F: Field, EF: ExtensionField<F>>(
     job: &Job,
 ) -> Result<AuditJob<F, EF>, NoMemory>
     requires { JobFits (record { base = F.ops.size; extension = EF.ops.size }) job.now }
-    ensures { IfOk result (λ asked. case_in F.number EF.number EF.embedding asked ≡ case_of EF.embedding job.now) }
+    ensures { IfOk result (λ asked. (R : Rules) (h : List Event) → asked_of asked R h
+        ≡ asked_with (record { ops = EF.ops; base_size = F.ops.size; extension = EF.extension; embedding = EF.embedding }) job.now R h) }
 {
     let variables = job.variables as usize;
     let batching = EF::element(job.batching);

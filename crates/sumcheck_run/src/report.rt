@@ -2,13 +2,13 @@
 ghost use Rattle.std.specs.Prelude.{◌≡◌, ◌⊎◌, ◌<◌, ◌++◌, IfOk, OnOk, None, [], map, string_bytes};
 ghost use Rattle.sc_definitions.specs.Scripted.{scripted_rules};
 ghost use Rattle.sc_transcript.specs.Data.{pair_of};
-ghost use Rattle.sc_audit.specs.Cases.{case_in};
-ghost use Rattle.sc_audit.specs.Figures.{figures_in, finding_in};
+ghost use Rattle.sc_audit.specs.Cases.{asked_of};
+ghost use Rattle.sc_audit.specs.Figures.{report_in, finding_in};
 ghost use Rattle.sc_audit.specs.Refusals.{refusal_of};
 ghost use Rattle.sumcheck_jobs.specs.Elements.{sizes_of};
 ghost use Rattle.sumcheck_jobs.specs.Job.{JobFits, ScriptFits};
 ghost use Rattle.sumcheck_run.specs.Lines.{round_lines};
-ghost use Rattle.sumcheck_run.specs.Report.{Fields, case_of, case_reply, fields_of, figure_lines, figures_reply, finding_reply, judge, judge_over, rules_of};
+ghost use Rattle.sumcheck_run.specs.Report.{Fields, asked_by, case_reply, fields_of, figure_lines, figures_reply, finding_reply, judge, judge_over};
 
 use crate::asked::audit_job;
 use crate::refusals::refuse;
@@ -30,7 +30,7 @@ pub fn judge_job(alloc: Global, job: Job) -> Result<Answer, NoMemory>
 
     // So a build that is not refused holds, unless a round at a difficulty has no witness.
     ensures holds { (strategy : Strategy) → job.mode ≡ Mode.Build strategy → let k : Fields = fields_of job.field in
-        refusal_of k.ops (rules_of k job).max_bits (case_of k.embedding job) ≡ None
+        refusal_of (asked_by k job) ≡ None
         → ((judge job).outcome ≡ Outcome.Holds) ⊎ ((0 < job.bits) × ((judge job).outcome ≡ Outcome.NoWitness)) }
 {
     match job.field {
@@ -88,8 +88,7 @@ fn answer_of<F: Field, EF: ExtensionField<F>, R: IntoTranscriptField<EF>, C: Cha
     asked: &AuditJob<F, EF>,
     challenger: &mut C,
 ) -> Result<Answer, NoMemory>
-    ensures { IfOk result (λ a. a ≡ case_reply EF.ops (C.rules challenger.old) EF.extension F.ops.size (C.history challenger.old)
-        (case_in F.number EF.number EF.embedding asked.now)) }
+    ensures { IfOk result (λ a. a ≡ case_reply (asked_of asked.now (C.rules challenger.old) (C.history challenger.old))) }
 {
     match audit::<F, EF, R, C>(alloc, asked, challenger) {
         Ok(report) => show(alloc, &report),
@@ -102,7 +101,7 @@ fn show<F: Field, EF: ExtensionField<F>>(
     alloc: Global,
     report: &Report<F, EF>,
 ) -> Result<Answer, NoMemory>
-    ensures { IfOk result (λ a. a ≡ figures_reply (figures_in F.number EF.number report.now)) }
+    ensures { IfOk result (λ a. a ≡ figures_reply (report_in F.number EF.number report.now).figures) }
 {
     let text = report_text(alloc, report)?;
     say_verdict(alloc, text, &report.verdict)
@@ -138,7 +137,7 @@ fn report_text<F: Field, EF: ExtensionField<F>>(
     alloc: Global,
     report: &Report<F, EF>,
 ) -> Result<String, NoMemory>
-    ensures { IfOk result (λ s. string_bytes s ≡ figure_lines (figures_in F.number EF.number report.now)) }
+    ensures { IfOk result (λ s. string_bytes s ≡ figure_lines (report_in F.number EF.number report.now).figures) }
 {
     let mut text = String::new(alloc);
     lines::push_claim(&mut text, report.claim.index())?;

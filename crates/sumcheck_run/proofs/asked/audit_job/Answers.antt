@@ -1,12 +1,14 @@
 use Rattle.std.proofs.Common.{ap, ◌∙◌, refl}
 use Rattle.std.proofs.lemmas.Result.{IfOk-from_err}
 use Rattle.sumcheck_jobs.specs.Statements.{all_claims}
-use Rattle.sumcheck_run.proofs.ReportLaws.{asked-case}
+use Rattle.sumcheck_run.specs.Report.{Fields}
+use Rattle.sumcheck_run.proofs.ReportLaws.{asked-same}
 use Rattle.sumcheck_run.proofs.asked.audit_job.Goals as goal
 
 pub returns : goal.returns
-returns g c =
-    asked-case g.EF.Algebra.embedding g.F.Field.number _ _ _ _ _ _ _ c.args.job.now (c.in_ok-elements.ensures ∙ c.as_slice.ensures) refl c.in_ok-constraint_of.ensures.arity
+returns g c = λ R h.
+    let k : Fields = record { ops = g.EF.Field.ops; base_size = g.F.Field.ops.size; extension = g.EF.ExtensionField.extension; embedding = g.EF.Algebra.embedding } in
+    asked-same k g.F.Field.number _ _ _ _ _ _ _ c.args.job.now R h (c.in_ok-elements.ensures ∙ c.as_slice.ensures) refl c.in_ok-constraint_of.ensures.arity
     (c.in_ok-constraint_of.ensures.statements ∙ ap (all_claims g.EF.Algebra.embedding) c.as_slice-2.ensures)
     (c.in_ok-constraint_of.ensures.challenge ∙ c.element-batching.ensures) c.in_ok-constraint_of.ensures.power c.in_ok-audit_mode.ensures
 

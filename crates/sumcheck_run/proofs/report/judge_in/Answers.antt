@@ -9,14 +9,14 @@ returns-in-Scripted g c =
     let k : Fields = record { ops = g.EF.Field.ops; base_size = g.F.Field.ops.size; extension = g.EF.ExtensionField.extension; embedding = g.EF.Algebra.embedding } in
     IfOk-weaker c.answer_of.result _ _
     (λ a e. e ∙ judged k c.args.job _ _ _ (c.in_ok-challenger-in-Scripted.ensures.rules ∙ ap (rules_by g.F.Field.ops.size) (sym c.in-Scripted.is ∙ c.challenger_in.ensures))
-    c.in_ok-challenger-in-Scripted.ensures.history c.in_ok-asked.ensures)
+    c.in_ok-challenger-in-Scripted.ensures.history (c.in_ok-asked.ensures _ _))
     c.answer_of.ensures
 
 pub returns : goal.returns
 returns g c =
     let k : Fields = record { ops = g.EF.Field.ops; base_size = g.F.Field.ops.size; extension = g.EF.ExtensionField.extension; embedding = g.EF.Algebra.embedding } in
     IfOk-weaker c.answer_of-in-Hash.result _ _
-    (λ a e. e ∙ judged k c.args.job _ _ _ (c.new-challenger.ensures.rules ∙ ap (rules_by g.F.Field.ops.size) (sym c.in-Hash.is ∙ c.challenger_in.ensures)) c.new-challenger.ensures.history c.in_ok-asked.ensures)
+    (λ a e. e ∙ judged k c.args.job _ _ _ (c.new-challenger.ensures.rules ∙ ap (rules_by g.F.Field.ops.size) (sym c.in-Hash.is ∙ c.challenger_in.ensures)) c.new-challenger.ensures.history (c.in_ok-asked.ensures _ _))
     c.answer_of-in-Hash.ensures
 
 -- a refusal tells nothing of an answer
