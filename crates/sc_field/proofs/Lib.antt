@@ -6,3 +6,5 @@ pub mod SixteenTables
 pub mod TowerTables
 pub mod PolynomialTables
 pub mod PairLaws
+pub mod DotLaws
+pub mod DelayedLaws

@@ -4,6 +4,7 @@ pub mod Laws
 pub mod Own
 pub mod Powers
 pub mod PrimeLaws
+pub mod Products
 pub mod QuadraticFields
 pub mod QuadraticLaws
 pub mod ResiduesLaws

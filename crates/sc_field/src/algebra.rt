@@ -1,9 +1,11 @@
 //! Fields over fields.
-ghost use Rattle.std.specs.Prelude.{◌≡◌, ℕ, ◌<◌, ◌≤◌, length, map, slice_index, slice_set, refl};
+ghost use Rattle.std.specs.Prelude.{◌≡◌, ℕ, ◌*◌, ◌<◌, ◌≤◌, length, map, slice_index, slice_set, refl};
 ghost use Rattle.std.proofs.Common.{lit≤};
 ghost use Rattle.sc_definitions.specs.Ring.{times, IsRingMap, IsExtension};
+ghost use Rattle.sc_definitions.specs.Tables.{entries};
 ghost use Rattle.sc_definitions.specs.Events.{Extension, own_extension};
 ghost use Rattle.sc_field.specs.Own.{identity_map, own_extends};
+ghost use Rattle.sc_field.specs.Products.{products, differences, even_rows, odd_rows};
 
 use crate::field::Field;
 
@@ -19,6 +21,59 @@ pub trait Algebra<B: Field>: Field {
     /// The product with the image of a base element.
     fn mul_base(self, b: B) -> Self
         ensures { Self.number result ≡ times Self.ops (Self.number self) (embedding (B.number b)) };
+
+    /// The sum of the products of base elements' images and elements, of two lists of one length, at most 512.
+    fn dot_base(xs: &[B], ys: &[Self]) -> Self
+        requires same { length xs.now ≡ length ys.now }
+        requires few { length xs.now ≤ 512 }
+        ensures { Self.number result ≡ products Self.ops (length xs.now) (entries (λ x. embedding (B.number x)) xs.now) (entries Self.number ys.now) }
+    {
+        let mut sum = Self::ZERO;
+        for i in 0..xs.len() {
+            sum = sum.add(ys[i].mul_base(xs[i]));
+        }
+        sum
+    }
+
+    /// The sum of the products (x1 - x0) (y1 - y0) of base elements' images and elements, over four lists of one length, at most 512.
+    fn dot_base_differences(x0: &[B], x1: &[B], y0: &[Self], y1: &[Self]) -> Self
+        requires first { length x0.now ≡ length x1.now }
+        requires second { length x0.now ≡ length y0.now }
+        requires third { length x0.now ≡ length y1.now }
+        requires few { length x0.now ≤ 512 }
+        ensures { Self.number result ≡ products Self.ops (length x0.now)
+            (differences Self.ops (entries (λ x. embedding (B.number x)) x0.now) (entries (λ x. embedding (B.number x)) x1.now))
+            (differences Self.ops (entries Self.number y0.now) (entries Self.number y1.now)) }
+    {
+        let mut sum = Self::ZERO;
+        for i in 0..x0.len() {
+            sum = sum.add(y1[i].sub(y0[i]).mul_base(x1[i].sub(x0[i])));
+        }
+        sum
+    }
+
+    /// Over the first `pairs` pairs of neighbours, at most 512, of a list of base elements and one of elements: the sum of the products
+    /// of the even rows, and that of the products of the differences, the odd row less the even one.
+    fn dot_base_pairs(pairs: usize, xs: &[B], ys: &[Self]) -> (Self, Self)
+        requires first { 2 * pairs ≤ length xs.now }
+        requires second { 2 * pairs ≤ length ys.now }
+        requires few { pairs ≤ 512 }
+        ensures even { Self.number result.0
+            ≡ products Self.ops pairs (even_rows (entries (λ x. embedding (B.number x)) xs.now)) (even_rows (entries Self.number ys.now)) }
+        ensures difference { Self.number result.1 ≡ products Self.ops pairs
+            (differences Self.ops (even_rows (entries (λ x. embedding (B.number x)) xs.now)) (odd_rows (entries (λ x. embedding (B.number x)) xs.now)))
+            (differences Self.ops (even_rows (entries Self.number ys.now)) (odd_rows (entries Self.number ys.now))) }
+    {
+        let mut even = Self::ZERO;
+        let mut difference = Self::ZERO;
+        for b in 0..pairs {
+            let (x0, x1) = (xs[2 * b], xs[2 * b + 1]);
+            let (y0, y1) = (ys[2 * b], ys[2 * b + 1]);
+            even = even.add(y0.mul_base(x0));
+            difference = difference.add(y1.sub(y0).mul_base(x1.sub(x0)));
+        }
+        (even, difference)
+    }
 
     ghost embeds: { IsRingMap B.ops Self.ops embedding };
 }
@@ -69,6 +124,18 @@ impl<F: Field> Algebra<F> for F {
 
     fn mul_base(self, b: F) -> F {
         self.mul(b)
+    }
+
+    fn dot_base(xs: &[F], ys: &[F]) -> F {
+        F::dot(xs, ys)
+    }
+
+    fn dot_base_differences(x0: &[F], x1: &[F], y0: &[F], y1: &[F]) -> F {
+        F::dot_differences(x0, x1, y0, y1)
+    }
+
+    fn dot_base_pairs(pairs: usize, xs: &[F], ys: &[F]) -> (F, F) {
+        F::dot_pairs(pairs, xs, ys)
     }
 }
 

@@ -1,6 +1,7 @@
 //! The integers modulo 65537.
-ghost use Rattle.std.specs.Prelude.{◌<◌, refl};
+ghost use Rattle.std.specs.Prelude.{◌≡◌, ◌%◌, ◌<◌, refl};
 ghost use Rattle.std.proofs.Common.{lit<, lit≤};
+ghost use Rattle.sc_definitions.specs.Ring.{minus};
 ghost use Rattle.sc_definitions.specs.Residues.{residues};
 ghost use Rattle.sc_field.specs.ResiduesLaws.{residues_field, residues_two};
 ghost use Rattle.sc_field.specs.PrimeLaws.{eqb_iff};
@@ -95,6 +96,40 @@ impl Field for F65537 {
         F65537 { value }
     }
 
+    // Each product is below 2^32, so that 64 bits hold the sum, which is reduced once.
+    fn dot(xs: &[F65537], ys: &[F65537]) -> F65537 {
+        let mut sum: u64 = 0;
+        for i in 0..xs.len() {
+            let (x, y) = (xs[i], ys[i]);
+            sum += x.value as u64 * y.value as u64;
+        }
+        reduced(sum)
+    }
+
+    // Each product is below 2^35.
+    fn dot_differences(x0: &[F65537], x1: &[F65537], y0: &[F65537], y1: &[F65537]) -> F65537 {
+        let mut sum: u64 = 0;
+        for i in 0..x0.len() {
+            let x = above(x1[i], x0[i]);
+            let y = above(y1[i], y0[i]);
+            sum += x * y;
+        }
+        reduced(sum)
+    }
+
+    fn dot_pairs(pairs: usize, xs: &[F65537], ys: &[F65537]) -> (F65537, F65537) {
+        let mut even: u64 = 0;
+        let mut difference: u64 = 0;
+        for b in 0..pairs {
+            let (x0, x1) = (xs[2 * b], xs[2 * b + 1]);
+            let (y0, y1) = (ys[2 * b], ys[2 * b + 1]);
+            even += x0.value as u64 * y0.value as u64;
+            let (x, y) = (above(x1, x0), above(y1, y0));
+            difference += x * y;
+        }
+        (reduced(even), reduced(difference))
+    }
+
     fn neg(self) -> F65537 {
         F65537 {
             value: if self.value == 0 {
@@ -114,4 +149,21 @@ impl Field for F65537 {
             })
         }
     }
+}
+
+// The element of any number.
+fn reduced(number: u64) -> F65537
+    ensures { result.value ≡ number % 65537 }
+{
+    F65537 {
+        value: (number % MODULUS as u64) as u32,
+    }
+}
+
+// A number of the difference, not reduced.
+fn above(x: F65537, y: F65537) -> u64
+    ensures number { result % 65537 ≡ minus (residues 65537) x.value y.value }
+    ensures below { result < 131074 }
+{
+    (x.value + MODULUS - y.value) as u64
 }

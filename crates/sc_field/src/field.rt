@@ -1,6 +1,8 @@
 //! What a field is.
-ghost use Rattle.std.specs.Prelude.{◌≡◌, ℕ, ◌<◌, ◌≤◌, ◌^◌, ◌↔◌, true, IfSome};
+ghost use Rattle.std.specs.Prelude.{◌≡◌, ℕ, ◌*◌, ◌<◌, ◌≤◌, ◌^◌, ◌↔◌, true, IfSome, length};
 ghost use Rattle.sc_definitions.specs.Ring.{Ops, IsField, plus, times, opposite, minus, power};
+ghost use Rattle.sc_definitions.specs.Tables.{entries};
+ghost use Rattle.sc_field.specs.Products.{products, differences, even_rows, odd_rows};
 
 use crate::powers::Powers;
 
@@ -93,6 +95,58 @@ pub trait Field: Copy + Eq {
             left /= 2;
         }
         result
+    }
+
+    /// The sum of the products of two lists of one length, at most 512: so many products a field may add up before it reduces.
+    fn dot(xs: &[Self], ys: &[Self]) -> Self
+        requires same { length xs.now ≡ length ys.now }
+        requires few { length xs.now ≤ 512 }
+        ensures { number result ≡ products ops (length xs.now) (entries number xs.now) (entries number ys.now) }
+    {
+        let mut sum = Self::ZERO;
+        for i in 0..xs.len() {
+            sum = sum.add(xs[i].mul(ys[i]));
+        }
+        sum
+    }
+
+    /// The sum of the products (x1 - x0) (y1 - y0) over four lists of one length, at most 512.
+    fn dot_differences(x0: &[Self], x1: &[Self], y0: &[Self], y1: &[Self]) -> Self
+        requires first { length x0.now ≡ length x1.now }
+        requires second { length x0.now ≡ length y0.now }
+        requires third { length x0.now ≡ length y1.now }
+        requires few { length x0.now ≤ 512 }
+        ensures { number result ≡ products ops (length x0.now)
+            (differences ops (entries number x0.now) (entries number x1.now))
+            (differences ops (entries number y0.now) (entries number y1.now)) }
+    {
+        let mut sum = Self::ZERO;
+        for i in 0..x0.len() {
+            sum = sum.add(x1[i].sub(x0[i]).mul(y1[i].sub(y0[i])));
+        }
+        sum
+    }
+
+    /// Over the first `pairs` pairs of neighbours, rows 2b and 2b + 1, at most 512, of two lists: the sum of the products of the even
+    /// rows, and that of the products of the differences, the odd row less the even one.
+    fn dot_pairs(pairs: usize, xs: &[Self], ys: &[Self]) -> (Self, Self)
+        requires first { 2 * pairs ≤ length xs.now }
+        requires second { 2 * pairs ≤ length ys.now }
+        requires few { pairs ≤ 512 }
+        ensures even { number result.0 ≡ products ops pairs (even_rows (entries number xs.now)) (even_rows (entries number ys.now)) }
+        ensures difference { number result.1 ≡ products ops pairs
+            (differences ops (even_rows (entries number xs.now)) (odd_rows (entries number xs.now)))
+            (differences ops (even_rows (entries number ys.now)) (odd_rows (entries number ys.now))) }
+    {
+        let mut even = Self::ZERO;
+        let mut difference = Self::ZERO;
+        for b in 0..pairs {
+            let (x0, x1) = (xs[2 * b], xs[2 * b + 1]);
+            let (y0, y1) = (ys[2 * b], ys[2 * b + 1]);
+            even = even.add(x0.mul(y0));
+            difference = difference.add(x1.sub(x0).mul(y1.sub(y0)));
+        }
+        (even, difference)
     }
 
     /// Node number i of an interpolation, which is element number i. It is below the size.

@@ -6,6 +6,7 @@ mod figures;
 mod integers;
 mod pairs;
 mod sixteen;
+mod sums;
 
 use sc_field::laws::{field_laws, power_laws, sum_laws};
 use sc_field::{Algebra, ExtensionField, F65537, Field, FromTable, IntoTranscriptField, NoMemory};

@@ -1,0 +1,10 @@
+use Rattle.std.proofs.Common.{◌≡◌}
+use Rattle.sc_definitions.specs.Tables.{entries}
+use Rattle.sc_field.specs.Products.{products, differences}
+use Rattle.sc_field.proofs.field.Field.dot_differences.Given as goal
+
+abbrev pub invariant-loop-i : goal.invariant-loop-i
+invariant-loop-i g l =
+    let f = g.Self.Field in
+    f.number l.sum ≡ products f.ops l.i (differences f.ops (entries f.number l.x0) (entries f.number l.x1))
+    (differences f.ops (entries f.number l.y0) (entries f.number l.y1))
