@@ -1,22 +1,97 @@
 -- The steps of a fold in place.
-use Rattle.std.proofs.Common.{◌≡◌, ◌≢◌, ℕ, ◌+◌, ◌<◌, ◌≤◌, List, length, set, sym, ◌∙◌, ap, arith, ⊎_elim}
+use Rattle.std.proofs.Common.{◌≡◌, ◌≢◌, ℕ, ◌+◌, ◌*◌, ◌<◌, ◌≤◌, List, length, set, sym, ◌∙◌, ap, refl, arith, ⊎_elim}
 use Rattle.std.proofs.lemmas.Bool.{cases_lt}
-use Rattle.sc_definitions.specs.Tables.{entries}
+use Rattle.sc_definitions.specs.Ring.{Ops}
+use Rattle.sc_definitions.specs.Tables.{entries, bound, bound_low}
+use Rattle.sc_table.specs.Blocks.{HasWritten}
 use Rattle.sc_table.proofs.EntryLaws.{entry-set_same, entry-set_other}
 
--- the first i entries of new are those of the folded table, and the others are those of old
-pub record IsFoldedSoFar {X : Type 0} (number : X → ℕ) (folded : ℕ → ℕ) (i : ℕ) (old new : List X) : Type 0 where
-  pub done : (b : ℕ) → b < i → entries number new b ≡ folded b
-  pub left : (b : ℕ) → i ≤ b → entries number new b ≡ entries number old b
+module _ {X : Type 0} (number : X → ℕ) where
+  -- before the first row
+  pub written-none : (table : ℕ → ℕ) (from : ℕ) (rows : List X) → HasWritten number table from 0 rows rows
+  written-none table from rows = record {
+    written = λ b least low. absurd (omega (arith, least, low));
+    before = λ b low. refl;
+    behind = λ b high. refl;
+  }
 
--- one entry more
-pub folded-more : {X : Type 0} (number : X → ℕ) (folded : ℕ → ℕ) (old : List X) (i : ℕ) (new : List X) (y : X) → i < length new →
-    IsFoldedSoFar number folded i old new → number y ≡ folded i → IsFoldedSoFar number folded (i + 1) old (set new i y)
-folded-more number folded old i new y low so_far is = record {
-  done = λ b h. ⊎_elim
-      (λ less. let apart : b ≢ i = omega arith in entry-set_other number new i b y apart ∙ so_far.done b less)
-      (λ at. let same : i ≡ b = omega arith in
-      sym (ap (entries number (set new i y)) same) ∙ entry-set_same number new i y low ∙ is ∙ ap folded same)
-      (cases_lt b i);
-  left = λ b h. let apart : b ≢ i = omega arith in entry-set_other number new i b y apart ∙ so_far.left b (omega arith);
-}
+  -- one row more
+  pub written-more : (table : ℕ → ℕ) (from n : ℕ) (old new : List X) (y : X) → from + n < length new →
+      HasWritten number table from n old new → number y ≡ table (from + n) → HasWritten number table from (n + 1) old (set new (from + n) y)
+  written-more table from n old new y low so_far is = record {
+    written = λ b least h. ⊎_elim
+        (λ less. let apart : b ≢ from + n = omega arith in entry-set_other number new (from + n) b y apart ∙ so_far.written b least less)
+        (λ at. let same : from + n ≡ b = omega arith in
+        sym (ap (entries number (set new (from + n) y)) same) ∙ entry-set_same number new (from + n) y low ∙ is ∙ ap table same)
+        (cases_lt b (from + n));
+    before = λ b h. let apart : b ≢ from + n = omega arith in entry-set_other number new (from + n) b y apart ∙ so_far.before b h;
+    behind = λ b h. let apart : b ≢ from + n = omega arith in entry-set_other number new (from + n) b y apart ∙ so_far.behind b (omega arith);
+  }
+
+  -- n rows more, after the first m
+  pub written-block : (table next : ℕ → ℕ) (m n : ℕ) (old new newer : List X) → HasWritten number table 0 m old new → HasWritten number next m n new newer →
+      ((b : ℕ) → m ≤ b → next b ≡ table b) → HasWritten number table 0 (m + n) old newer
+  written-block table next m n old new newer first second same = record {
+    written = λ b least h. ⊎_elim
+        (λ less. second.before b less ∙ first.written b least (omega arith))
+        (λ high. second.written b high (omega arith) ∙ same b high)
+        (cases_lt b m);
+    before = λ b h. absurd (omega (arith, h));
+    behind = λ b h. second.behind b (omega arith) ∙ first.behind b (omega arith);
+  }
+
+-- The first n rows of each of the two quarters of a table's first half have become those of the folded table, and the others are as they were.
+pub record AreQuartersFolded {X : Type 0} (number : X → ℕ) (folded : ℕ → ℕ) (quarter n : ℕ) (old new : List X) : Type 0 where
+  pub low : (b : ℕ) → b < n → entries number new b ≡ folded b
+  pub high : (b : ℕ) → b < n → entries number new (quarter + b) ≡ folded (quarter + b)
+  pub low_left : (b : ℕ) → n ≤ b → b < quarter → entries number new b ≡ entries number old b
+  pub high_left : (b : ℕ) → quarter + n ≤ b → entries number new b ≡ entries number old b
+
+module _ {X : Type 0} (number : X → ℕ) (o : Ops) (r quarter half : ℕ) (whole : half ≡ quarter + quarter) where
+  pub quarters-none : (rows : List X) → AreQuartersFolded number (bound o half r (entries number rows)) quarter 0 rows rows
+  quarters-none rows = record {
+    low = λ b h. absurd (omega (arith, h));
+    high = λ b h. absurd (omega (arith, h));
+    low_left = λ b h below. refl;
+    high_left = λ b h. refl;
+  }
+
+  -- a row is bound from rows that are as they were
+  bound-left : (f g : ℕ → ℕ) (b : ℕ) → f b ≡ g b → f (half + b) ≡ g (half + b) → bound o half r f b ≡ bound o half r g b
+  unfolding bound
+  bound-left f g b first second = cc
+
+  -- both quarters' next n rows
+  pub quarters-more : (m n : ℕ) (old new low high : List X) → m + n ≤ quarter →
+      AreQuartersFolded number (bound o half r (entries number old)) quarter m old new →
+      HasWritten number (bound o half r (entries number new)) m n new low →
+      HasWritten number (bound o half r (entries number low)) (quarter + m) n low high →
+      AreQuartersFolded number (bound o half r (entries number old)) quarter (m + n) old high
+  quarters-more m n old new low high within so_far first second = record {
+    low = λ b h. second.before b (omega arith) ∙ ⊎_elim
+        (λ less. first.before b less ∙ so_far.low b less)
+        (λ rest. first.written b rest h
+        ∙ bound-left (entries number new) (entries number old) b (so_far.low_left b rest (omega arith)) (so_far.high_left (half + b) (omega (arith, whole, rest))))
+        (cases_lt b m);
+    high = λ b h. ⊎_elim
+        (λ less. second.before (quarter + b) (omega arith) ∙ first.behind (quarter + b) (omega arith) ∙ so_far.high b less)
+        (λ rest. second.written (quarter + b) (omega arith) (omega arith)
+        ∙ bound-left (entries number low) (entries number old) (quarter + b)
+        (first.behind (quarter + b) (omega arith) ∙ so_far.high_left (quarter + b) (omega arith))
+        (first.behind (half + (quarter + b)) (omega (arith, whole)) ∙ so_far.high_left (half + (quarter + b)) (omega (arith, whole))))
+        (cases_lt b m);
+    low_left = λ b h below. second.before b (omega arith) ∙ first.behind b h ∙ so_far.low_left b (omega arith) below;
+    high_left = λ b h. second.behind b (omega arith) ∙ first.behind b (omega arith) ∙ so_far.high_left b (omega arith);
+  }
+
+-- the last variable of n more rows, which are made from rows that are as they were
+pub pairs-more : {X : Type 0} (number : X → ℕ) (o : Ops) (r m n : ℕ) (old new newer : List X) →
+    HasWritten number (bound_low o r (entries number old)) 0 m old new → HasWritten number (bound_low o r (entries number new)) m n new newer →
+    HasWritten number (bound_low o r (entries number old)) 0 (m + n) old newer
+unfolding bound_low
+pairs-more number o r m n old new newer first second =
+    written-block number (bound_low o r (entries number old)) (bound_low o r (entries number new)) m n old new newer first second
+    (λ b high.
+    let lo = first.behind (2 * b) (omega arith) in
+    let hi = first.behind (2 * b + 1) (omega arith) in
+    cc (lo, hi))

@@ -8,3 +8,4 @@ pub mod EvalLaws
 pub mod WeightLaws
 pub mod PointLaws
 pub mod HonestLaws
+pub mod KernelLaws

@@ -1,3 +1,4 @@
+pub mod Blocks
 pub mod Polys
 pub mod PolyLoans
 pub mod Strategy

@@ -6,6 +6,7 @@ ghost use Rattle.sc_definitions.specs.Ring.{plus, times, minus};
 ghost use Rattle.sc_definitions.specs.Tables.{entries, weight, value, bound, bound_low};
 ghost use Rattle.sc_definitions.specs.Statements.{successor_weight};
 ghost use Rattle.sc_definitions.specs.Shifts.{shifted, only_at};
+ghost use Rattle.sc_table.specs.Blocks.{HasWritten};
 
 use crate::Point;
 use sc_field::{Algebra, Field, NoMemory};
@@ -165,7 +166,7 @@ impl<A: Field> Poly<A> {
             value A.ops (table_of A.number self.new) zs ≡ value A.ops (table_of A.number self.old) (A.embedding (Ch.number r) ∷ zs) }
     {
         let half = self.num_evals() / 2;
-        bind_halves(self.as_mut_slice(), half, r);
+        bind_halves(self.as_mut_slice(), half, 0, half, r);
         self.keep_first_half();
     }
 
@@ -184,7 +185,7 @@ impl<A: Field> Poly<A> {
             value A.ops (table_of A.number self.new) zs ≡ value A.ops (table_of A.number self.old) (zs ++ A.embedding (Ch.number r) ∷ []) }
     {
         let half = self.num_evals() / 2;
-        bind_pairs(self.as_mut_slice(), half, r);
+        bind_pairs(self.as_mut_slice(), 0, half, r);
         self.keep_first_half();
     }
 
@@ -231,29 +232,34 @@ fn move_rows_up<A: Field>(rows: &mut [A])
     rows[last] = rows[last].add(stays);
 }
 
-// The first half becomes lo + (hi - lo) r over the two halves.
-fn bind_halves<A: Algebra<Ch>, Ch: Field>(evals: &mut [A], half: usize, r: Ch)
-    requires { half + half ≤ length evals.old }
-    ensures { (b : ℕ) → b < half →
-        entries A.number evals.new b ≡ bound A.ops half (A.embedding (Ch.number r)) (entries A.number evals.old) b }
+// So many rows of the first half, from `from` on, become lo + (hi - lo) r over the two halves.
+fn bind_halves<A: Algebra<Ch>, Ch: Field>(
+    evals: &mut [A],
+    half: usize,
+    from: usize,
+    rows: usize,
+    r: Ch,
+)
+    requires within { from + rows ≤ half }
+    requires size { half + half ≤ length evals.old }
+    ensures { HasWritten A.number (bound A.ops half (A.embedding (Ch.number r)) (entries A.number evals.old)) from rows evals.old evals.new }
 {
-    for b in 0..half {
-        let lo = evals[b];
-        let hi = evals[half + b];
-        evals[b] = lo.add(hi.sub(lo).mul_base(r));
+    for b in 0..rows {
+        let lo = evals[from + b];
+        let hi = evals[half + (from + b)];
+        evals[from + b] = lo.add(hi.sub(lo).mul_base(r));
     }
 }
 
-// Entry b becomes lo + (hi - lo) r over entries 2b and 2b + 1, which no write before it has reached.
-fn bind_pairs<A: Algebra<Ch>, Ch: Field>(evals: &mut [A], half: usize, r: Ch)
-    requires { half + half ≤ length evals.old }
-    ensures { (b : ℕ) → b < half →
-        entries A.number evals.new b ≡ bound_low A.ops (A.embedding (Ch.number r)) (entries A.number evals.old) b }
+// So many rows, from `from` on, become lo + (hi - lo) r over neighbours: row b over rows 2b and 2b + 1, which no write before it has reached.
+fn bind_pairs<A: Algebra<Ch>, Ch: Field>(evals: &mut [A], from: usize, rows: usize, r: Ch)
+    requires { 2 * (from + rows) ≤ length evals.old }
+    ensures { HasWritten A.number (bound_low A.ops (A.embedding (Ch.number r)) (entries A.number evals.old)) from rows evals.old evals.new }
 {
-    for b in 0..half {
-        let lo = evals[2 * b];
-        let hi = evals[2 * b + 1];
-        evals[b] = lo.add(hi.sub(lo).mul_base(r));
+    for b in 0..rows {
+        let lo = evals[2 * (from + b)];
+        let hi = evals[2 * (from + b) + 1];
+        evals[from + b] = lo.add(hi.sub(lo).mul_base(r));
     }
 }
 

@@ -1,15 +1,19 @@
 //! What a round sends, from the two tables as they stand, and how it binds them: by basis and by order.
 
-ghost use Rattle.std.specs.Prelude.{◌≡◌, ℕ, suc, ◌+◌, ◌/◌, ◌%◌, ◌^◌, ◌<◌, [], ◌∷◌, List, length};
+ghost use Rattle.std.specs.Prelude.{◌≡◌, ℕ, suc, ◌+◌, ◌*◌, ◌/◌, ◌%◌, ◌^◌, ◌<◌, ◌≤◌, [], ◌∷◌, List, length};
 ghost use Rattle.sc_definitions.specs.Ring.{plus, times, minus};
 ghost use Rattle.sc_definitions.specs.Tables.{evaluation, projective, prefix, suffix, IsOffered, entries, value, placed, bound_in};
-ghost use Rattle.sc_definitions.specs.Messages.{message_first, message_leading};
+ghost use Rattle.sc_definitions.specs.Messages.{first_term, leading_term, message_first, message_leading};
 ghost use Rattle.sc_definitions.specs.Rounds.{honest_pair, next_claim};
+ghost use Rattle.sc_table.specs.Blocks.{sum_from};
 ghost use Rattle.sc_table.specs.Strategy.{basis_of, order_of};
 ghost use Rattle.sc_table.specs.Polys.{variables_of, table_of};
 
 use crate::{Poly, extrapolate_01inf};
 use sc_field::{Algebra, Field};
+
+// How many places a kernel measures in one go: as many products as a field adds up before it reduces.
+const BLOCK: usize = 512;
 
 /// The two values that a round sends: its polynomial at 0, or in the projective basis at 1, and its
 /// leading coefficient.
@@ -36,19 +40,58 @@ impl<A: Field> RoundMessage<A> {
         }
     }
 
-    // The message with the share of one place more, at which the two tables have the values e0 and w0
-    // where the round's variable is 0, and e1 and w1 where it is 1.
-    fn with_values<B: Field>(self, e0: B, e1: B, w0: A, w1: A) -> Self
+    // The message with the shares of `rows` places more, from place `from` on, of a round that binds the first variable of two tables of
+    // values, of which each half has `half` rows.
+    fn with_halves<B: Field>(
+        self,
+        evals: &[B],
+        weights: &[A],
+        half: usize,
+        from: usize,
+        rows: usize,
+    ) -> Self
     where
         A: Algebra<B>,
+        requires within { from + rows ≤ half }
+        requires evals { half + half ≤ length evals.now }
+        requires weights { half + half ≤ length weights.now }
+        requires few { rows ≤ 512 }
         ensures first { A.number result.c_a
-            ≡ plus A.ops (A.number self.c_a) (times A.ops (A.embedding (B.number e0)) (A.number w0)) }
+            ≡ plus A.ops (A.number self.c_a) (sum_from A.ops from rows (first_term evaluation prefix A.ops half (entries (λ x. A.embedding (B.number x)) evals.now) (entries A.number weights.now))) }
         ensures leading { A.number result.c_inf
-            ≡ plus A.ops (A.number self.c_inf) (times A.ops (minus A.ops (A.embedding (B.number e1)) (A.embedding (B.number e0))) (minus A.ops (A.number w1) (A.number w0))) }
+            ≡ plus A.ops (A.number self.c_inf) (sum_from A.ops from rows (leading_term evaluation prefix A.ops half (entries (λ x. A.embedding (B.number x)) evals.now) (entries A.number weights.now))) }
     {
+        let high = half + from;
+        let (e0, e1) = (&evals[from..from + rows], &evals[high..high + rows]);
+        let (w0, w1) = (&weights[from..from + rows], &weights[high..high + rows]);
         RoundMessage {
-            c_a: self.c_a.add(w0.mul_base(e0)),
-            c_inf: self.c_inf.add(w1.sub(w0).mul_base(e1.sub(e0))),
+            c_a: self.c_a.add(A::dot_base(e0, w0)),
+            c_inf: self.c_inf.add(A::dot_base_differences(e0, e1, w0, w1)),
+        }
+    }
+
+    // The message with the shares of `pairs` places more, from place `from` on, of a round that binds the last variable of two tables of
+    // values.
+    fn with_pairs<B: Field>(self, evals: &[B], weights: &[A], from: usize, pairs: usize) -> Self
+    where
+        A: Algebra<B>,
+        requires evals { 2 * (from + pairs) ≤ length evals.now }
+        requires weights { 2 * (from + pairs) ≤ length weights.now }
+        requires few { pairs ≤ 512 }
+        ensures first { (half : ℕ) → A.number result.c_a
+            ≡ plus A.ops (A.number self.c_a) (sum_from A.ops from pairs (first_term evaluation suffix A.ops half (entries (λ x. A.embedding (B.number x)) evals.now) (entries A.number weights.now))) }
+        ensures leading { (half : ℕ) → A.number result.c_inf
+            ≡ plus A.ops (A.number self.c_inf) (sum_from A.ops from pairs (leading_term evaluation suffix A.ops half (entries (λ x. A.embedding (B.number x)) evals.now) (entries A.number weights.now))) }
+    {
+        let (at, rows) = (2 * from, 2 * pairs);
+        let (even, difference) = A::dot_base_pairs(
+            pairs,
+            &evals[at..at + rows],
+            &weights[at..at + rows],
+        );
+        RoundMessage {
+            c_a: self.c_a.add(even),
+            c_inf: self.c_inf.add(difference),
         }
     }
 
@@ -92,8 +135,11 @@ pub fn sumcheck_coefficients_prefix<B: Field, A: Algebra<B>>(
 {
     let half = evals.len() / 2;
     let mut message = RoundMessage::zero();
-    for i in 0..half {
-        message = message.with_values(evals[i], evals[half + i], weights[i], weights[half + i]);
+    let mut from = 0;
+    while from < half {
+        let rows = (half - from).min(BLOCK);
+        message = message.with_halves(evals, weights, half, from, rows);
+        from += rows;
     }
     message
 }
@@ -121,13 +167,11 @@ pub fn sumcheck_coefficients_suffix<B: Field, A: Algebra<B>>(
 {
     let half = evals.len() / 2;
     let mut message = RoundMessage::zero();
-    for pair in 0..half {
-        message = message.with_values(
-            evals[2 * pair],
-            evals[2 * pair + 1],
-            weights[2 * pair],
-            weights[2 * pair + 1],
-        );
+    let mut from = 0;
+    while from < half {
+        let pairs = (half - from).min(BLOCK);
+        message = message.with_pairs(evals, weights, from, pairs);
+        from += pairs;
     }
     message
 }

@@ -1,23 +1,27 @@
 use Rattle.std.proofs.Common.{◌+◌, ◌*◌, ◌<◌, length, arith}
 use Rattle.sc_definitions.specs.Tables.{entries, bound_low}
 use Rattle.sc_definitions.proofs.LoopLaws.{entry-read}
-use Rattle.sc_table.proofs.FoldLaws.{folded-more}
+use Rattle.sc_table.proofs.FoldLaws.{written-none, written-more}
 use Rattle.sc_table.proofs.poly.bind_pairs.Goals as goal
+
+pub loop-b-init : goal.loop-b-init
+loop-b-init g c = written-none g.A.Field.number _ c.args.from c.args.evals.now
 
 pub loop-b-preserved : goal.loop-b-preserved
 unfolding bound_low
 loop-b-preserved g c =
     let a = g.A.Field in
-    let i = c.loop-b.b in
+    let from = c.args.from in
+    let b = c.loop-b.b in
     let old = c.args.evals.now in
     let new = c.loop-b.evals in
     let so_far = c.loop-b.invariant in
-    let within : i < length new = omega arith in
-    let low : 2 * i < length new = omega arith in
-    let high : 2 * i + 1 < length new = omega arith in
-    let lo = entry-read a.number new (2 * i) c.index-evals-b.result low c.index-evals-b.is in
-    let hi = entry-read a.number new (2 * i + 1) c.index-evals-b-in-loop-b.result high c.index-evals-b-in-loop-b.is in
-    let lo_old = so_far.left (2 * i) (omega arith) in
-    let hi_old = so_far.left (2 * i + 1) (omega arith) in
-    folded-more a.number (bound_low a.ops (g.A.Algebra.embedding (g.Ch.Field.number c.args.r)) (entries a.number old)) old i new c.add.result within so_far
+    let within : from + b < length new = omega arith in
+    let low : 2 * (from + b) < length new = omega arith in
+    let high : 2 * (from + b) + 1 < length new = omega arith in
+    let lo = entry-read a.number new (2 * (from + b)) c.index-evals-from.result low c.index-evals-from.is in
+    let hi = entry-read a.number new (2 * (from + b) + 1) c.index-evals-from-in-loop-b.result high c.index-evals-from-in-loop-b.is in
+    let lo_old = so_far.behind (2 * (from + b)) (omega arith) in
+    let hi_old = so_far.behind (2 * (from + b) + 1) (omega arith) in
+    written-more a.number (bound_low a.ops (g.A.Algebra.embedding (g.Ch.Field.number c.args.r)) (entries a.number old)) from b old new c.add.result within so_far
     (cc (c.add.ensures, c.mul_base.ensures, c.sub.ensures, lo, hi, lo_old, hi_old))

@@ -1,4 +1,4 @@
-use Rattle.std.proofs.Common.{◌≡◌, length, ◌/◌, ◌^◌, ◌<◌, sym, ◌∙◌, ap, subst}
+use Rattle.std.proofs.Common.{◌≡◌, length, ◌/◌, ◌^◌, ◌<◌, sym, ◌∙◌, ap, subst, arith}
 use Rattle.sc_definitions.specs.Tables.{entries, bound}
 use Rattle.sc_definitions.proofs.TableLaws.{value-bound, value-same}
 use Rattle.sc_table.specs.Polys.{variables_of, table_of}
@@ -14,7 +14,7 @@ returns-clause-bound g c = λ b low.
     let size : length c.bind_halves.new.evals ≡ 2 ^ variables_of c.args.self.now = c.bind_halves.auto.evals ∙ c.as_mut_slice.ensures.size in
     c.keep_first_half.ensures.kept b low
     ∙ ap (λ t. t b) (c.as_mut_slice.ensures.written c.bind_halves.new.evals size)
-    ∙ c.bind_halves.ensures b (subst (λ n. b < n) (sym half_is) low)
+    ∙ c.bind_halves.ensures.written b (omega arith) (omega (arith, half_is, low))
     ∙ ap (λ n. bound a.ops n r (entries a.number c.as_mut_slice.result.now) b) half_is
     ∙ ap (λ t. bound a.ops (2 ^ m) r t b) c.as_mut_slice.ensures.numbers
 

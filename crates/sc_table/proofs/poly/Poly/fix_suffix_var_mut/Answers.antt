@@ -1,4 +1,4 @@
-use Rattle.std.proofs.Common.{◌≡◌, length, ◌/◌, ◌^◌, ◌<◌, sym, ◌∙◌, ap, subst}
+use Rattle.std.proofs.Common.{◌≡◌, length, ◌/◌, ◌^◌, ◌<◌, sym, ◌∙◌, ap, subst, arith}
 use Rattle.sc_definitions.specs.Tables.{bound_low}
 use Rattle.sc_definitions.proofs.TableLaws.{value-same}
 use Rattle.sc_definitions.proofs.SuffixLaws.{value-bound_low}
@@ -15,7 +15,7 @@ returns-clause-bound g c = λ b low.
     let size : length c.bind_pairs.new.evals ≡ 2 ^ variables_of c.args.self.now = c.bind_pairs.auto.evals ∙ c.as_mut_slice.ensures.size in
     c.keep_first_half.ensures.kept b low
     ∙ ap (λ t. t b) (c.as_mut_slice.ensures.written c.bind_pairs.new.evals size)
-    ∙ c.bind_pairs.ensures b (subst (λ n. b < n) (sym half_is) low)
+    ∙ c.bind_pairs.ensures.written b (omega arith) (omega (arith, half_is, low))
     ∙ ap (λ t. bound_low a.ops r t b) c.as_mut_slice.ensures.numbers
 
 pub returns-clause-value : goal.returns-clause-value
