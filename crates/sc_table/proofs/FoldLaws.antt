@@ -1,5 +1,5 @@
 -- The steps of a fold in place.
-use Rattle.std.proofs.Common.{◌≡◌, ◌≢◌, ℕ, ◌+◌, ◌*◌, ◌<◌, ◌≤◌, List, length, set, sym, ◌∙◌, ap, refl, arith, ⊎_elim}
+use Rattle.std.proofs.Common.{◌≡◌, ◌≢◌, ℕ, ◌+◌, ◌*◌, ◌<◌, ◌≤◌, List, length, set, ◌-◌, sym, ◌∙◌, ap, refl, arith, ⊎_elim}
 use Rattle.std.proofs.lemmas.Bool.{cases_lt}
 use Rattle.sc_definitions.specs.Ring.{Ops}
 use Rattle.sc_definitions.specs.Tables.{entries, bound, bound_low}
@@ -83,6 +83,15 @@ module _ {X : Type 0} (number : X → ℕ) (o : Ops) (r quarter half : ℕ) (who
     low_left = λ b h below. second.before b (omega arith) ∙ first.behind b h ∙ so_far.low_left b (omega arith) below;
     high_left = λ b h. second.behind b (omega arith) ∙ first.behind b (omega arith) ∙ so_far.high_left b (omega arith);
   }
+
+-- all rows of both quarters
+pub quarters-all : {X : Type 0} (number : X → ℕ) (folded : ℕ → ℕ) (quarter n : ℕ) (old new : List X) → n ≡ quarter →
+    AreQuartersFolded number folded quarter n old new → (b : ℕ) → b < 2 * quarter → entries number new b ≡ folded b
+quarters-all number folded quarter n old new e done b low = ⊎_elim
+    (λ less. done.low b (omega (arith, e, less)))
+    (λ rest. let c = b - quarter in let at : quarter + c ≡ b = omega arith in
+    sym (ap (entries number new) at) ∙ done.high c (omega arith) ∙ ap folded at)
+    (cases_lt b quarter)
 
 -- the last variable of n more rows, which are made from rows that are as they were
 pub pairs-more : {X : Type 0} (number : X → ℕ) (o : Ops) (r m n : ℕ) (old new newer : List X) →

@@ -1,10 +1,11 @@
 -- Messages by blocks of rows.
-use Rattle.std.proofs.Common.{◌≡◌, ℕ, ◌+◌, ◌*◌, ◌<◌, ◌≤◌, List, length, take, drop, sym, ◌∙◌, ap, arith}
+use Rattle.std.proofs.Common.{◌≡◌, ℕ, ◌+◌, ◌*◌, ◌<◌, ◌≤◌, List, length, get_or, take, drop, sym, ◌∙◌, ap, arith}
 use Rattle.std.proofs.lemmas.List.{length-drop, length-take-le}
 use Rattle.sc_definitions.specs.Ring.{Ops, IsRing, plus}
 use Rattle.sc_definitions.specs.Tables.{Basis, evaluation, Order, prefix, suffix, entries}
-use Rattle.sc_definitions.specs.Messages.{low_entry, high_entry, first_term, leading_term}
+use Rattle.sc_definitions.specs.Messages.{low_entry, high_entry, first_term, leading_term, message_first, message_leading}
 use Rattle.sc_definitions.proofs.LoopLaws.{IsMessageSoFar}
+use Rattle.sc_definitions.proofs.PlayedLaws.{message-same}
 use Rattle.sc_definitions.proofs.Sums.{sum-same, sum-split}
 use Rattle.sc_field.specs.Products.{products, differences, even_rows, odd_rows}
 use Rattle.sc_table.specs.Blocks.{sum_from}
@@ -93,3 +94,14 @@ module _ (o : Ops) (half from n : ℕ) (f g w v : ℕ → ℕ) where
     sum_from-same o from n _ _ (λ k low. let a = f0 k low in let b = w0 k low in cc (a, b)),
     sum_from-same o from n _ _ (λ k low. let a = f0 k low in let b = f1 k low in let c = w0 k low in let d = w1 k low in cc (a, b, c, d)),
   )
+
+-- the messages of tables that agree
+pub messages-same : (order : Order) (o : Ops) (half half' : ℕ) → half ≡ half' → (f g w v : ℕ → ℕ) →
+    ((k : ℕ) → k < half + half → f k ≡ g k) → ((k : ℕ) → k < half + half → w k ≡ v k) →
+    (message_first evaluation order o half f w ≡ message_first evaluation order o half' g v)
+    × (message_leading evaluation order o half f w ≡ message_leading evaluation order o half' g v)
+messages-same order o half half' e f g w v p q =
+    let both = message-same evaluation order o half f g w v p q in (
+      ap (λ l. get_or l 0 0) both ∙ ap (λ n. message_first evaluation order o n g v) e,
+      ap (λ l. get_or l 1 0) both ∙ ap (λ n. message_leading evaluation order o n g v) e,
+    )

@@ -9,3 +9,4 @@ pub mod WeightLaws
 pub mod PointLaws
 pub mod HonestLaws
 pub mod KernelLaws
+pub mod FixedLaws

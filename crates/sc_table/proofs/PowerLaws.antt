@@ -12,6 +12,15 @@ power-half n v w is more =
     let twice : n ≡ 2 ^ w * 2 = is ∙ ap (λ k. 2 ^ k) next ∙ pow-suc 2 w in
     omega arith
 
+-- twice a quarter of one is that of one variable less
+pub power-quarter : (n v w : ℕ) → n ≡ 2 ^ v → v ≡ w + 1 → 2 ≤ v → 2 * (n / 4) ≡ 2 ^ w
+power-quarter n v zero is more two = absurd (omega (arith, more, two))
+power-quarter n v (suc u) is more two =
+    let next : v ≡ suc (suc u) = omega arith in
+    let twice : 2 ^ suc u ≡ 2 ^ u * 2 = pow-suc 2 u in
+    let again : n ≡ 2 ^ suc u * 2 = is ∙ ap (λ k. 2 ^ k) next ∙ pow-suc 2 (suc u) in
+    omega arith
+
 -- the zeros at the end of a power's digits are as many as its exponent says
 pub zeros-power : (k n : ℕ) → n < k → count_trailing_zeros k (2 ^ n) ≡ n
 unfolding count_trailing_zeros

@@ -1,7 +1,8 @@
 -- What clauses see of a `Poly`.
-use Rattle.std.specs.Prelude.{ℕ, List}
+use Rattle.std.specs.Prelude.{◌≡◌, ℕ, ◌+◌, ◌^◌, ◌<◌, List, [], ◌∷◌, length}
 use Rattle.std.specs.Vec.{with_items}
-use Rattle.sc_definitions.specs.Tables.{entries}
+use Rattle.sc_definitions.specs.Ring.{Ops}
+use Rattle.sc_definitions.specs.Tables.{evaluation, Order, entries, value, placed, bound_in}
 use Rattle.sc_table.specs.declared.poly.Poly.{Poly}
 
 -- how many variables the table has
@@ -15,3 +16,9 @@ table_of number p = entries number p.evals.items
 -- p with other values; where they are too many or too few they are cut, or filled up from p's
 abbrev pub with_values : {A : Type 0} → Poly A → List A → Poly A
 with_values p values = record { evals = with_items p.evals values; variables = p.variables; sized = p.sized }
+
+-- What `fix_var` does at r: there is one variable less, each row is bound, and the value at the other coordinates is the old one with r placed.
+pub record IsFixed {A : Type 0} (order : Order) (o : Ops) (number : A → ℕ) (r : ℕ) (old new : Poly A) : Type 0 where
+  pub fewer : variables_of old ≡ variables_of new + 1
+  pub rows : (b : ℕ) → b < 2 ^ variables_of new → table_of number new b ≡ bound_in evaluation order o (variables_of new) r (table_of number old) b
+  pub values : (zs : List ℕ) → length zs ≡ variables_of new → value o (table_of number new) zs ≡ value o (table_of number old) (placed order (r ∷ []) zs)

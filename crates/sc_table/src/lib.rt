@@ -5,12 +5,14 @@
 //! and coordinate n to the lowest. Contracts speak of elements by their numbers, as `sc_field` gives them.
 #![tactic(auto)]
 
+mod fused;
 mod lagrange;
 mod laws;
 mod point;
 mod poly;
 mod strategy;
 
+pub use fused::{fold_and_round_coefficients_prefix, fold_and_round_coefficients_suffix};
 pub use lagrange::{extrapolate_01inf, lagrange_weights_01inf};
 pub use laws::strategy_laws;
 pub use point::Point;

@@ -190,7 +190,7 @@ impl<A: Field> Poly<A> {
     }
 
     // The first half of the values alone, as a table of one variable less.
-    fn keep_first_half(&mut self)
+    pub(crate) fn keep_first_half(&mut self)
         requires { 0 < variables_of self.old }
         ensures fewer { variables_of self.old ≡ variables_of self.new + 1 }
         ensures kept { (b : ℕ) → b < 2 ^ variables_of self.new → table_of A.number self.new b ≡ table_of A.number self.old b }
@@ -233,7 +233,7 @@ fn move_rows_up<A: Field>(rows: &mut [A])
 }
 
 // So many rows of the first half, from `from` on, become lo + (hi - lo) r over the two halves.
-fn bind_halves<A: Algebra<Ch>, Ch: Field>(
+pub(crate) fn bind_halves<A: Algebra<Ch>, Ch: Field>(
     evals: &mut [A],
     half: usize,
     from: usize,
@@ -252,7 +252,12 @@ fn bind_halves<A: Algebra<Ch>, Ch: Field>(
 }
 
 // So many rows, from `from` on, become lo + (hi - lo) r over neighbours: row b over rows 2b and 2b + 1, which no write before it has reached.
-fn bind_pairs<A: Algebra<Ch>, Ch: Field>(evals: &mut [A], from: usize, rows: usize, r: Ch)
+pub(crate) fn bind_pairs<A: Algebra<Ch>, Ch: Field>(
+    evals: &mut [A],
+    from: usize,
+    rows: usize,
+    r: Ch,
+)
     requires { 2 * (from + rows) ≤ length evals.old }
     ensures { HasWritten A.number (bound_low A.ops (A.embedding (Ch.number r)) (entries A.number evals.old)) from rows evals.old evals.new }
 {

@@ -13,7 +13,7 @@ use crate::{Poly, extrapolate_01inf};
 use sc_field::{Algebra, Field};
 
 // How many places a kernel measures in one go: as many products as a field adds up before it reduces.
-const BLOCK: usize = 512;
+pub(crate) const BLOCK: usize = 512;
 
 /// The two values that a round sends: its polynomial at 0, or in the projective basis at 1, and its
 /// leading coefficient.
@@ -30,7 +30,7 @@ pub struct RoundMessage<A> {
 
 impl<A: Field> RoundMessage<A> {
     // The message of no rows.
-    fn zero() -> Self
+    pub(crate) fn zero() -> Self
         ensures first { A.number result.c_a ≡ 0 }
         ensures leading { A.number result.c_inf ≡ 0 }
     {
@@ -42,7 +42,7 @@ impl<A: Field> RoundMessage<A> {
 
     // The message with the shares of `rows` places more, from place `from` on, of a round that binds the first variable of two tables of
     // values, of which each half has `half` rows.
-    fn with_halves<B: Field>(
+    pub(crate) fn with_halves<B: Field>(
         self,
         evals: &[B],
         weights: &[A],
@@ -72,7 +72,13 @@ impl<A: Field> RoundMessage<A> {
 
     // The message with the shares of `pairs` places more, from place `from` on, of a round that binds the last variable of two tables of
     // values.
-    fn with_pairs<B: Field>(self, evals: &[B], weights: &[A], from: usize, pairs: usize) -> Self
+    pub(crate) fn with_pairs<B: Field>(
+        self,
+        evals: &[B],
+        weights: &[A],
+        from: usize,
+        pairs: usize,
+    ) -> Self
     where
         A: Algebra<B>,
         requires evals { 2 * (from + pairs) ≤ length evals.now }

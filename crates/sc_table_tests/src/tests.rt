@@ -2,6 +2,8 @@
 
 ghost use Rattle.std.specs.Prelude.{◌≡◌, length, IfOk};
 
+mod kernels;
+
 use sc_field::{F65537, Field, NoMemory};
 use sc_table::{
     Basis, Point, Poly, RoundMessage, VariableOrder, extrapolate_01inf, lagrange_weights_01inf,
