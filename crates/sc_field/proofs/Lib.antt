@@ -8,3 +8,4 @@ pub mod PolynomialTables
 pub mod PairLaws
 pub mod DotLaws
 pub mod DelayedLaws
+pub mod DelayedPairs

@@ -1,6 +1,7 @@
 //! The integers modulo 257.
 ghost use Rattle.std.specs.Prelude.{◌≡◌, ◌%◌, ◌<◌, refl};
 ghost use Rattle.std.proofs.Common.{lit<, lit≤};
+ghost use Rattle.sc_definitions.specs.Ring.{minus};
 ghost use Rattle.sc_definitions.specs.Residues.{residues};
 ghost use Rattle.sc_field.specs.F257Laws.{f257_field, f257_two};
 ghost use Rattle.sc_field.specs.PrimeLaws.{eqb_iff};
@@ -26,6 +27,14 @@ impl F257 {
         F257 {
             value: (number % MODULUS as u32) as u16,
         }
+    }
+
+    // A number of the difference, not reduced.
+    pub(crate) fn above(self, other: F257) -> u32
+        ensures number { result % 257 ≡ minus (residues 257) self.value other.value }
+        ensures below { result < 514 }
+    {
+        (self.value + MODULUS - other.value) as u32
     }
 }
 

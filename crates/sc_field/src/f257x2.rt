@@ -105,6 +105,72 @@ impl Field for F257x2 {
         }
     }
 
+    // The parts of each product are below 2^21, so that 32 bits hold their sums, which are reduced once.
+    fn dot(xs: &[F257x2], ys: &[F257x2]) -> F257x2 {
+        let mut low: u32 = 0;
+        let mut high: u32 = 0;
+        for i in 0..xs.len() {
+            let (x, y) = (xs[i], ys[i]);
+            let (a, b) = (x.low.value as u32, x.high.value as u32);
+            let (c, d) = (y.low.value as u32, y.high.value as u32);
+            low += a * c + 3 * (b * d);
+            high += a * d + b * c;
+        }
+        F257x2 {
+            low: F257::reduced(low),
+            high: F257::reduced(high),
+        }
+    }
+
+    fn dot_differences(x0: &[F257x2], x1: &[F257x2], y0: &[F257x2], y1: &[F257x2]) -> F257x2 {
+        let mut low: u32 = 0;
+        let mut high: u32 = 0;
+        for i in 0..x0.len() {
+            let (x, less) = (x1[i], x0[i]);
+            let a = x.low.above(less.low);
+            let b = x.high.above(less.high);
+            let (y, less) = (y1[i], y0[i]);
+            let c = y.low.above(less.low);
+            let d = y.high.above(less.high);
+            low += a * c + 3 * (b * d);
+            high += a * d + b * c;
+        }
+        F257x2 {
+            low: F257::reduced(low),
+            high: F257::reduced(high),
+        }
+    }
+
+    fn dot_pairs(pairs: usize, xs: &[F257x2], ys: &[F257x2]) -> (F257x2, F257x2) {
+        let mut low: u32 = 0;
+        let mut high: u32 = 0;
+        let mut low_difference: u32 = 0;
+        let mut high_difference: u32 = 0;
+        for i in 0..pairs {
+            let (x, y) = (xs[2 * i], ys[2 * i]);
+            let (a, b) = (x.low.value as u32, x.high.value as u32);
+            let (c, d) = (y.low.value as u32, y.high.value as u32);
+            low += a * c + 3 * (b * d);
+            high += a * d + b * c;
+            let (x1, y1) = (xs[2 * i + 1], ys[2 * i + 1]);
+            let e = x1.low.above(x.low);
+            let f = x1.high.above(x.high);
+            let g = y1.low.above(y.low);
+            let h = y1.high.above(y.high);
+            low_difference += e * g + 3 * (f * h);
+            high_difference += e * h + f * g;
+        }
+        let even = F257x2 {
+            low: F257::reduced(low),
+            high: F257::reduced(high),
+        };
+        let difference = F257x2 {
+            low: F257::reduced(low_difference),
+            high: F257::reduced(high_difference),
+        };
+        (even, difference)
+    }
+
     fn neg(self) -> F257x2 {
         F257x2 {
             low: self.low.neg(),
