@@ -111,3 +111,20 @@ fn the_largest_products_fit(rt: HostRuntime) {
         512
     );
 }
+
+// 66048 is 256 + 256 u, which is -(1 + u), so that each product is (1 + u)^2, which is 4 + 2 u. And 512 times that is 249 + 253 u, modulo 257.
+#[test]
+fn the_largest_products_of_pairs_fit(rt: HostRuntime) {
+    let none = [F257x2::ZERO; 512];
+    let most = [F257x2::element(66048); 512];
+    let sum = 249 + 257 * 253;
+    assert_eq!(rt; F257x2::dot(&most, &most).index(), sum);
+    assert_eq!(rt;
+        F257x2::dot_differences(&none, &most, &none, &most).index(),
+        sum
+    );
+    assert_eq!(rt;
+        F257x2::dot_differences(&most, &none, &most, &none).index(),
+        sum
+    );
+}
