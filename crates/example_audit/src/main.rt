@@ -1,0 +1,54 @@
+//! `audit` from Rust: the rounds of a true claim hold, and with one value of the proof changed they are refuted.
+#![tactic(auto)]
+
+use sc_audit::{Job, Mode, Strategy, Verdict, audit};
+use sc_challenger::HashChallenger;
+use sc_field::{F65537 as F, Field, NoMemory};
+use sc_statements::{Constraint, EqStatement, Statements};
+use sc_table::{Point, VariableOrder};
+use std::alloc::Global;
+
+type Hash = HashChallenger<F>;
+
+fn main(rt: HostRuntime) -> anyhow::Result<()> {
+    let alloc = rt.alloc();
+    let table = vec![in alloc; F::ONE, F::element(2), F::element(3), F::element(4)]?;
+    let mut job = build(table, value_at(alloc, F::ZERO, F::ONE, F::element(2))?);
+    let mut report = audit::<F, F, F, Hash>(alloc, &job, &mut Hash::new(alloc))?;
+    println!(rt; "as built: {}", told(&report.verdict))?;
+    if let Some(round) = report.rounds.polynomial_evaluations.first_mut() {
+        round.c_a = F::ZERO;
+    }
+    job.mode = Mode::Check(Some(report.rounds));
+    let report = audit::<F, F, F, Hash>(alloc, &job, &mut Hash::new(alloc))?;
+    println!(rt; "with one value changed: {}", told(&report.verdict))?;
+    Ok(())
+}
+
+// The claim that a table of two variables has this value at the point (x, y).
+fn value_at(alloc: Global, x: F, y: F, value: F) -> Result<Constraint<F, F>, NoMemory> {
+    let mut statements = EqStatement::initialize(alloc, 2);
+    statements.add_evaluated_constraint(Point::new(vec![in alloc; x, y]?), value)?;
+    let groups = vec![in alloc; Statements::Eq(statements)]?;
+    Ok(Constraint::new(F::ONE, 2, groups))
+}
+
+// The job to build the rounds of these statements, the first variable first, with no test in a round.
+fn build(table: Vec<F>, constraint: Constraint<F, F>) -> Job<F, F> {
+    Job {
+        table,
+        constraint,
+        order: VariableOrder::Prefix,
+        pow_bits: 0,
+        mode: Mode::Build(Strategy::Plain),
+    }
+}
+
+// A verdict as a word.
+fn told(verdict: &Verdict<F>) -> &'static str {
+    match verdict {
+        Verdict::Holds => "holds",
+        Verdict::Refuted => "refuted",
+        Verdict::LuckyBatch { .. } | Verdict::LuckyRound { .. } => "lucky",
+    }
+}
