@@ -1,4 +1,4 @@
-//! `audit` from Rust: the rounds of a true claim hold, and with one value of the proof changed they are refuted.
+//! `audit` from Rust: rounds that are built hold, and with one value changed they are refuted.
 #![tactic(auto)]
 
 use sc_audit::{Job, Mode, Strategy, Verdict, audit};
@@ -33,7 +33,7 @@ fn value_at(alloc: Global, x: F, y: F, value: F) -> Result<Constraint<F, F>, NoM
     Ok(Constraint::new(F::ONE, 2, groups))
 }
 
-// The job to build the rounds of these statements, the first variable first, with no test in a round.
+// The job to build the rounds of these statements, the first variable first, without tests.
 fn build(table: Vec<F>, constraint: Constraint<F, F>) -> Job<F, F> {
     Job {
         table,
