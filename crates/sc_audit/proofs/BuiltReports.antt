@@ -231,8 +231,8 @@ module _ (q : Asked) (ring : IsRing q.ops) (even : q.case.problem.basis ≡ eval
         }
 
     -- a replay of it is broken off for want of memory alone
-    pub replay_broken : {X : Type 0} (strategy : Strategy) (number : X → ℕ) (history claim : Type 0) (start end : Footing) (expected came found : ℕ) (e : SumcheckError) →
-        start ≡ start_of q → (history → end.history ≡ q.history) → came ≡ expected → found ≡ witness_count q.channel.bits expected →
+    pub replay_broken : {X : Type 0} (strategy : Strategy) (number : X → ℕ) (history claim : Type 0) (start end : Footing) (expected : ℕ) (e : SumcheckError) →
+        expected ≡ q.case.problem.variables → start ≡ start_of q → (history → end.history ≡ q.history) →
         LeavesReplay number (history × claim)
         (record {
           next = next_claim q.case.problem.basis q.ops;
@@ -240,11 +240,11 @@ module _ (q : Asked) (ring : IsRing q.ops) (even : q.case.problem.basis ≡ eval
           start = start;
           rounds = given_rounds k.wire.messages k.wire.witnesses;
           expected = expected;
-          came = came;
-          witnesses = found;
+          came = length k.wire.messages;
+          witnesses = length k.wire.witnesses;
         }) (Err e) end →
         IsCaused None (with_task q (build strategy)) end.history (refusal_by e)
-    replay_broken strategy number history claim start end expected came found NoMemory begun kept counted witnessed left = elim left.1 [
+    replay_broken strategy number history claim start end expected NoMemory size begun kept left = elim left.1 [
       | inl none ↦ inl (kept none.0)
       | inr part ↦
           let next = next_claim q.case.problem.basis q.ops in
@@ -253,11 +253,11 @@ module _ (q : Asked) (ring : IsRing q.ops) (even : q.case.problem.basis ≡ eval
           (subst (λ f. IsReplayedInPart next q.channel f end (given_rounds k.wire.messages k.wire.witnesses)) begun part) in
           inr (record { rounds = b.rounds; are = b.built; count = b.count; played = some.count; passes = some.replays.passes; history = some.replays.history })
     ]
-    replay_broken strategy number history claim start end expected came found (InvalidPowWitness i bits) begun kept counted witnessed left =
+    replay_broken strategy number history claim start end expected (InvalidPowWitness i bits) size begun kept left =
         let next = next_claim q.case.problem.basis q.ops in
         absurd (none_failing next (honest_of q.ops q.case.problem) q.channel (start_of q) end q.case.problem.variables b.rounds i b.built
         (subst (λ rounds. FailsAt next q.channel (start_of q) end rounds i) rounds_given
         (subst (λ f. FailsAt next q.channel f end (given_rounds k.wire.messages k.wire.witnesses) i) begun left.2)))
-    replay_broken strategy number history claim start end expected came found (RoundCountMismatch n m) begun kept counted witnessed left = absurd (left.2 counted)
-    replay_broken strategy number history claim start end expected came found (PowWitnessCountMismatch n m) begun kept counted witnessed left = absurd (left.3 witnessed)
-    replay_broken strategy number history claim start end expected came found e begun kept counted witnessed left = absurd left
+    replay_broken strategy number history claim start end expected (RoundCountMismatch n m) size begun kept left = absurd (left.2 (rounds_built ∙ sym size))
+    replay_broken strategy number history claim start end expected (PowWitnessCountMismatch n m) size begun kept left = absurd (left.3 (witnesses_built ∙ ap (witness_count q.channel.bits) (sym size)))
+    replay_broken strategy number history claim start end expected e size begun kept left = absurd left

@@ -1,5 +1,5 @@
 -- What a refusal is caused by.
-use Rattle.std.proofs.Common.{rules, ◌≡◌, ℕ, zero, suc, true, false, List, [], ◌∷◌, ◌++◌, take, Option, Some, None, Result, Ok, Err, IfErr, inl, inr, refl, sym, ◌∙◌, ap, subst, append_assoc}
+use Rattle.std.proofs.Common.{◌≡◌, ℕ, zero, suc, true, false, List, [], ◌∷◌, ◌++◌, take, Option, Some, None, Result, Ok, Err, IfErr, inl, refl, sym, ◌∙◌, ap, subst, append_assoc}
 use Rattle.std.proofs.lemmas.List.{append-nil}
 use Rattle.std.specs.List.{slice_get}
 use Rattle.sc_definitions.specs.declared.events.Event.{Event}
@@ -10,10 +10,9 @@ use Rattle.sc_audit.specs.declared.report.Report.{Report}
 use Rattle.sc_audit.specs.declared.error.AuditError.{AuditError}
 use Rattle.sc_audit.specs.declared.error.AuditError.TheVariants.{Unbuilt, NoWitness, InvalidPowWitness, NoMemory}
 use Rattle.sc_audit.specs.declared.error.Form.TheVariants.{Mode, Groups, Verdict}
-use Rattle.sc_audit.specs.Cases.{Task, Given, build, check, Asked, with_task, start_of}
-use Rattle.sc_audit.specs.Refusals.{arity_of, shape_by, or_later, mode_refusal, shape_refusal, missing_refusal, count_refusal, task_refusal, refusal_of}
-use Rattle.sc_audit.specs.Figures.{Figures}
-use Rattle.sc_audit.specs.Audits.{IsPlayed, WitnessFails, IsCaused, Answers, IsRefusedBy, PassesAll, IsValid, MayMeet}
+use Rattle.sc_audit.specs.Cases.{Task, build, check, Asked, start_of}
+use Rattle.sc_audit.specs.Refusals.{arity_of, shape_by, or_later, mode_refusal, shape_refusal, task_refusal, refusal_of}
+use Rattle.sc_audit.specs.Audits.{WitnessFails, IsCaused, Answers, IsRefusedBy, PassesAll, IsValid, MayMeet}
 
 -- nothing is no error
 pub no_error : (e : AuditError) → ◌≡◌ {A = Option AuditError} None (Some e) → ⊥
@@ -33,11 +32,6 @@ caused_err first q h e e' is p = subst (IsCaused first q h) (sym is) p
 pub refused_err : (T : Type 0) (first : Option AuditError) (e e' : AuditError) → e ≡ e' → IsRefusedBy {T = T} first (Err e') → IsRefusedBy {T = T} first (Err e)
 refused_err T first e e' is p = subst (λ t. IsRefusedBy {T = T} first (Err t)) (sym is) p
 
--- want of memory that leaves the history as it was
-pub no_memory_answers : {F EF : Type 0} (base : F → ℕ) (number : EF → ℕ) (first : Option AuditError) (q : Asked) (r : Result (Report F EF) AuditError) (h : List Event) →
-    r ≡ Err NoMemory → h ≡ q.history → Answers base number first q r h
-no_memory_answers base number first q r h is kept = subst (λ t. Answers base number first q t h) (sym is) (inl kept)
-
 pub refused_by_name : {T : Type 0} (first first' : Option AuditError) (r : Result T AuditError) → first ≡ first' → IsRefusedBy first r → IsRefusedBy first' r
 refused_by_name first first' r same p = subst (λ f. IsRefusedBy f r) same p
 
@@ -48,58 +42,6 @@ unrefused first r none = subst (λ f. IsRefusedBy f r) (sym none) tt
 -- the refusal is answered
 pub refused_as : (T : Type 0) (first : Option AuditError) (e : AuditError) → first ≡ Some e → IsRefusedBy {T = T} first (Err e)
 refused_as T first e is = subst (λ f. IsRefusedBy {T = T} f (Err e)) (sym is) (inl refl)
-
--- or memory is wanted
-pub refused_or_memory : {T : Type 0} (first : Option AuditError) (r : Result T AuditError) → r ≡ Err NoMemory → IsRefusedBy first r
-refused_or_memory None r none = tt
-refused_or_memory (Some e) r none = inr none
-
--- ---- an absent proof
-
--- a proof of no rounds
-abbrev nothing : Given
-nothing = record { messages = []; witnesses = [] }
-
-no_count : (bits : ℕ) → count_refusal 0 bits nothing ≡ None
-no_count bits = search rules
-
-pub none_missing : (n : ℕ) → n ≡ 0 → missing_refusal n ≡ None
-none_missing n none = ap missing_refusal none ∙ search rules
-
-module _ (q : Asked) where
-  abbrev absent : Asked
-  absent = with_task q (check None)
-
-  abbrev empty : Asked
-  empty = with_task q (check (Some nothing))
-
-  unplayed : {figures : Figures} {h : List Event} → IsPlayed empty figures h → IsPlayed absent figures h
-  unplayed p = record { rounds = p.rounds; are = p.are; count = p.count; passes = p.passes; history = p.history; is = p.is }
-
-  -- what a proof of no rounds meets, an absent one does
-  caused_nothing : (bits : ℕ) (h : List Event) (e : AuditError) → IsCaused (count_refusal 0 bits nothing) empty h e → IsCaused (missing_refusal 0) absent h e
-  caused_nothing bits h (Unbuilt Mode) found = absurd (no_error _ (sym (no_count bits) ∙ found.0))
-  caused_nothing bits h (Unbuilt Groups) found = found
-  caused_nothing bits h (Unbuilt Verdict) found = record { figures = found.figures; played = unplayed found.played; lucky = found.lucky }
-  caused_nothing bits h (InvalidPowWitness i d) found = (let none = found.1.at.is in absurd cc)
-  caused_nothing bits h (NoWitness i) found = found
-  caused_nothing bits h NoMemory (inl kept) = inl kept
-  caused_nothing bits h NoMemory (inr some) =
-      inr (record { rounds = some.rounds; are = some.are; count = some.count; played = some.played; passes = some.passes; history = some.history })
-  caused_nothing bits h e found = absurd (no_error _ (sym (no_count bits) ∙ found.0))
-
-  answers_nothing : {F EF : Type 0} (base : F → ℕ) (number : EF → ℕ) (bits : ℕ) (r : Result (Report F EF) AuditError) (h : List Event) →
-      Answers base number (count_refusal 0 bits nothing) empty r h → Answers base number (missing_refusal 0) absent r h
-  answers_nothing base number bits (Ok r) h p = record { played = unplayed p.played; no_luck = p.no_luck; grids = p.grids }
-  answers_nothing base number bits (Err e) h p = caused_nothing bits h e p
-
-  pub answers_none : {F EF : Type 0} (base : F → ℕ) (number : EF → ℕ) (n bits : ℕ) (given : Given) (r : Result (Report F EF) AuditError) (h : List Event) → n ≡ 0 → given ≡ nothing →
-      Answers base number (count_refusal n bits given) (with_task q (check (Some given))) r h → Answers base number (missing_refusal n) absent r h
-  answers_none base number n bits given r h none empty_one p =
-      subst (λ m. Answers base number (missing_refusal m) absent r h) (sym none)
-      (answers_nothing base number bits r h
-      (subst (λ g. Answers base number (count_refusal 0 bits g) (with_task q (check (Some g))) r h) empty_one
-      (subst (λ m. Answers base number (count_refusal m bits given) (with_task q (check (Some given))) r h) none p)))
 
 -- ---- earlier refusals
 
@@ -112,13 +54,6 @@ no_earlier q mode shape =
 pub shape_as : (rows rows' most most' bits n : ℕ) (first : Option AuditError) → rows ≡ rows' → most ≡ most' → shape_by (arity_of rows) most rows bits n ≡ first →
     shape_by (arity_of rows') most' rows' bits n ≡ first
 shape_as rows rows' most most' bits n first er em is = rw (er, em) at is
-
--- an earlier one is the refusal
-pub mode_first : (q : Asked) (e : AuditError) → mode_refusal q.case.task ≡ Some e → refusal_of q ≡ Some e
-mode_first q e mode = ap (λ t. or_later t (or_later (shape_refusal q) (task_refusal q))) mode
-
-pub shape_first : (q : Asked) (e : AuditError) → mode_refusal q.case.task ≡ None → shape_refusal q ≡ Some e → refusal_of q ≡ Some e
-shape_first q e mode shape = ap (λ t. or_later t (or_later (shape_refusal q) (task_refusal q))) mode ∙ ap (λ t. or_later t (task_refusal q)) shape
 
 -- ---- valid cases
 

@@ -55,9 +55,16 @@ module _ (q : Asked) (given : Given) where
   next = next_claim q.case.problem.basis q.ops
 
   -- a replay of it from a footing on, where so many rounds are expected
-  abbrev replay_from : Footing → ℕ → ℕ → ℕ → Replay
-  replay_from start expected came found =
-      record { next = next; channel = q.channel; start = start; rounds = rounds_of; expected = expected; came = came; witnesses = found }
+  abbrev replay_from : Footing → ℕ → Replay
+  replay_from start expected = record {
+    next = next;
+    channel = q.channel;
+    start = start;
+    rounds = rounds_of;
+    expected = expected;
+    came = length given.messages;
+    witnesses = length given.witnesses;
+  }
 
   -- ---- a proof that was replayed whole
 
@@ -111,48 +118,48 @@ module _ (q : Asked) (given : Given) where
 
   -- ---- a proof that was refused
 
-  pub proof_refused : {X : Type 0} (number : X → ℕ) (history claim : Type 0) (start end : Footing) (expected came found : ℕ) (e : SumcheckError) →
-      expected ≡ q.case.problem.variables → start ≡ start_of q → (history → end.history ≡ q.history) → length given.messages ≡ came → length given.witnesses ≡ found →
+  pub proof_refused : {X : Type 0} (number : X → ℕ) (history claim : Type 0) (start end : Footing) (expected : ℕ) (e : SumcheckError) →
+      expected ≡ q.case.problem.variables → start ≡ start_of q → (history → end.history ≡ q.history) →
       LeavesReplay number (history × claim)
-      (replay_from start expected came found) (Err e) end →
+      (replay_from start expected) (Err e) end →
       IsCaused (count_refusal q.case.problem.variables q.channel.bits given) checked end.history (refusal_by e)
-  proof_refused number history claim start end expected came found replay.NoMemory size begun kept messages witnesses left = elim left.1 [
+  proof_refused number history claim start end expected replay.NoMemory size begun kept left = elim left.1 [
     | inl none ↦ inl (kept none.0)
     | inr part ↦
         let some : IsReplayedInPart next q.channel (start_of q) end rounds_of = subst (λ f. IsReplayedInPart next q.channel f end rounds_of) begun part in
         inr (record {
           rounds = rounds_of;
           are = refl;
-          count = length-given_rounds given.messages given.witnesses ∙ messages ∙ left.0.rounds ∙ size;
+          count = length-given_rounds given.messages given.witnesses ∙ left.0.rounds ∙ size;
           played = some.count;
           passes = some.replays.passes;
           history = some.replays.history;
         })
   ]
-  proof_refused number history claim start end expected came found (replay.InvalidPowWitness i bits) size begun kept messages witnesses left =
+  proof_refused number history claim start end expected (replay.InvalidPowWitness i bits) size begun kept left =
       (left.1, record { claim = end.claim; at = subst (λ f. FailsAt next q.channel f end rounds_of i) begun left.2 })
-  proof_refused number history claim start end expected came found (replay.RoundCountMismatch n m) size begun kept messages witnesses left =
-      let error : RoundCountMismatch q.case.problem.variables (length given.messages) ≡ RoundCountMismatch n m = rw (left.0, left.1, messages, size) refl in
-      (count-rounds q.case.problem.variables q.channel.bits given (λ equal. left.2 (sym messages ∙ equal ∙ sym size)) ∙ ap Some error, kept left.3.0)
-  proof_refused number history claim start end expected came found (replay.PowWitnessCountMismatch n m) size begun kept messages witnesses left =
-      let error : PowWitnessCountMismatch (witness_count q.channel.bits q.case.problem.variables) (length given.witnesses) ≡ PowWitnessCountMismatch n m = rw (left.0, left.1, witnesses, size) refl in
-      (count-witnesses q.case.problem.variables q.channel.bits given (messages ∙ left.2 ∙ size) (λ equal. left.3 (sym witnesses ∙ equal ∙ ap (witness_count q.channel.bits) (sym size))) ∙ ap Some error, kept left.4.0)
-  proof_refused number history claim start end expected came found e size begun kept messages witnesses left = absurd left
+  proof_refused number history claim start end expected (replay.RoundCountMismatch n m) size begun kept left =
+      let error : RoundCountMismatch q.case.problem.variables (length given.messages) ≡ RoundCountMismatch n m = rw (left.0, left.1, size) refl in
+      (count-rounds q.case.problem.variables q.channel.bits given (λ equal. left.2 (equal ∙ sym size)) ∙ ap Some error, kept left.3.0)
+  proof_refused number history claim start end expected (replay.PowWitnessCountMismatch n m) size begun kept left =
+      let error : PowWitnessCountMismatch (witness_count q.channel.bits q.case.problem.variables) (length given.witnesses) ≡ PowWitnessCountMismatch n m = rw (left.0, left.1, size) refl in
+      (count-witnesses q.case.problem.variables q.channel.bits given (left.2 ∙ size) (λ equal. left.3 (equal ∙ ap (witness_count q.channel.bits) (sym size))) ∙ ap Some error, kept left.4.0)
+  proof_refused number history claim start end expected e size begun kept left = absurd left
 
   -- the counts are refused
-  pub counts_refused : {X : Type 0} (T : Type 0) (number : X → ℕ) (untouched : Type 0) (start end : Footing) (expected came found : ℕ) (e : SumcheckError) →
-      expected ≡ q.case.problem.variables → length given.messages ≡ came → length given.witnesses ≡ found →
+  pub counts_refused : {X : Type 0} (T : Type 0) (number : X → ℕ) (untouched : Type 0) (start end : Footing) (expected : ℕ) (e : SumcheckError) →
+      expected ≡ q.case.problem.variables →
       LeavesReplay number untouched
-      (replay_from start expected came found) (Err e) end →
+      (replay_from start expected) (Err e) end →
       IsRefusedBy {T = T} (count_refusal q.case.problem.variables q.channel.bits given) (Err (refusal_by e))
-  counts_refused T number untouched start end expected came found replay.NoMemory size messages witnesses left =
-      unrefused _ _ (count-none q.case.problem.variables q.channel.bits given (messages ∙ left.0.rounds ∙ size) (witnesses ∙ left.0.witnesses ∙ ap (witness_count q.channel.bits) size))
-  counts_refused T number untouched start end expected came found (replay.InvalidPowWitness i bits) size messages witnesses left =
-      unrefused _ _ (count-none q.case.problem.variables q.channel.bits given (messages ∙ left.0.rounds ∙ size) (witnesses ∙ left.0.witnesses ∙ ap (witness_count q.channel.bits) size))
-  counts_refused T number untouched start end expected came found (replay.RoundCountMismatch n m) size messages witnesses left =
-      let error : RoundCountMismatch q.case.problem.variables (length given.messages) ≡ RoundCountMismatch n m = rw (left.0, left.1, messages, size) refl in
-      refused_as T _ _ (count-rounds q.case.problem.variables q.channel.bits given (λ equal. left.2 (sym messages ∙ equal ∙ sym size)) ∙ ap Some error)
-  counts_refused T number untouched start end expected came found (replay.PowWitnessCountMismatch n m) size messages witnesses left =
-      let error : PowWitnessCountMismatch (witness_count q.channel.bits q.case.problem.variables) (length given.witnesses) ≡ PowWitnessCountMismatch n m = rw (left.0, left.1, witnesses, size) refl in
-      refused_as T _ _ (count-witnesses q.case.problem.variables q.channel.bits given (messages ∙ left.2 ∙ size) (λ equal. left.3 (sym witnesses ∙ equal ∙ ap (witness_count q.channel.bits) (sym size))) ∙ ap Some error)
-  counts_refused T number untouched start end expected came found e size messages witnesses left = absurd left
+  counts_refused T number untouched start end expected replay.NoMemory size left =
+      unrefused _ _ (count-none q.case.problem.variables q.channel.bits given (left.0.rounds ∙ size) (left.0.witnesses ∙ ap (witness_count q.channel.bits) size))
+  counts_refused T number untouched start end expected (replay.InvalidPowWitness i bits) size left =
+      unrefused _ _ (count-none q.case.problem.variables q.channel.bits given (left.0.rounds ∙ size) (left.0.witnesses ∙ ap (witness_count q.channel.bits) size))
+  counts_refused T number untouched start end expected (replay.RoundCountMismatch n m) size left =
+      let error : RoundCountMismatch q.case.problem.variables (length given.messages) ≡ RoundCountMismatch n m = rw (left.0, left.1, size) refl in
+      refused_as T _ _ (count-rounds q.case.problem.variables q.channel.bits given (λ equal. left.2 (equal ∙ sym size)) ∙ ap Some error)
+  counts_refused T number untouched start end expected (replay.PowWitnessCountMismatch n m) size left =
+      let error : PowWitnessCountMismatch (witness_count q.channel.bits q.case.problem.variables) (length given.witnesses) ≡ PowWitnessCountMismatch n m = rw (left.0, left.1, size) refl in
+      refused_as T _ _ (count-witnesses q.case.problem.variables q.channel.bits given (left.2 ∙ size) (λ equal. left.3 (equal ∙ ap (witness_count q.channel.bits) (sym size))) ∙ ap Some error)
+  counts_refused T number untouched start end expected e size left = absurd left

@@ -21,7 +21,6 @@ pub mod WorkedRounds
 pub mod WorkedSeeds
 pub mod ReplayLaws
 pub mod Lengths
-pub mod Results
 pub mod Lists
 pub mod StandingLaws
 pub mod SameTables

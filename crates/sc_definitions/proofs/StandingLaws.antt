@@ -59,13 +59,6 @@ pub record IsSized (t : Standing) : Type 0 where
   pub evals : length t.evals ≡ 2 ^ t.variables
   pub weights : length t.weights ≡ 2 ^ t.variables
 
--- what a round leaves has as many entries as rows
-pub sized_after : (s : Setting) (t u : Standing) (r : ℕ) → IsRound s t u r → IsSized u
-sized_after s t u r p = record {
-  evals = ap length p.evals ∙ length-entries_of u.variables _;
-  weights = ap length p.weights ∙ length-entries_of u.variables _;
-}
-
 -- the tables after a batch, row by row
 module _ (s : Setting) (t u : Standing) (rs : List ℕ) (p : IsPlayed s t u rs) where
   pub evals_at : (b : ℕ) → b < 2 ^ u.variables → rows_of u.evals b ≡ bound_by s.basis s.order s.ops rs u.variables (rows_of t.evals) b

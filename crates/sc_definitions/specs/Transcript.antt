@@ -22,13 +22,13 @@ unfoldable pub sent : Extension → List ℕ → List Event
 sent E values = words (flat_map E.parts values)
 
 -- a positive difficulty's witness and its test
-abbrev pub ground : ℕ → ℕ → List Event
-ground zero w = []
-ground (suc b) w = Word w ∷ Test (suc b) ∷ []
+abbrev pub witness_events : ℕ → ℕ → List Event
+witness_events zero w = []
+witness_events (suc b) w = Word w ∷ Test (suc b) ∷ []
 
 -- what a round appends before its challenge
 unfoldable pub before_draw : Extension → ℕ → Round → List Event
-before_draw E bits r = sent E r.values ++ ground bits r.witness
+before_draw E bits r = sent E r.values ++ witness_events bits r.witness
 
 -- what a round appends
 unfoldable pub round_events : Extension → ℕ → Round → List Event

@@ -18,10 +18,6 @@ same_setting c c' o order order' ec eo = rw (ec, eo) refl
 pub played_at : (s s' : Setting) (t t' u u' : Standing) (rs rs' : List ℕ) → s ≡ s' → t ≡ t' → u ≡ u' → rs ≡ rs' → IsPlayed s t u rs → IsPlayed s' t' u' rs'
 played_at s s' t t' u u' rs rs' es et eu er p = rw (← es, ← et, ← eu, ← er) p
 
--- standings by their parts
-pub same_standing : (t u : Standing) → t.variables ≡ u.variables → t.evals ≡ u.evals → t.weights ≡ u.weights → t.claim ≡ u.claim → t.history ≡ u.history → t.wire ≡ u.wire → t ≡ u
-same_standing t u ev ee ew ec eh ex = λ i. record { variables = ev i; evals = ee i; weights = ew i; claim = ec i; history = eh i; wire = ex i }
-
 -- a batch that got no memory before it began
 pub never_begun : {X : Type 0} (result : Result X SumcheckError) (challenges : X → List ℕ) (b : Batch) (u : Standing) →
     IsErrAnd result (λ e. e ≡ NoMemory) → u ≡ b.taken → LeavesBatch challenges b u result
@@ -82,10 +78,6 @@ room_at p k n m r same less size room = omega arith
 
 pub sum_at : (v p k s : ℕ) → p ≡ k → v + k ≡ s → v + p ≡ s
 sum_at v p k s same is = omega arith
-
--- the sum that stays is that of the pair that stays
-pub refused_sum : {Sum Pair : Type 0} (number : Sum → ℕ) (total : Pair → ℕ) (s s' : Sum) (p p' : Pair) → s' ≡ s → p' ≡ p → number s ≡ total p → number s' ≡ total p'
-refused_sum number total s s' p p' same_sum same_pair is = cc
 
 -- an order between numbers by other names
 pub fits : (a k v w : ℕ) → a ≡ k → v ≡ w → k ≤ w → a ≤ v

@@ -11,8 +11,7 @@ use Rattle.sc_definitions.specs.Channels.{Channel, Wire, empty_wire, with_rounds
 use Rattle.sc_definitions.specs.Standings.{Setting, Standing, footing_of, IsPlayed}
 use Rattle.sc_definitions.proofs.BuiltLaws.{length-messages}
 use Rattle.sc_transcript.specs.declared.error.SumcheckError.{SumcheckError}
-use Rattle.sc_transcript.specs.declared.error.SumcheckError.TheVariants.{RoundCountMismatch, MissingSumcheckData, InvalidPowWitness, MissingPowWitness, PowWitnessCountMismatch, WireSizeMismatch, EvenCharacteristic, MaskTooShort, NoRounds, OpeningShapeMismatch, NoWitness, NoMemory}
-use Rattle.sc_transcript.specs.Invalid.{IsInvalid}
+use Rattle.sc_transcript.specs.declared.error.SumcheckError.TheVariants.{RoundCountMismatch, InvalidPowWitness, PowWitnessCountMismatch, NoMemory}
 use Rattle.sc_transcript.specs.Replayed.{LeavesReplay}
 use Rattle.sc_transcript.specs.Data.{witness_count, witnesses_of}
 use Rattle.sc_rounds.specs.Laws.{rounds_on, ReplaysInPart, IsOutOfStep, LeavesStep}
@@ -49,22 +48,6 @@ count_witnesses (suc bits) rounds =
     ∙ sym (ap (λ b. if b then 0 else length rounds) (ne_eqb (suc bits) 0 (λ e. absurd (omega (arith, e)))))
 
 -- ---- no witness of a built round fails
-
--- the refusal for a witness names a round and a difficulty
-pub invalid_is : {T : Type 0} (r : Result T SumcheckError) → IsInvalid r → (i : ℕ) × (d : ℕ) × (r ≡ Err (InvalidPowWitness i d))
-invalid_is (Ok x) p = absurd p
-invalid_is (Err (InvalidPowWitness i d)) p = (i, d, refl)
-invalid_is (Err (RoundCountMismatch a b)) p = absurd p
-invalid_is (Err (MissingSumcheckData a)) p = absurd p
-invalid_is (Err (MissingPowWitness a b)) p = absurd p
-invalid_is (Err (PowWitnessCountMismatch a b)) p = absurd p
-invalid_is (Err (WireSizeMismatch a b c)) p = absurd p
-invalid_is (Err EvenCharacteristic) p = absurd p
-invalid_is (Err (MaskTooShort a)) p = absurd p
-invalid_is (Err NoRounds) p = absurd p
-invalid_is (Err (OpeningShapeMismatch a b c d e)) p = absurd p
-invalid_is (Err (NoWitness a)) p = absurd p
-invalid_is (Err NoMemory) p = absurd p
 
 passes_first : (R : Rules) (E : Extension) (bits : ℕ) (h : List Event) (r : Round) → HasFirstWitness R E bits h r → round_passes R E bits h r ≡ true
 unfolding HasFirstWitness round_passes

@@ -39,10 +39,6 @@ same_entries number p xs size same =
     (length-map xs number ∙ size) refl (λ k. ap (λ t. t k) same)
 
 module _ {F EF : Type 0} (number : EF → ℕ) where
-  -- pairs that are the same show the same, under the same claim
-  pub shown_same : (p p' : ProductPolynomial F EF) (s s' : EF) → p' ≡ p → s' ≡ s → shown_of number p' s' ≡ shown_of number p s
-  shown_same p p' s s' same claim = ap (λ x. shown_of number x s') same ∙ ap (shown_of number p) claim
-
   -- values are added to the weights and to the claim
   pub shown_added : (o : Ops) (p p' : ProductPolynomial F EF) (s s' : EF) (v : ℕ → ℕ) (c : ℕ) → variables_in p' ≡ variables_in p → order_in p' ≡ order_in p →
       evals_in number p' ≡ evals_in number p → ((b : ℕ) → b < 2 ^ variables_in p → weights_in number p' b ≡ plus o (weights_in number p b) (v b)) →

@@ -5,4 +5,3 @@ pub mod SeedLaws
 pub mod ReplayedLaws
 pub mod RoundRoom
 pub mod Lent
-pub mod DriverLaws

@@ -1,19 +1,20 @@
 -- What a replay leaves, round after round and by its result.
-use Rattle.std.proofs.Common.{◌≡◌, ◌≢◌, ◌⊎◌, ◌↔◌, ℕ, ◌+◌, ◌<◌, ◌≤◌, List, [], ◌∷◌, ◌++◌, take, length, map, refl, ap, sym, subst, ◌∙◌, inl, inr, Option, Some, None, Result, Ok, Err, IsSome, IfOk, OnErr, arith}
+use Rattle.std.proofs.Common.{◌≡◌, ◌≢◌, ◌⊎◌, ℕ, ◌+◌, ◌<◌, ◌≤◌, List, [], ◌∷◌, ◌++◌, take, length, map, refl, ap, sym, subst, ◌∙◌, inl, inr, Option, Some, None, Result, Ok, Err, IsSome, arith}
 use Rattle.std.specs.List.{slice_get}
 use Rattle.std.proofs.lemmas.Bool.Decides.{nat_tests}
-use Rattle.std.proofs.lemmas.List.{map-append}
+use Rattle.std.specs.Prelude.{vec_len}
+use Rattle.std.proofs.lemmas.List.{map-append, length-map}
 use Rattle.std.proofs.lemmas.Option.{get_or_from_slice_get, slice_get_within}
 use Rattle.sc_definitions.specs.declared.events.Event.{Event}
 use Rattle.sc_definitions.specs.Events.{Rules, Extension}
 use Rattle.sc_definitions.specs.Transcript.{Round}
-use Rattle.sc_definitions.specs.Channels.{Channel, channel, Footing, footing, IsTaken, WitnessFails, IsReplayed, IsReplayedInPart, FailsAt}
+use Rattle.sc_definitions.specs.Channels.{Channel, channel, Footing, footing, IsTaken, WitnessFails, IsReplayed}
 use Rattle.sc_definitions.proofs.ReplayLaws.{replayed-none, replayed-more, take_whole}
 use Rattle.sc_transcript.specs.declared.error.SumcheckError.{SumcheckError}
 use Rattle.sc_transcript.specs.declared.error.SumcheckError.TheVariants.{InvalidPowWitness, MissingPowWitness, RoundCountMismatch, PowWitnessCountMismatch, NoMemory}
-use Rattle.sc_transcript.specs.Data.{witness_count}
+use Rattle.sc_transcript.specs.declared.data.SumcheckData.{SumcheckData}
+use Rattle.sc_transcript.specs.Data.{messages_in, witnesses_in, witness_count}
 use Rattle.sc_transcript.specs.Drivers.{Driver, channel_of, RejectsRound}
-use Rattle.sc_transcript.specs.Invalid.{IsInvalid}
 use Rattle.sc_transcript.specs.Replayed.{Leaves, Replay, IsCounted, LeavesReplay}
 
 -- ---- the loop over the rounds
@@ -140,77 +141,20 @@ counts_passed Y result e m n k w is counts = elim counts [
   | inr p ↦ inr (is ∙ ap Err (error_is Y _ _ p.0), p.1, p.2)
 ]
 
+-- the same by other names of the counts
+pub counts_as : {X : Type 0} (result : Result X SumcheckError) (m m' n k k' w : ℕ) → m' ≡ m → k' ≡ k → Counted result m n k w → Counted result m' n k' w
+counts_as result m m' n k k' w em ek p = rw (em, ek) p
+
+-- how many rounds and witnesses data puts on the wire
+pub rounds_came : {F EF : Type 0} (number : EF → ℕ) (d : SumcheckData F EF) → length (messages_in number d) ≡ vec_len d.polynomial_evaluations
+rounds_came number d = length-map _ _ ∙ sym d.polynomial_evaluations.ok.0
+
+pub witnesses_came : {F EF : Type 0} (number : F → ℕ) (d : SumcheckData F EF) → length (witnesses_in number d) ≡ vec_len d.pow_witnesses
+witnesses_came number d = length-map _ _ ∙ sym d.pow_witnesses.ok.0
+
 pub counted_left : {X : Type 0} (untouched : Type 0) (number : X → ℕ) (p : Replay) (result : Result (List X) SumcheckError) (after : Footing) → untouched →
     Counted result p.came p.expected p.witnesses (witness_count p.channel.bits p.expected) → LeavesReplay number untouched p result after
 counted_left untouched number p result after kept counts = elim counts [
   | inl q ↦ rw q.0 (refl, refl, q.1, kept)
   | inr q ↦ rw q.0 (refl, refl, q.1, q.2, kept)
 ]
-
--- ---- the same, fact by fact
-
--- which error comes exactly where, and what each result says
-pub record Verified {X : Type 0} (number : X → ℕ) (untouched : Type 0) (p : Replay) (result : Result (List X) SumcheckError) (after : Footing) : Type 0 where
-  pub rounds : (result ≡ Err (RoundCountMismatch p.expected p.came)) ↔ (p.came ≢ p.expected)
-  pub witnesses : (result ≡ Err (PowWitnessCountMismatch (witness_count p.channel.bits p.expected) p.witnesses)) ↔ ((p.came ≡ p.expected) × (p.witnesses ≢ witness_count p.channel.bits p.expected))
-  pub counted : (p.came ≢ p.expected) ⊎ (p.witnesses ≢ witness_count p.channel.bits p.expected) → untouched
-  pub ok : IfOk result (λ out. IsReplayed p.next p.channel p.start after p.rounds (map number out))
-  pub invalid : (i bits : ℕ) → result ≡ Err (InvalidPowWitness i bits) → (bits ≡ p.channel.bits) × FailsAt p.next p.channel p.start after p.rounds i
-  pub no_memory : result ≡ Err NoMemory → untouched ⊎ IsReplayedInPart p.next p.channel p.start after p.rounds
-  pub causes : OnErr result ((p.came ≢ p.expected) ⊎ ((p.witnesses ≢ witness_count p.channel.bits p.expected) ⊎ ((result ≡ Err NoMemory) ⊎ IsInvalid result)))
-
--- what is counted differs in no count
-not_counted : {Z : Type 0} (p : Replay) → IsCounted p → (p.came ≢ p.expected) ⊎ (p.witnesses ≢ witness_count p.channel.bits p.expected) → Z
-not_counted p counts s = elim s [
-  | inl differs ↦ absurd (differs counts.rounds)
-  | inr differs ↦ absurd (differs counts.witnesses)
-]
-
-pub verified : {X : Type 0} (number : X → ℕ) (untouched : Type 0) (p : Replay) (result : Result (List X) SumcheckError) (after : Footing) →
-    LeavesReplay number untouched p result after → Verified number untouched p result after
-verified number untouched p (Ok out) after left = record {
-  rounds = (λ e. absurd cc, λ differs. absurd (differs left.0.rounds));
-  witnesses = (λ e. absurd cc, λ differs. absurd (differs.1 left.0.witnesses));
-  counted = not_counted p left.0;
-  ok = left.1;
-  invalid = λ i bits e. absurd cc;
-  no_memory = λ e. absurd cc;
-  causes = tt;
-}
-verified number untouched p (Err NoMemory) after left = record {
-  rounds = (λ e. absurd cc, λ differs. absurd (differs left.0.rounds));
-  witnesses = (λ e. absurd cc, λ differs. absurd (differs.1 left.0.witnesses));
-  counted = not_counted p left.0;
-  ok = tt;
-  invalid = λ i bits e. absurd cc;
-  no_memory = λ e. left.1;
-  causes = inr (inr (inl refl));
-}
-verified number untouched p (Err (InvalidPowWitness j b)) after left = record {
-  rounds = (λ e. absurd cc, λ differs. absurd (differs left.0.rounds));
-  witnesses = (λ e. absurd cc, λ differs. absurd (differs.1 left.0.witnesses));
-  counted = not_counted p left.0;
-  ok = tt;
-  invalid = λ i bits e. (let place : i ≡ j = cc in let same : bits ≡ b = cc in (same ∙ left.1, rw place left.2));
-  no_memory = λ e. absurd cc;
-  causes = inr (inr (inr tt));
-}
-verified number untouched p (Err (RoundCountMismatch n m)) after left = record {
-  rounds = (λ e. left.2, λ differs. rw (left.0, left.1) refl);
-  witnesses = (λ e. absurd cc, λ differs. absurd (left.2 differs.0));
-  counted = λ differs. left.3;
-  ok = tt;
-  invalid = λ i bits e. absurd cc;
-  no_memory = λ e. absurd cc;
-  causes = inl left.2;
-}
-verified number untouched p (Err (PowWitnessCountMismatch w k)) after left = record {
-  rounds = (λ e. absurd cc, λ differs. absurd (differs left.2));
-  witnesses = (λ e. (left.2, left.3), λ differs. rw (left.0, left.1) refl);
-  counted = λ differs. left.4;
-  ok = tt;
-  invalid = λ i bits e. absurd cc;
-  no_memory = λ e. absurd cc;
-  causes = inr (inl left.3);
-}
-verified number untouched p (Err e) after left = absurd left

@@ -4,7 +4,7 @@ use Rattle.std.proofs.lemmas.List.{append-nil}
 use Rattle.sc_definitions.specs.declared.events.Event.{Event}
 use Rattle.sc_definitions.specs.declared.events.Event.TheVariants.{Word, Draw, Test}
 use Rattle.sc_definitions.specs.Events.{Rules, Extension, words, extension_draw, IsFirstWitness}
-use Rattle.sc_definitions.specs.Transcript.{sent, ground, before_draw, round_events, challenge, HasFirstWitness}
+use Rattle.sc_definitions.specs.Transcript.{sent, witness_events, before_draw, round_events, challenge, HasFirstWitness}
 use Rattle.sc_definitions.specs.Replays.{round_passes}
 use Rattle.sc_definitions.specs.Seeds.{seed_words, quadratic_separator, quadratic_seed}
 use Rattle.sc_definitions.specs.Tables.{Basis}
@@ -17,21 +17,21 @@ pair_sent E c q h h₁ h₂ first second =
     second ∙ ap (λ t. t ++ words (E.parts q)) first ∙ append_assoc h (words (E.parts c)) (words (E.parts q)) ∙ ap (λ t. h ++ t) (sym (sent-pair E c q))
 
 -- what a positive difficulty appends
-pub ground_positive : (bits w : ℕ) (h h₁ : List Event) → 0 < bits → h₁ ≡ h ++ Word w ∷ Test bits ∷ [] → h₁ ≡ h ++ ground bits w
-ground_positive zero w h h₁ positive is = absurd (omega (arith, positive))
-ground_positive (suc b) w h h₁ positive is = is
+pub tested_positive : (bits w : ℕ) (h h₁ : List Event) → 0 < bits → h₁ ≡ h ++ Word w ∷ Test bits ∷ [] → h₁ ≡ h ++ witness_events bits w
+tested_positive zero w h h₁ positive is = absurd (omega (arith, positive))
+tested_positive (suc b) w h h₁ positive is = is
 
 -- and without one nothing
-pub ground_none : (bits w : ℕ) (h : List Event) → bits ≡ 0 → h ≡ h ++ ground bits w
-ground_none zero w h none = sym (append-nil h)
-ground_none (suc b) w h none = absurd (omega (arith, none))
+pub tested_none : (bits w : ℕ) (h : List Event) → bits ≡ 0 → h ≡ h ++ witness_events bits w
+tested_none zero w h none = sym (append-nil h)
+tested_none (suc b) w h none = absurd (omega (arith, none))
 
 -- what stands before the draw
-pub round_before : (E : Extension) (bits c q w : ℕ) (h h₀ h₁ h₂ : List Event) → h₀ ≡ h → h₁ ≡ h₀ ++ sent E (c ∷ q ∷ []) → h₂ ≡ h₁ ++ ground bits w →
+pub round_before : (E : Extension) (bits c q w : ℕ) (h h₀ h₁ h₂ : List Event) → h₀ ≡ h → h₁ ≡ h₀ ++ sent E (c ∷ q ∷ []) → h₂ ≡ h₁ ++ witness_events bits w →
     h₂ ≡ h ++ before_draw E bits (pair_round c q w)
 unfolding before_draw
 round_before E bits c q w h h₀ h₁ h₂ same absorbed tested =
-    tested ∙ ap (λ t. t ++ ground bits w) (absorbed ∙ ap (λ t. t ++ sent E (c ∷ q ∷ [])) same) ∙ append_assoc h (sent E (c ∷ q ∷ [])) (ground bits w)
+    tested ∙ ap (λ t. t ++ witness_events bits w) (absorbed ∙ ap (λ t. t ++ sent E (c ∷ q ∷ [])) same) ∙ append_assoc h (sent E (c ∷ q ∷ [])) (witness_events bits w)
 
 -- the history after the draw
 pub round_grown : (E : Extension) (bits c q w n : ℕ) (h h₂ h₃ : List Event) → h₂ ≡ h ++ before_draw E bits (pair_round c q w) → E.degree ≡ n → h₃ ≡ h₂ ++ replicate n Draw →

@@ -1,17 +1,16 @@
 -- What a replay of rounds leaves, by its result.
-use Rattle.std.specs.Prelude.{◌≡◌, ◌≢◌, ◌⊎◌, ℕ, List, Result, Ok, Err, map, vec_len}
-use Rattle.sc_definitions.specs.declared.events.Event.{Event}
+use Rattle.std.specs.Prelude.{◌≡◌, ◌≢◌, ◌⊎◌, ℕ, List, Result, Ok, Err, length, map}
 use Rattle.sc_definitions.specs.Ring.{Ops}
 use Rattle.sc_definitions.specs.Rounds.{next_claim}
 use Rattle.sc_definitions.specs.Transcript.{Round}
-use Rattle.sc_definitions.specs.Channels.{Channel, Footing, IsReplayed, IsReplayedInPart, FailsAt}
+use Rattle.sc_definitions.specs.Replays.{given_rounds}
+use Rattle.sc_definitions.specs.Channels.{Channel, Wire, Footing, IsReplayed, IsReplayedInPart, FailsAt}
 use Rattle.sc_transcript.specs.declared.error.SumcheckError.{SumcheckError}
 use Rattle.sc_transcript.specs.declared.error.SumcheckError.TheVariants.{InvalidPowWitness, RoundCountMismatch, PowWitnessCountMismatch, NoMemory}
 use Rattle.sc_table.specs.Strategy.{basis_of}
 use Rattle.sc_transcript.specs.declared.transcript.SumcheckShape.{SumcheckShape}
-use Rattle.sc_transcript.specs.declared.data.SumcheckData.{SumcheckData}
 use Rattle.sc_transcript.specs.Shapes.{seeded}
-use Rattle.sc_transcript.specs.Data.{rounds_in, witness_count}
+use Rattle.sc_transcript.specs.Data.{witness_count}
 
 -- The rounds were replayed from one footing to the next: all of them where there are challenges, else some of them before memory ran out, or those
 -- before the first whose witness fails.
@@ -32,16 +31,16 @@ pub record Replay : Type 0 where
   pub came : ℕ
   pub witnesses : ℕ
 
--- the replay of data in a shape, over a channel and an extension of a degree, from a history on and under a claim
-abbrev pub replay_of : {F EF : Type 0} → Ops → (F → ℕ) → (EF → ℕ) → Channel → ℕ → SumcheckShape → SumcheckData F EF → List Event → ℕ → Replay
-replay_of o base number c degree shape d h claim = record {
+-- the replay of what came on a wire, in a shape, over a ring, a channel and an extension of a degree, behind its seed from a footing on
+abbrev pub replay_of : Ops → Channel → ℕ → SumcheckShape → Wire → Footing → Replay
+replay_of o c degree shape came at = record {
   next = next_claim (basis_of shape.basis) o;
   channel = c;
-  start = seeded degree shape h claim;
-  rounds = rounds_in base number d;
+  start = seeded degree shape at.history at.claim;
+  rounds = given_rounds came.messages came.witnesses;
   expected = shape.num_rounds;
-  came = vec_len d.polynomial_evaluations;
-  witnesses = vec_len d.pow_witnesses;
+  came = length came.messages;
+  witnesses = length came.witnesses;
 }
 
 -- as many rounds as expected came, and as many witnesses as the difficulty asks for

@@ -6,7 +6,7 @@ ghost use Rattle.sc_definitions.specs.Rounds.{next_claim};
 ghost use Rattle.sc_definitions.specs.Channels.{channel, footing};
 ghost use Rattle.sc_table.specs.Strategy.{basis_of};
 ghost use Rattle.sc_transcript.specs.Shapes.{shape_of, seeded, pair_round};
-ghost use Rattle.sc_transcript.specs.Data.{rounds_in, witness_count};
+ghost use Rattle.sc_transcript.specs.Data.{rounds_in, wire_in, witness_count};
 ghost use Rattle.sc_transcript.specs.Replayed.{Leaves, LeavesReplay, replay_of};
 
 use crate::error::SumcheckError;
@@ -26,7 +26,7 @@ pub struct SumcheckData<F, EF> {
 }
 
 impl<F: Field, EF: ExtensionField<F>> SumcheckData<F, EF> {
-    ghost use Rattle.sc_transcript.specs.Data.{wire_in, spare_in};
+    ghost use Rattle.sc_transcript.specs.Data.{spare_in};
     ghost use Rattle.sc_definitions.specs.Channels.{empty_wire};
     ghost use Rattle.sc_transcript.specs.Drivers.{driver_in, Continues, HasRoundLeft, PutsRound, RefusesRound, HasRoom, TakesRoom};
 
@@ -126,8 +126,8 @@ impl<F: Field, EF: ExtensionField<F>> SumcheckData<F, EF> {
         requires { pow_bits ≤ (C.rules challenger.old).max_bits }
         ensures rules { C.rules challenger.new ≡ C.rules challenger.old }
         ensures left { LeavesReplay EF.number ((C.history challenger.new ≡ C.history challenger.old) × (claimed_sum.new ≡ claimed_sum.old))
-            (replay_of EF.ops F.number EF.number (channel (C.rules challenger.old) EF.extension F.ops.size pow_bits) EF.DEGREE (shape_of expected_rounds pow_bits basis) self.now
-            (C.history challenger.old) (EF.number claimed_sum.old))
+            (replay_of EF.ops (channel (C.rules challenger.old) EF.extension F.ops.size pow_bits) EF.DEGREE (shape_of expected_rounds pow_bits basis)
+            (wire_in F.number EF.number self.now) (footing (C.history challenger.old) (EF.number claimed_sum.old)))
             result (footing (C.history challenger.new) (EF.number claimed_sum.new)) }
     {
         self.check_counts(expected_rounds, pow_bits)?;
@@ -256,8 +256,8 @@ pub fn verify_final_sumcheck_rounds<F: Field, EF: ExtensionField<F>, C: Challeng
     ensures untouched { IsNone final_sumcheck.entry → (C.history challenger.new ≡ C.history challenger.old) × (claimed_sum.new ≡ claimed_sum.old) }
     ensures left { IfSome final_sumcheck.entry (λ data_in. 0 < rounds
         → LeavesReplay EF.number ((C.history challenger.new ≡ C.history challenger.old) × (claimed_sum.new ≡ claimed_sum.old))
-        (replay_of EF.ops F.number EF.number (channel (C.rules challenger.old) EF.extension F.ops.size pow_bits) EF.DEGREE (shape_of rounds pow_bits basis) data_in.now
-        (C.history challenger.old) (EF.number claimed_sum.old))
+        (replay_of EF.ops (channel (C.rules challenger.old) EF.extension F.ops.size pow_bits) EF.DEGREE (shape_of rounds pow_bits basis)
+        (wire_in F.number EF.number data_in.now) (footing (C.history challenger.old) (EF.number claimed_sum.old)))
         result (footing (C.history challenger.new) (EF.number claimed_sum.new))) }
 {
     if rounds == 0 {

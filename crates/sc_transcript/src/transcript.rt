@@ -5,7 +5,7 @@
 ghost use Rattle.std.specs.Prelude.{◌≡◌, ◌≢◌, ◌⊎◌, ◌+◌, ◌-◌, ◌*◌, ◌<◌, ◌≤◌, [], ◌∷◌, ◌++◌, Err, None, length, IfOk, IfErr, OnOk, OnErr, IsOk, IsErrOf, IsSome, true, false};
 ghost use Rattle.std.specs.Option.{option_map_or};
 ghost use Rattle.sc_definitions.specs.Events.{words, IsFirstWitness, NonePasses};
-ghost use Rattle.sc_definitions.specs.Transcript.{sent, ground, before_draw, round_events, challenge};
+ghost use Rattle.sc_definitions.specs.Transcript.{sent, witness_events, before_draw, round_events, challenge};
 ghost use Rattle.sc_definitions.specs.Replays.{round_passes};
 ghost use Rattle.sc_definitions.specs.Seeds.{basis_byte, quadratic_separator, rounds_steps, round_steps};
 ghost use Rattle.sc_table.specs.Strategy.{basis_of};
@@ -176,7 +176,7 @@ fn append_witness<F: Field, C: Challenger<F>>(
     requires at_most { pow_bits ≤ (C.rules challenger.old).max_bits }
     requires room { 0 < pow_bits → 2 ≤ C.spare challenger.old }
     ensures rules { C.rules challenger.new ≡ C.rules challenger.old }
-    ensures history { IfOk result (λ w. C.history challenger.new ≡ C.history challenger.old ++ ground pow_bits (option_map_or F.number w 0)) }
+    ensures history { IfOk result (λ w. C.history challenger.new ≡ C.history challenger.old ++ witness_events pow_bits (option_map_or F.number w 0)) }
     ensures first { IfOk result (λ w. 0 < pow_bits → IsFirstWitness (C.rules challenger.old) (C.history challenger.old) pow_bits (option_map_or F.number w 0)) }
     ensures some { IfOk result (λ w. 0 < pow_bits → IsSome w) }
     ensures none { IfOk result (λ w. pow_bits ≡ 0 → w ≡ None) }
@@ -216,7 +216,7 @@ fn test_witness<F: Field, C: Challenger<F>>(
     ensures passes { result ≡ Tested.Passes → 0 < pow_bits → (C.rules challenger.old).passes (C.history challenger.old) pow_bits (option_map_or F.number witness 0) ≡ true }
     ensures fails { result ≡ Tested.Fails → (0 < pow_bits) × ((C.rules challenger.old).passes (C.history challenger.old) pow_bits (option_map_or F.number witness 0) ≡ false) }
     ensures some { (result ≡ Tested.Missing → ⊥) → 0 < pow_bits → IsSome witness }
-    ensures history { (result ≡ Tested.Missing → ⊥) → C.history challenger.new ≡ C.history challenger.old ++ ground pow_bits (option_map_or F.number witness 0) }
+    ensures history { (result ≡ Tested.Missing → ⊥) → C.history challenger.new ≡ C.history challenger.old ++ witness_events pow_bits (option_map_or F.number witness 0) }
     ensures spare { C.spare challenger.old + 3 * 1 ≤ C.spare challenger.new + events_of 1 pow_bits }
 {
     if pow_bits == 0 {

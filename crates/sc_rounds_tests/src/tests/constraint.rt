@@ -1,6 +1,6 @@
 //! Constraints between batches, and claims added by the caller, by figures by hand.
 ghost use Rattle.std.specs.Prelude.{◌≡◌, ◌^◌, length};
-ghost use Rattle.sc_rounds.specs.Products.{variables_in};
+ghost use Rattle.sc_rounds.specs.ProverViews.{shown_by};
 
 use super::step::{claim_is_true, one_claim, play, prover_of, scripted, stands};
 use super::{Pair, Standing};
@@ -97,8 +97,8 @@ fn add_claim(
     weights_delta: &[F65537],
     sum_delta: F65537,
 ) -> bool
-    requires { length weights_delta.now ≡ 2 ^ variables_in prover.old.poly }
-    ensures { variables_in prover.new.poly ≡ variables_in prover.old.poly }
+    requires { length weights_delta.now ≡ 2 ^ (shown_by prover.old).variables }
+    ensures { (shown_by prover.new).variables ≡ (shown_by prover.old).variables }
 {
     let is_true = prover.delta_is_true(weights_delta, sum_delta);
     if is_true {

@@ -2,8 +2,7 @@
 ghost use Rattle.std.specs.Prelude.{◌≡◌, IfOk, IsTrue, length};
 ghost use Rattle.sc_statements.specs.EqStatements.{eq_arity};
 ghost use Rattle.sc_statements.specs.Constraints.{constraint_arity};
-ghost use Rattle.sc_rounds.specs.Products.{variables_in, evals_in};
-ghost use Rattle.sc_rounds.specs.Provers.{IsTrueIfSome};
+ghost use Rattle.sc_rounds.specs.ProverViews.{shown_by, IsNoneOrTrueOf};
 
 use super::{PLAYS, Standing, are_standing, pair_of};
 use sc_challenger::{Challenger, ScriptedChallenger};
@@ -32,7 +31,7 @@ pub(super) fn prover_of(
     weights: &[u64],
 ) -> Result<SumcheckProver<F65537, F65537>, NoMemory>
     requires { length weights.now ≡ 4 }
-    ensures { IfOk result (λ p. variables_in p.poly ≡ 2) }
+    ensures { IfOk result (λ p. (shown_by p).variables ≡ 2) }
 {
     let pair = pair_of(alloc, order, weights)?;
     let sum = pair.dot_product();
@@ -77,8 +76,8 @@ fn is_true<F: Field, EF: ExtensionField<F>>(
     prover: &mut SumcheckProver<F, EF>,
     constraint: &Option<Constraint<F, EF>>,
 ) -> Result<bool, NoMemory>
-    ensures kept { prover.new ≡ prover.old }
-    ensures told { IfOk result (λ told. IsTrue told → IsTrueIfSome EF.ops (λ x. EF.embedding (F.number x)) EF.number (variables_in prover.old.poly) (evals_in EF.number prover.old.poly) constraint.now) }
+    ensures kept { shown_by prover.new ≡ shown_by prover.old }
+    ensures told { IfOk result (λ told. IsTrue told → IsNoneOrTrueOf prover.old constraint.now) }
 {
     match constraint {
         Some(constraint) => prover.constraint_is_true(alloc, constraint),

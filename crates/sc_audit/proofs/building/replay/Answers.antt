@@ -1,16 +1,14 @@
-use Rattle.std.proofs.Common.{refl, sym, ◌∙◌, ap, map, subst}
-use Rattle.std.proofs.lemmas.List.{length-map}
+use Rattle.std.proofs.Common.{refl, sym, ap, map, subst}
 use Rattle.sc_definitions.specs.Tables.{evaluation}
 use Rattle.sc_definitions.specs.Rounds.{next_claim}
 use Rattle.sc_definitions.specs.Replays.{given_rounds}
 use Rattle.sc_definitions.specs.Channels.{footing, IsReplayed}
-use Rattle.sc_transcript.specs.Data.{witness_count}
 use Rattle.sc_audit.specs.Cases.{asked_of, with_task, build}
 use Rattle.sc_audit.specs.Figures.{grid_in}
 use Rattle.sc_audit.specs.Built.{kept_in}
 use Rattle.sc_audit.proofs.CauseLaws.{caused_err}
 use Rattle.sc_audit.proofs.FigureLaws.{start_is}
-use Rattle.sc_audit.proofs.BuiltReports.{rounds_built, witnesses_built, report_built, replay_broken}
+use Rattle.sc_audit.proofs.BuiltReports.{report_built, replay_broken}
 use Rattle.sc_audit.proofs.building.replay.Goals as goal
 
 -- what was built is reported on
@@ -19,8 +17,7 @@ returns-clause-answers g c = λ strategy.
     let job = c.args.fitting.now.job.now in
     let N = g.EF.Field.number in
     let q = asked_of job (g.C.Challenger.rules c.args.challenger.now) (g.C.Challenger.history c.args.challenger.now) in
-    let b = c.args.built in
-    let kept = kept_in g.F.Field.number N b in
+    let kept = kept_in g.F.Field.number N c.args.built in
     let start = start_is q _ _ _ (sym g.met.EF.ExtensionField.degree_is) c.num_variables.ensures c.requires.built.claim in
     let end = footing (g.C.Challenger.history c.verify_rounds.new.challenger) (N c.verify_rounds.new.claimed_sum) in
     let replayed = subst (λ f. IsReplayed (next_claim evaluation g.EF.Field.ops) q.channel f end (given_rounds kept.wire.messages kept.wire.witnesses) (map N c.in_default.field-0)) start c.in_default.ensures.left.1 in
@@ -32,11 +29,8 @@ returns-in-Err-clause-answers g c = λ strategy.
     let job = c.args.fitting.now.job.now in
     let N = g.EF.Field.number in
     let q = asked_of job (g.C.Challenger.rules c.args.challenger.now) (g.C.Challenger.history c.args.challenger.now) in
-    let b = c.args.built in
-    let kept = kept_in g.F.Field.number N b in
+    let kept = kept_in g.F.Field.number N c.args.built in
     let start = start_is q _ _ _ (sym g.met.EF.ExtensionField.degree_is) c.num_variables.ensures c.requires.built.claim in
     let end = footing (g.C.Challenger.history c.verify_rounds.new.challenger) (N c.verify_rounds.new.claimed_sum) in
-    let came = b.rounds.polynomial_evaluations.ok.0 ∙ sym (length-map _ _) ∙ rounds_built q g.met.EF.Field.is_field.ring refl kept c.requires.built ∙ sym c.num_variables.ensures in
-    let found = b.rounds.pow_witnesses.ok.0 ∙ sym (length-map _ _) ∙ witnesses_built q g.met.EF.Field.is_field.ring refl kept c.requires.built ∙ ap (witness_count job.pow_bits) (sym c.num_variables.ensures) in
     caused_err _ (with_task q (build strategy)) _ _ _ c.refusal.ensures
-    (replay_broken q g.met.EF.Field.is_field.ring refl kept c.requires.built strategy N _ _ _ end _ _ _ c.in-Err.error start (λ untouched. untouched) came found c.in-Err.ensures.left)
+    (replay_broken q g.met.EF.Field.is_field.ring refl kept c.requires.built strategy N _ _ _ end _ c.in-Err.error c.num_variables.ensures start (λ untouched. untouched) c.in-Err.ensures.left)

@@ -1,5 +1,4 @@
-use Rattle.std.proofs.Common.{◌≡◌, Some, sym, ◌∙◌, ap, map, length, subst}
-use Rattle.std.specs.Prelude.{vec_len}
+use Rattle.std.proofs.Common.{◌≡◌, Some, sym, ◌∙◌, ap, map, subst}
 use Rattle.std.proofs.lemmas.List.{length-map}
 use Rattle.sc_definitions.specs.Tables.{evaluation}
 use Rattle.sc_definitions.specs.Rounds.{next_claim}
@@ -25,16 +24,13 @@ report_on-requires-clause-count g c =
     let N = g.EF.Field.number in
     let job = c.args.fitting.now.job.now in
     let q = asked_of job (g.C.Challenger.rules c.args.challenger.now) (g.C.Challenger.history c.args.challenger.now) in
-    let proof = c.args.proof.now in
-    let given = given_in g.F.Field.number N proof in
-    let ms : length given.messages ≡ vec_len proof.polynomial_evaluations = length-map _ _ ∙ sym proof.polynomial_evaluations.ok.0 in
-    let ws : length given.witnesses ≡ vec_len proof.pow_witnesses = length-map _ _ ∙ sym proof.pow_witnesses.ok.0 in
+    let given = given_in g.F.Field.number N c.args.proof.now in
     let claim : N c.combine_evals.new.eval ≡ claim_of g.EF.Field.ops (problem_in job) =
     claim-batched g.EF.Field.ops _ _ (claim-alone g.EF.Field.ops g.met.EF.Field.is_field.ring _ _ _ _ _ (ap N c.ZERO-claim.ensures ∙ g.met.EF.Field.zero_is) c.combine_evals.ensures) in
     let start = start_is q _ _ _ (sym g.met.EF.ExtensionField.degree_is) c.num_variables.ensures claim in
     let counts = c.in-Ok.ensures.left.0 in
-    let messages = ms ∙ counts.rounds ∙ c.num_variables.ensures in
-    let witnesses = ws ∙ counts.witnesses ∙ ap (witness_count job.pow_bits) c.num_variables.ensures in
+    let messages = counts.rounds ∙ c.num_variables.ensures in
+    let witnesses = counts.witnesses ∙ ap (witness_count job.pow_bits) c.num_variables.ensures in
     let end = footing (g.C.Challenger.history c.verify_rounds.new.challenger) (N c.verify_rounds.new.claimed_sum) in
     let out = map N c.in-Ok.challenges in
     let replayed = subst (λ f. IsReplayed (next_claim evaluation g.EF.Field.ops) q.channel f end (given_rounds given.messages given.witnesses) out) start c.in-Ok.ensures.left.1 in
@@ -45,16 +41,13 @@ report_on-requires-clause-residual g c =
     let N = g.EF.Field.number in
     let job = c.args.fitting.now.job.now in
     let q = asked_of job (g.C.Challenger.rules c.args.challenger.now) (g.C.Challenger.history c.args.challenger.now) in
-    let proof = c.args.proof.now in
-    let given = given_in g.F.Field.number N proof in
-    let ms : length given.messages ≡ vec_len proof.polynomial_evaluations = length-map _ _ ∙ sym proof.polynomial_evaluations.ok.0 in
-    let ws : length given.witnesses ≡ vec_len proof.pow_witnesses = length-map _ _ ∙ sym proof.pow_witnesses.ok.0 in
+    let given = given_in g.F.Field.number N c.args.proof.now in
     let claim : N c.combine_evals.new.eval ≡ claim_of g.EF.Field.ops (problem_in job) =
     claim-batched g.EF.Field.ops _ _ (claim-alone g.EF.Field.ops g.met.EF.Field.is_field.ring _ _ _ _ _ (ap N c.ZERO-claim.ensures ∙ g.met.EF.Field.zero_is) c.combine_evals.ensures) in
     let start = start_is q _ _ _ (sym g.met.EF.ExtensionField.degree_is) c.num_variables.ensures claim in
     let counts = c.in-Ok.ensures.left.0 in
-    let messages = ms ∙ counts.rounds ∙ c.num_variables.ensures in
-    let witnesses = ws ∙ counts.witnesses ∙ ap (witness_count job.pow_bits) c.num_variables.ensures in
+    let messages = counts.rounds ∙ c.num_variables.ensures in
+    let witnesses = counts.witnesses ∙ ap (witness_count job.pow_bits) c.num_variables.ensures in
     let end = footing (g.C.Challenger.history c.verify_rounds.new.challenger) (N c.verify_rounds.new.claimed_sum) in
     let out = map N c.in-Ok.challenges in
     let replayed = subst (λ f. IsReplayed (next_claim evaluation g.EF.Field.ops) q.channel f end (given_rounds given.messages given.witnesses) out) start c.in-Ok.ensures.left.1 in
@@ -66,16 +59,13 @@ returns-clause-answers g c =
     let N = g.EF.Field.number in
     let job = c.args.fitting.now.job.now in
     let q = asked_of job (g.C.Challenger.rules c.args.challenger.now) (g.C.Challenger.history c.args.challenger.now) in
-    let proof = c.args.proof.now in
-    let given = given_in g.F.Field.number N proof in
-    let ms : length given.messages ≡ vec_len proof.polynomial_evaluations = length-map _ _ ∙ sym proof.polynomial_evaluations.ok.0 in
-    let ws : length given.witnesses ≡ vec_len proof.pow_witnesses = length-map _ _ ∙ sym proof.pow_witnesses.ok.0 in
+    let given = given_in g.F.Field.number N c.args.proof.now in
     let claim : N c.combine_evals.new.eval ≡ claim_of g.EF.Field.ops (problem_in job) =
     claim-batched g.EF.Field.ops _ _ (claim-alone g.EF.Field.ops g.met.EF.Field.is_field.ring _ _ _ _ _ (ap N c.ZERO-claim.ensures ∙ g.met.EF.Field.zero_is) c.combine_evals.ensures) in
     let start = start_is q _ _ _ (sym g.met.EF.ExtensionField.degree_is) c.num_variables.ensures claim in
     let counts = c.in-Ok.ensures.left.0 in
-    let messages = ms ∙ counts.rounds ∙ c.num_variables.ensures in
-    let witnesses = ws ∙ counts.witnesses ∙ ap (witness_count job.pow_bits) c.num_variables.ensures in
+    let messages = counts.rounds ∙ c.num_variables.ensures in
+    let witnesses = counts.witnesses ∙ ap (witness_count job.pow_bits) c.num_variables.ensures in
     let end = footing (g.C.Challenger.history c.verify_rounds.new.challenger) (N c.verify_rounds.new.claimed_sum) in
     let out = map N c.in-Ok.challenges in
     let replayed = subst (λ f. IsReplayed (next_claim evaluation g.EF.Field.ops) q.channel f end (given_rounds given.messages given.witnesses) out) start c.in-Ok.ensures.left.1 in
@@ -86,16 +76,13 @@ returns-clause-refused g c =
     let N = g.EF.Field.number in
     let job = c.args.fitting.now.job.now in
     let q = asked_of job (g.C.Challenger.rules c.args.challenger.now) (g.C.Challenger.history c.args.challenger.now) in
-    let proof = c.args.proof.now in
-    let given = given_in g.F.Field.number N proof in
-    let ms : length given.messages ≡ vec_len proof.polynomial_evaluations = length-map _ _ ∙ sym proof.polynomial_evaluations.ok.0 in
-    let ws : length given.witnesses ≡ vec_len proof.pow_witnesses = length-map _ _ ∙ sym proof.pow_witnesses.ok.0 in
+    let given = given_in g.F.Field.number N c.args.proof.now in
     let claim : N c.combine_evals.new.eval ≡ claim_of g.EF.Field.ops (problem_in job) =
     claim-batched g.EF.Field.ops _ _ (claim-alone g.EF.Field.ops g.met.EF.Field.is_field.ring _ _ _ _ _ (ap N c.ZERO-claim.ensures ∙ g.met.EF.Field.zero_is) c.combine_evals.ensures) in
     let start = start_is q _ _ _ (sym g.met.EF.ExtensionField.degree_is) c.num_variables.ensures claim in
     let counts = c.in-Ok.ensures.left.0 in
-    let messages = ms ∙ counts.rounds ∙ c.num_variables.ensures in
-    let witnesses = ws ∙ counts.witnesses ∙ ap (witness_count job.pow_bits) c.num_variables.ensures in
+    let messages = counts.rounds ∙ c.num_variables.ensures in
+    let witnesses = counts.witnesses ∙ ap (witness_count job.pow_bits) c.num_variables.ensures in
     let end = footing (g.C.Challenger.history c.verify_rounds.new.challenger) (N c.verify_rounds.new.claimed_sum) in
     let out = map N c.in-Ok.challenges in
     let replayed = subst (λ f. IsReplayed (next_claim evaluation g.EF.Field.ops) q.channel f end (given_rounds given.messages given.witnesses) out) start c.in-Ok.ensures.left.1 in
@@ -107,27 +94,21 @@ returns-in-Err-clause-answers g c =
     let N = g.EF.Field.number in
     let job = c.args.fitting.now.job.now in
     let q = asked_of job (g.C.Challenger.rules c.args.challenger.now) (g.C.Challenger.history c.args.challenger.now) in
-    let proof = c.args.proof.now in
-    let given = given_in g.F.Field.number N proof in
-    let ms : length given.messages ≡ vec_len proof.polynomial_evaluations = length-map _ _ ∙ sym proof.polynomial_evaluations.ok.0 in
-    let ws : length given.witnesses ≡ vec_len proof.pow_witnesses = length-map _ _ ∙ sym proof.pow_witnesses.ok.0 in
+    let given = given_in g.F.Field.number N c.args.proof.now in
     let claim : N c.combine_evals.new.eval ≡ claim_of g.EF.Field.ops (problem_in job) =
     claim-batched g.EF.Field.ops _ _ (claim-alone g.EF.Field.ops g.met.EF.Field.is_field.ring _ _ _ _ _ (ap N c.ZERO-claim.ensures ∙ g.met.EF.Field.zero_is) c.combine_evals.ensures) in
     let start = start_is q _ _ _ (sym g.met.EF.ExtensionField.degree_is) c.num_variables.ensures claim in
     let end = footing (g.C.Challenger.history c.verify_rounds.new.challenger) (N c.verify_rounds.new.claimed_sum) in
-    caused_err _ (with_task q (check (Some given))) _ _ _ c.refusal.ensures (proof_refused q given N _ _ _ end _ _ _ c.in-Err.error c.num_variables.ensures start (λ kept. kept) ms ws c.in-Err.ensures.left)
+    caused_err _ (with_task q (check (Some given))) _ _ _ c.refusal.ensures (proof_refused q given N _ _ _ end _ c.in-Err.error c.num_variables.ensures start (λ kept. kept) c.in-Err.ensures.left)
 
 pub returns-in-Err-clause-refused : goal.returns-in-Err-clause-refused
 returns-in-Err-clause-refused g c =
     let N = g.EF.Field.number in
     let job = c.args.fitting.now.job.now in
     let q = asked_of job (g.C.Challenger.rules c.args.challenger.now) (g.C.Challenger.history c.args.challenger.now) in
-    let proof = c.args.proof.now in
-    let given = given_in g.F.Field.number N proof in
-    let ms : length given.messages ≡ vec_len proof.polynomial_evaluations = length-map _ _ ∙ sym proof.polynomial_evaluations.ok.0 in
-    let ws : length given.witnesses ≡ vec_len proof.pow_witnesses = length-map _ _ ∙ sym proof.pow_witnesses.ok.0 in
+    let given = given_in g.F.Field.number N c.args.proof.now in
     let claim : N c.combine_evals.new.eval ≡ claim_of g.EF.Field.ops (problem_in job) =
     claim-batched g.EF.Field.ops _ _ (claim-alone g.EF.Field.ops g.met.EF.Field.is_field.ring _ _ _ _ _ (ap N c.ZERO-claim.ensures ∙ g.met.EF.Field.zero_is) c.combine_evals.ensures) in
     let start = start_is q _ _ _ (sym g.met.EF.ExtensionField.degree_is) c.num_variables.ensures claim in
     let end = footing (g.C.Challenger.history c.verify_rounds.new.challenger) (N c.verify_rounds.new.claimed_sum) in
-    refused_err _ _ _ _ c.refusal.ensures (counts_refused q given _ N _ _ end _ _ _ c.in-Err.error c.num_variables.ensures ms ws c.in-Err.ensures.left)
+    refused_err _ _ _ _ c.refusal.ensures (counts_refused q given _ N _ _ end _ c.in-Err.error c.num_variables.ensures c.in-Err.ensures.left)

@@ -1,5 +1,4 @@
-use Rattle.std.proofs.Common.{List, refl, ◌++◌, inr, ap, sym, ◌∙◌, map}
-use Rattle.std.proofs.lemmas.List.{length-map}
+use Rattle.std.proofs.Common.{List, refl, ◌++◌, inr, ap, map}
 use Rattle.sc_definitions.specs.Tables.{evaluation}
 use Rattle.sc_definitions.specs.Events.{words}
 use Rattle.sc_definitions.specs.Seeds.{quadratic_seed}
@@ -43,11 +42,10 @@ returns-in_err-replayed g c =
     let seed = λ (h : List Event). h ++ words (quadratic_seed g.EF.ExtensionField.DEGREE evaluation c.args.pow_bits c.args.folding_factor) in
     let claim = claim_begun g.EF.Field.ops (stated_to c.args.prover.now c.args.constraint) _ _ _ c.claimed_sum.ensures.number c.with_claim-claim.ensures in
     let begun = same_footing (ap seed c.requires.history) claim in
-    let kept = c.compute_sumcheck_polynomials.new.sumcheck_data in
     let whole = c.in_ok-drawn.ensures.batch.whole in
     let played = c.in_ok-drawn.ensures.batch.played in
-    let counted = kept.polynomial_evaluations.ok.0 ∙ sym (length-map _ _) ∙ message_count _ _ _ _ C _ c.requires.empty same begun played c.args.folding_factor whole in
-    let witnessed = kept.pow_witnesses.ok.0 ∙ sym (length-map _ _) ∙ found_count _ _ _ _ C _ c.requires.empty same begun played c.args.folding_factor whole in
+    let counted = message_count _ _ _ _ C _ c.requires.empty same begun played c.args.folding_factor whole in
+    let witnessed = found_count _ _ _ _ C _ c.requires.empty same begun played c.args.folding_factor whole in
     let told = wants_memory _ _ _ _ C _ c.requires.empty same begun played N _ _ c.args.folding_factor _ _ c.in_err-replayed.field-0.0 _ counted witnessed c.in_err-replayed.ensures.left in
     record {
       step = step_as (map N) N _ _ _ _ _ NoMemory (rw told.0 at c.from_residual-in_err-replayed.ensures.1)

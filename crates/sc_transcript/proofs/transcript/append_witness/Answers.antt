@@ -2,7 +2,7 @@ use Rattle.std.proofs.Common.{refl}
 use Rattle.std.proofs.Math.Nat.{pos_of_ne-zero}
 use Rattle.std.proofs.lemmas.Result.{IfOk-from_err}
 use Rattle.sc_transcript.proofs.RoundRoom.{spare_none, spare_some}
-use Rattle.sc_transcript.proofs.RoundWords.{ground_none, ground_positive}
+use Rattle.sc_transcript.proofs.RoundWords.{tested_none, tested_positive}
 use Rattle.sc_transcript.proofs.transcript.append_witness.Goals as goal
 
 -- a witness is sought at a positive difficulty alone
@@ -11,7 +11,7 @@ grind-requires-clause-positive g c = pos_of_ne-zero c.if-pow_bits-eq0.false
 
 -- at difficulty 0 nothing is appended
 pub returns-then-pow_bits-eq0-clause-history : goal.returns-then-pow_bits-eq0-clause-history
-returns-then-pow_bits-eq0-clause-history g c = ground_none _ _ _ c.if-pow_bits-eq0.true
+returns-then-pow_bits-eq0-clause-history g c = tested_none _ _ _ c.if-pow_bits-eq0.true
 
 pub returns-then-pow_bits-eq0-clause-none : goal.returns-then-pow_bits-eq0-clause-none
 returns-then-pow_bits-eq0-clause-none g c = λ _. refl
@@ -21,7 +21,7 @@ returns-then-pow_bits-eq0-clause-spare g c = spare_none _ _ c.if-pow_bits-eq0.tr
 
 -- at a positive one the witness and its test
 pub returns-clause-history : goal.returns-clause-history
-returns-clause-history g c = ground_positive c.args.pow_bits _ _ _ (pos_of_ne-zero c.if-pow_bits-eq0.false) c.in_ok-witness.ensures.ok
+returns-clause-history g c = tested_positive c.args.pow_bits _ _ _ (pos_of_ne-zero c.if-pow_bits-eq0.false) c.in_ok-witness.ensures.ok
 
 pub returns-clause-first : goal.returns-clause-first
 returns-clause-first g c = λ _. c.in_ok-witness.ensures.first
