@@ -1,12 +1,18 @@
--- The room that a round's witness takes.
-use Rattle.std.proofs.Common.{◌≡◌, ℕ, zero, suc, ◌+◌, ◌*◌, ◌<◌, ◌≤◌, arith}
-use Rattle.sc_transcript.specs.Shapes.{events_of}
+-- The room that a round takes.
+use Rattle.std.proofs.Common.{◌≡◌, ℕ, zero, suc, ◌+◌, ◌*◌, ◌<◌, ◌≤◌, length, arith}
+use Rattle.sc_definitions.specs.Transcript.{witness_events}
+use Rattle.sc_transcript.specs.Rounds.{events_of}
 
 -- no witness takes no room, and one takes that of two events
-pub spare_none : (bits spare : ℕ) → bits ≡ 0 → spare + 3 * 1 ≤ spare + events_of 1 bits
+pub spare_none : (bits spare : ℕ) → bits ≡ 0 → spare ≤ spare + length (witness_events bits 0)
 spare_none zero spare none = omega arith
 spare_none (suc b) spare none = absurd (omega arith)
 
-pub spare_some : (bits spare spare₁ : ℕ) → 0 < bits → spare ≤ spare₁ + 2 → spare + 3 * 1 ≤ spare₁ + events_of 1 bits
+pub spare_some : (bits spare spare₁ : ℕ) → 0 < bits → spare ≤ spare₁ + 2 → spare ≤ spare₁ + length (witness_events bits 0)
 spare_some zero spare spare₁ positive left = absurd (omega arith)
 spare_some (suc b) spare spare₁ positive left = omega arith
+
+-- a round's events are its values' words, its witness, and its challenge's draws
+pub events_are : (degree values bits : ℕ) → events_of degree values bits ≡ values * degree + degree + length (witness_events bits 0)
+events_are degree values zero = omega arith
+events_are degree values (suc b) = omega arith

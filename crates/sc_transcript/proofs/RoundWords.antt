@@ -1,15 +1,15 @@
 -- What one round appends, from what its calls append.
-use Rattle.std.proofs.Common.{◌≡◌, ℕ, zero, suc, ◌<◌, true, List, [], ◌∷◌, ◌++◌, replicate, refl, ap, sym, ◌∙◌, subst, append_assoc, arith}
+use Rattle.std.proofs.Common.{◌≡◌, ℕ, zero, suc, ◌<◌, true, false, List, [], ◌∷◌, ◌++◌, replicate, refl, ap, sym, ◌∙◌, subst, append_assoc, arith}
 use Rattle.std.proofs.lemmas.List.{append-nil}
 use Rattle.sc_definitions.specs.declared.events.Event.{Event}
 use Rattle.sc_definitions.specs.declared.events.Event.TheVariants.{Word, Draw, Test}
-use Rattle.sc_definitions.specs.Events.{Rules, Extension, words, extension_draw, IsFirstWitness}
-use Rattle.sc_definitions.specs.Transcript.{sent, witness_events, before_draw, round_events, challenge, HasFirstWitness}
+use Rattle.sc_definitions.specs.Events.{Rules, Extension, words, extension_draw, IsFirstWitness, NonePasses}
+use Rattle.sc_definitions.specs.Transcript.{Round, round_of, sent, witness_events, before_draw, round_events, challenge, HasFirstWitness}
 use Rattle.sc_definitions.specs.Replays.{round_passes}
+use Rattle.sc_definitions.specs.Channels.{channel, IsSent, IsTaken, WitnessFails, NoWitnessFound}
 use Rattle.sc_definitions.specs.Seeds.{seed_words, quadratic_separator, quadratic_seed}
 use Rattle.sc_definitions.specs.Tables.{Basis}
 use Rattle.sc_definitions.proofs.ReplayLaws.{sent-pair}
-use Rattle.sc_transcript.specs.Shapes.{pair_round}
 
 -- the words of two values that are observed one after the other
 pub pair_sent : (E : Extension) (c q : ℕ) (h h₁ h₂ : List Event) → h₁ ≡ h ++ words (E.parts c) → h₂ ≡ h₁ ++ words (E.parts q) → h₂ ≡ h ++ sent E (c ∷ q ∷ [])
@@ -26,53 +26,69 @@ pub tested_none : (bits w : ℕ) (h : List Event) → bits ≡ 0 → h ≡ h ++ 
 tested_none zero w h none = sym (append-nil h)
 tested_none (suc b) w h none = absurd (omega (arith, none))
 
--- what stands before the draw
-pub round_before : (E : Extension) (bits c q w : ℕ) (h h₀ h₁ h₂ : List Event) → h₀ ≡ h → h₁ ≡ h₀ ++ sent E (c ∷ q ∷ []) → h₂ ≡ h₁ ++ witness_events bits w →
-    h₂ ≡ h ++ before_draw E bits (pair_round c q w)
-unfolding before_draw
-round_before E bits c q w h h₀ h₁ h₂ same absorbed tested =
-    tested ∙ ap (λ t. t ++ witness_events bits w) (absorbed ∙ ap (λ t. t ++ sent E (c ∷ q ∷ [])) same) ∙ append_assoc h (sent E (c ∷ q ∷ [])) (witness_events bits w)
+module _ (R : Rules) (E : Extension) (size bits : ℕ) (h h₁ : List Event) (values : List ℕ) (w : ℕ) (absorbed : h₁ ≡ h ++ sent E values) where
+  -- what stands before the draw
+  pub round_before : (h₂ : List Event) → h₂ ≡ h₁ ++ witness_events bits w → h₂ ≡ h ++ before_draw E bits (round_of values w)
+  unfolding before_draw
+  round_before h₂ tested = tested ∙ ap (λ t. t ++ witness_events bits w) absorbed ∙ append_assoc h (sent E values) (witness_events bits w)
 
--- the history after the draw
-pub round_grown : (E : Extension) (bits c q w n : ℕ) (h h₂ h₃ : List Event) → h₂ ≡ h ++ before_draw E bits (pair_round c q w) → E.degree ≡ n → h₃ ≡ h₂ ++ replicate n Draw →
-    h₃ ≡ h ++ round_events E bits (pair_round c q w)
-unfolding round_events
-round_grown E bits c q w n h h₂ h₃ before degree drawn =
-    drawn ∙ ap (λ k. h₂ ++ replicate k Draw) (sym degree) ∙ ap (λ t. t ++ replicate E.degree Draw) before
-    ∙ append_assoc h (before_draw E bits (pair_round c q w)) (replicate E.degree Draw)
+  -- the history after the draw
+  round_grown : (n : ℕ) (h₂ h₃ : List Event) → h₂ ≡ h₁ ++ witness_events bits w → E.degree ≡ n → h₃ ≡ h₂ ++ replicate n Draw → h₃ ≡ h ++ round_events E bits (round_of values w)
+  unfolding round_events
+  round_grown n h₂ h₃ tested degree drawn =
+      drawn ∙ ap (λ k. h₂ ++ replicate k Draw) (sym degree) ∙ ap (λ t. t ++ replicate E.degree Draw) (round_before h₂ tested)
+      ∙ append_assoc h (before_draw E bits (round_of values w)) (replicate E.degree Draw)
 
--- the challenge
-pub round_drawn : (R R' : Rules) (E : Extension) (bits c q w : ℕ) (h h₂ : List Event) (x : ℕ) → h₂ ≡ h ++ before_draw E bits (pair_round c q w) → R' ≡ R →
-    x ≡ extension_draw R' E h₂ → x ≡ challenge R E bits h (pair_round c q w)
-unfolding challenge
-round_drawn R R' E bits c q w h h₂ x before same is = is ∙ ap (λ S. extension_draw S E h₂) same ∙ ap (extension_draw R E) before
+  -- the challenge
+  round_drawn : (R' : Rules) (h₂ : List Event) (x : ℕ) → h₂ ≡ h₁ ++ witness_events bits w → R' ≡ R → x ≡ extension_draw R' E h₂ → x ≡ challenge R E bits h (round_of values w)
+  unfolding challenge
+  round_drawn R' h₂ x tested same is = is ∙ ap (λ S. extension_draw S E h₂) same ∙ ap (extension_draw R E) (round_before h₂ tested)
 
--- the witness is the first that passes
-pub round_first : (R R' : Rules) (E : Extension) (bits c q w : ℕ) (h h₀ h₁ : List Event) → h₀ ≡ h → h₁ ≡ h₀ ++ sent E (c ∷ q ∷ []) → R' ≡ R →
-    (0 < bits → IsFirstWitness R' h₁ bits w) → (bits ≡ 0 → w ≡ 0) → HasFirstWitness R E bits h (pair_round c q w)
-unfolding HasFirstWitness
-round_first R R' E zero c q w h h₀ h₁ begun absorbed same positive none = none refl
-round_first R R' E (suc b) c q w h h₀ h₁ begun absorbed same positive none =
-    let P : Rules → Type 0 = λ S. IsFirstWitness S h₁ (suc b) w in
-    let Q : List Event → Type 0 = λ t. IsFirstWitness R t (suc b) w in
-    subst Q (absorbed ∙ ap (λ t. t ++ sent E (c ∷ q ∷ [])) begun) (subst P same (positive (omega arith)))
+  -- whether a round passes is its test
+  passes_tested : 0 < bits → round_passes R E bits h (round_of values w) ≡ R.passes h₁ bits w
+  unfolding round_passes
+  passes_tested positive = tests bits positive where
+    tests : (b : ℕ) → 0 < b → round_passes R E b h (round_of values w) ≡ R.passes h₁ b w
+    tests zero positive = absurd (omega (arith, positive))
+    tests (suc b) positive = ap (λ t. R.passes t (suc b) w) (sym absorbed)
 
--- whether a round passes is its test
-pub passes_tested : (R R' : Rules) (E : Extension) (bits c q w : ℕ) (h h₀ h₁ : List Event) → 0 < bits → h₀ ≡ h → h₁ ≡ h₀ ++ sent E (c ∷ q ∷ []) → R' ≡ R →
-    round_passes R E bits h (pair_round c q w) ≡ R'.passes h₁ bits w
-unfolding round_passes
-passes_tested R R' E zero c q w h h₀ h₁ positive begun absorbed same = absurd (omega (arith, positive))
-passes_tested R R' E (suc b) c q w h h₀ h₁ positive begun absorbed same =
-    ap (λ t. R.passes t (suc b) w) (sym (absorbed ∙ ap (λ t. t ++ sent E (c ∷ q ∷ [])) begun)) ∙ ap (λ S. S.passes h₁ (suc b) w) (sym same)
+  -- the witness is the first that passes
+  round_first : (0 < bits → IsFirstWitness R h₁ bits w) → (bits ≡ 0 → w ≡ 0) → HasFirstWitness R E bits h (round_of values w)
+  unfolding HasFirstWitness
+  round_first positive none = first bits positive none where
+    first : (b : ℕ) → (0 < b → IsFirstWitness R h₁ b w) → (b ≡ 0 → w ≡ 0) → HasFirstWitness R E b h (round_of values w)
+    first zero positive none = none refl
+    first (suc b) positive none = subst (λ t. IsFirstWitness R t (suc b) w) absorbed (positive (omega arith))
 
--- a round passes whose test does, where there is one
-pub passes_either : (R R' : Rules) (E : Extension) (bits c q w : ℕ) (h h₀ h₁ : List Event) → h₀ ≡ h → h₁ ≡ h₀ ++ sent E (c ∷ q ∷ []) → R' ≡ R →
-    (0 < bits → R'.passes h₁ bits w ≡ true) → round_passes R E bits h (pair_round c q w) ≡ true
-unfolding round_passes
-passes_either R R' E zero c q w h h₀ h₁ begun absorbed same tested = refl
-passes_either R R' E (suc b) c q w h h₀ h₁ begun absorbed same tested =
-    let positive : 0 < suc b = omega arith in
-    ap (λ t. R.passes t (suc b) w) (sym (absorbed ∙ ap (λ t. t ++ sent E (c ∷ q ∷ [])) begun)) ∙ ap (λ S. S.passes h₁ (suc b) w) (sym same) ∙ tested positive
+  -- it passes, where it is tested
+  round_passing : (0 < bits → R.passes h₁ bits w ≡ true) → round_passes R E bits h (round_of values w) ≡ true
+  unfolding round_passes
+  round_passing tested = passing bits tested where
+    passing : (b : ℕ) → (0 < b → R.passes h₁ b w ≡ true) → round_passes R E b h (round_of values w) ≡ true
+    passing zero tested = refl
+    passing (suc b) tested = ap (λ t. R.passes t (suc b) w) (sym absorbed) ∙ tested (omega arith)
+
+  -- a round that was sent
+  pub is_sent : (R' : Rules) (n : ℕ) (h₂ h₃ : List Event) (x : ℕ) → (0 < bits → IsFirstWitness R h₁ bits w) → (bits ≡ 0 → w ≡ 0) → h₂ ≡ h₁ ++ witness_events bits w → R' ≡ R →
+      E.degree ≡ n → x ≡ extension_draw R' E h₂ → h₃ ≡ h₂ ++ replicate n Draw → IsSent (channel R E size bits) h (round_of values w) x h₃
+  is_sent R' n h₂ h₃ x first none tested same degree is drawn =
+      record { witness = round_first first none; drawn = round_drawn R' h₂ x tested same is; history = round_grown n h₂ h₃ tested degree drawn }
+
+  -- a round that was taken
+  pub is_taken : (R' : Rules) (n : ℕ) (h₂ h₃ : List Event) (x : ℕ) → (0 < bits → R.passes h₁ bits w ≡ true) → h₂ ≡ h₁ ++ witness_events bits w → R' ≡ R →
+      E.degree ≡ n → x ≡ extension_draw R' E h₂ → h₃ ≡ h₂ ++ replicate n Draw → IsTaken (channel R E size bits) h (round_of values w) x h₃
+  is_taken R' n h₂ h₃ x passes tested same degree is drawn =
+      record { passes = round_passing passes; drawn = round_drawn R' h₂ x tested same is; history = round_grown n h₂ h₃ tested degree drawn }
+
+  -- a witness that fails
+  pub fails_test : (h₂ : List Event) → 0 < bits → R.passes h₁ bits w ≡ false → h₂ ≡ h₁ ++ witness_events bits w → WitnessFails (channel R E size bits) h (round_of values w) h₂
+  fails_test h₂ positive failed tested = record { fails = passes_tested positive ∙ failed; history = round_before h₂ tested }
+
+-- no witness was found
+pub finds_none : (R : Rules) (E : Extension) (size bits : ℕ) (h h₁ h₂ : List Event) (values : List ℕ) → h₁ ≡ h ++ sent E values → h₂ ≡ h₁ → 0 < bits → NonePasses R h₁ bits size →
+    NoWitnessFound (channel R E size bits) h values h₂
+finds_none R E size bits h h₁ h₂ values absorbed kept positive none =
+    record { positive = positive; history = kept ∙ absorbed; none_passes = subst (λ t. NonePasses R t bits size) (sym kept) none }
 
 -- ---- the seed
 

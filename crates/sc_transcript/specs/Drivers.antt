@@ -13,25 +13,28 @@ use Rattle.sc_transcript.specs.declared.error.SumcheckError.TheVariants.{Invalid
 use Rattle.sc_transcript.specs.declared.transcript.SumcheckShape.{SumcheckShape}
 use Rattle.sc_transcript.specs.declared.transcript.ProverTranscript.{ProverTranscript}
 use Rattle.sc_transcript.specs.declared.transcript.VerifierTranscript.{VerifierTranscript}
-use Rattle.sc_transcript.specs.Shapes.{seed_of, events_of}
+use Rattle.sc_transcript.specs.Shapes.{seed_of}
+use Rattle.sc_transcript.specs.Rounds.{events_of}
 
--- A driver: who lent its challenger, what that answers by, the size of the field of its words, the batch's shape, how many rounds were played, the
--- history, and how many further events need no memory.
+-- A driver: who lent its challenger, what that answers by, the size of the field of its words, how many values each of its rounds sends, the batch's
+-- shape, how many rounds were played, the history, and how many further events need no memory.
 pub record Driver : Type 0 where
   pub lender : ℕ
   pub rules : Rules
   pub base_size : ℕ
+  pub values : ℕ
   pub shape : SumcheckShape
   pub played : ℕ
   pub history : List Event
   pub room : ℕ
 
--- the driver over a challenger that was lent, in a batch of which so many rounds were played
+-- the driver of rounds of two values over a challenger that was lent, in a batch of which so many rounds were played
 abbrev pub driver_over : {C F : Type 0} → ChallengerOf C F → FieldOf F → MutBor C → SumcheckShape → ℕ → Driver
 driver_over c f lent shape played = record {
   lender = lent.ghost_name;
   rules = c.rules lent.now;
   base_size = f.ops.size;
+  values = 2;
   shape = shape;
   played = played;
   history = c.history lent.now;
@@ -71,6 +74,7 @@ channel_of E d = record { rules = d.rules; extension = E; base_size = d.base_siz
 pub record Continues (before after : Driver) : Type 0 where
   pub lender : after.lender ≡ before.lender
   pub rules : after.rules ≡ before.rules
+  pub values : after.values ≡ before.values
   pub shape : after.shape ≡ before.shape
 
 -- a reference holds what was lent, as it was
@@ -105,11 +109,6 @@ abbrev pub IsDone : Driver → Type 0
 IsDone d = d.played ≡ d.shape.num_rounds
 
 -- ---- a round
-
--- a witness comes exactly at a positive difficulty
-pub record IsDue {W : Type 0} (d : Driver) (witness : Option W) : Type 0 where
-  pub some : 0 < d.shape.pow_bits → IsSome witness
-  pub none : d.shape.pow_bits ≡ 0 → witness ≡ None
 
 -- one more round is played, with the challenge r
 pub record PlaysRound (E : Extension) (before after : Driver) (round : Round) (r : ℕ) : Type 0 where
@@ -148,11 +147,11 @@ pub record RejectsRound {W : Type 0} (E : Extension) (before after : Driver) (ro
 
 -- there is room for the events of a round, over an extension of a degree
 abbrev pub HasRoom : ℕ → Driver → Type 0
-HasRoom degree d = events_of degree d.shape.pow_bits ≤ d.room
+HasRoom degree d = events_of degree d.values d.shape.pow_bits ≤ d.room
 
 -- a round took no more
 abbrev pub TakesRoom : ℕ → Driver → Driver → Type 0
-TakesRoom degree before after = before.room ≤ after.room + events_of degree before.shape.pow_bits
+TakesRoom degree before after = before.room ≤ after.room + events_of degree before.values before.shape.pow_bits
 
 -- ---- a round that is put on the wire
 

@@ -1,4 +1,5 @@
 pub mod Shapes
+pub mod Rounds
 pub mod Drivers
 pub mod Data
 pub mod Laws

@@ -5,6 +5,7 @@
 #![tactic(auto)]
 
 mod data;
+pub mod driver;
 mod error;
 mod laws;
 mod transcript;

@@ -2,20 +2,18 @@
 //!
 //! A batch begins with a seed, which tells its protocol, its number of rounds, its difficulty and its basis from others. Each round then absorbs the
 //! two values that it sends, at a positive difficulty a witness with its test, and draws a challenge. A batch of no rounds absorbs and draws nothing.
-ghost use Rattle.std.specs.Prelude.{◌≡◌, ◌≢◌, ◌⊎◌, ◌+◌, ◌-◌, ◌*◌, ◌<◌, ◌≤◌, [], ◌∷◌, ◌++◌, Err, None, length, IfOk, IfErr, OnOk, OnErr, IsOk, IsErrOf, IsSome, true, false};
+ghost use Rattle.std.specs.Prelude.{◌≡◌, ◌≢◌, ◌+◌, ◌-◌, ◌*◌, ◌<◌, ◌≤◌, [], ◌∷◌, ◌++◌, Err, length, IfOk, IfErr, OnOk, OnErr, IsSome};
 ghost use Rattle.std.specs.Option.{option_map_or};
-ghost use Rattle.sc_definitions.specs.Events.{words, IsFirstWitness, NonePasses};
-ghost use Rattle.sc_definitions.specs.Transcript.{sent, witness_events, before_draw, round_events, challenge};
-ghost use Rattle.sc_definitions.specs.Replays.{round_passes};
-ghost use Rattle.sc_definitions.specs.Seeds.{basis_byte, quadratic_separator, rounds_steps, round_steps};
+ghost use Rattle.sc_definitions.specs.Events.{words};
+ghost use Rattle.sc_definitions.specs.Transcript.{sent};
+ghost use Rattle.sc_definitions.specs.Seeds.{basis_byte, quadratic_separator, rounds_steps};
 ghost use Rattle.sc_table.specs.Strategy.{basis_of};
-ghost use Rattle.sc_transcript.specs.Shapes.{seed_of, events_of, pair_round};
+ghost use Rattle.sc_transcript.specs.Shapes.{seed_of, pair_round};
+ghost use Rattle.sc_transcript.specs.Rounds.{IsDue};
 
+use crate::driver::{WitnessError, events_in_round, push_round_steps, send_rest, take_rest};
 use crate::error::SumcheckError;
-use sc_challenger::{
-    Challenger, DomainSeparator, GrindError, Interaction, InteractionPattern, Kind, Label, Length,
-    Protocol, grind, observe_ext, sample_ext,
-};
+use sc_challenger::{Challenger, DomainSeparator, InteractionPattern, Protocol, observe_ext};
 use sc_field::{ExtensionField, Field, NoMemory};
 use sc_table::Basis;
 use std::alloc::Global;
@@ -60,7 +58,7 @@ impl SumcheckShape {
     {
         let mut steps = Vec::new(alloc);
         for _round in 0..self.num_rounds {
-            push_round_steps(&mut steps, EF::DEGREE, self.pow_bits)?;
+            push_round_steps(&mut steps, EF::DEGREE, VALUES_PER_ROUND, self.pow_bits)?;
         }
         Ok(InteractionPattern::new(steps))
     }
@@ -110,49 +108,6 @@ fn basis_label(basis: Basis) -> u8
     }
 }
 
-// Appends the steps of one round.
-fn push_round_steps(
-    steps: &mut Vec<Interaction>,
-    degree: usize,
-    pow_bits: usize,
-) -> Result<(), NoMemory>
-    ensures { OnOk result (steps.new.items ≡ steps.old.items ++ round_steps degree 2 pow_bits) }
-{
-    steps.push(Interaction {
-        kind: Kind::Message,
-        parts: degree,
-        length: Length::Fixed(VALUES_PER_ROUND),
-        label: Label::RoundPoly,
-    })?;
-    if pow_bits > 0 {
-        steps.push(Interaction {
-            kind: Kind::Pow,
-            parts: 1,
-            length: Length::Fixed(pow_bits),
-            label: Label::RoundPow,
-        })?;
-    }
-    steps.push(Interaction {
-        kind: Kind::Challenge,
-        parts: degree,
-        length: Length::Scalar,
-        label: Label::RoundChallenge,
-    })?;
-    Ok(())
-}
-
-// How many events a round appends.
-fn events_in_round(degree: usize, pow_bits: usize) -> usize
-    requires { degree ≤ 8 }
-    ensures { result ≡ events_of degree pow_bits }
-{
-    if pow_bits == 0 {
-        3 * degree
-    } else {
-        3 * degree + 2
-    }
-}
-
 // Absorbs the two values of a round. There is room for them.
 fn observe_pair<F: Field, EF: ExtensionField<F>, C: Challenger<F>>(
     challenger: &mut C,
@@ -168,70 +123,6 @@ fn observe_pair<F: Field, EF: ExtensionField<F>, C: Challenger<F>>(
     observe_ext::<F, EF, C>(challenger, c_inf).unwrap();
 }
 
-// At a positive difficulty the first witness that passes, appended with its test; at difficulty 0 no witness. There is room for both events.
-fn append_witness<F: Field, C: Challenger<F>>(
-    challenger: &mut C,
-    pow_bits: usize,
-) -> Result<Option<F>, GrindError>
-    requires at_most { pow_bits ≤ (C.rules challenger.old).max_bits }
-    requires room { 0 < pow_bits → 2 ≤ C.spare challenger.old }
-    ensures rules { C.rules challenger.new ≡ C.rules challenger.old }
-    ensures history { IfOk result (λ w. C.history challenger.new ≡ C.history challenger.old ++ witness_events pow_bits (option_map_or F.number w 0)) }
-    ensures first { IfOk result (λ w. 0 < pow_bits → IsFirstWitness (C.rules challenger.old) (C.history challenger.old) pow_bits (option_map_or F.number w 0)) }
-    ensures some { IfOk result (λ w. 0 < pow_bits → IsSome w) }
-    ensures none { IfOk result (λ w. pow_bits ≡ 0 → w ≡ None) }
-    ensures positive { OnErr result (0 < pow_bits) }
-    ensures none_passes { OnErr result (NonePasses (C.rules challenger.old) (C.history challenger.old) pow_bits F.ops.size) }
-    ensures err { OnErr result (C.history challenger.new ≡ C.history challenger.old) }
-    ensures spare { OnOk result (C.spare challenger.old + 3 * 1 ≤ C.spare challenger.new + events_of 1 pow_bits) }
-{
-    if pow_bits == 0 {
-        return Ok(None);
-    }
-    let witness = grind::<F, C>(challenger, pow_bits)?;
-    Ok(Some(witness))
-}
-
-// What a witness that came is.
-#[derive(Clone, Copy)]
-enum Tested {
-    // It passes, or there is no difficulty.
-    Passes,
-    // The difficulty is positive, and none came.
-    Missing,
-    // It fails.
-    Fails,
-}
-
-// At a positive difficulty tests a witness that came, and appends it with its test. There is room for both events.
-fn test_witness<F: Field, C: Challenger<F>>(
-    challenger: &mut C,
-    pow_bits: usize,
-    witness: Option<F>,
-) -> Tested
-    requires at_most { pow_bits ≤ (C.rules challenger.old).max_bits }
-    requires room { 0 < pow_bits → 2 ≤ C.spare challenger.old }
-    ensures rules { C.rules challenger.new ≡ C.rules challenger.old }
-    ensures missing { result ≡ Tested.Missing → (0 < pow_bits) × (witness ≡ None) × (C.history challenger.new ≡ C.history challenger.old) }
-    ensures passes { result ≡ Tested.Passes → 0 < pow_bits → (C.rules challenger.old).passes (C.history challenger.old) pow_bits (option_map_or F.number witness 0) ≡ true }
-    ensures fails { result ≡ Tested.Fails → (0 < pow_bits) × ((C.rules challenger.old).passes (C.history challenger.old) pow_bits (option_map_or F.number witness 0) ≡ false) }
-    ensures some { (result ≡ Tested.Missing → ⊥) → 0 < pow_bits → IsSome witness }
-    ensures history { (result ≡ Tested.Missing → ⊥) → C.history challenger.new ≡ C.history challenger.old ++ witness_events pow_bits (option_map_or F.number witness 0) }
-    ensures spare { C.spare challenger.old + 3 * 1 ≤ C.spare challenger.new + events_of 1 pow_bits }
-{
-    if pow_bits == 0 {
-        return Tested::Passes;
-    }
-    let Some(witness) = witness else {
-        return Tested::Missing;
-    };
-    if challenger.check_witness(pow_bits, witness).unwrap() {
-        Tested::Passes
-    } else {
-        Tested::Fails
-    }
-}
-
 /// The prover's side of a batch. It borrows the challenger, and must be spent by [`ProverTranscript::finish`] or [`ProverTranscript::abort`], which hand
 /// the challenger back as it then is.
 pub struct ProverTranscript<'a, C: Challenger<F>, F: Field, EF> {
@@ -245,7 +136,7 @@ pub struct ProverTranscript<'a, C: Challenger<F>, F: Field, EF> {
 }
 
 impl<'a, C: Challenger<F>, F: Field, EF: ExtensionField<F>> ProverTranscript<'a, C, F, EF> {
-    ghost use Rattle.sc_transcript.specs.Drivers.{driver_in, challenger_in, unbegun, Continues, IsLent, IsFresh, IsSeeded, HasRoundLeft, IsDone, IsDue, PlaysRound, RefusesRound, HasRoom, TakesRoom};
+    ghost use Rattle.sc_transcript.specs.Drivers.{driver_in, challenger_in, unbegun, Continues, IsLent, IsFresh, IsSeeded, HasRoundLeft, IsDone, PlaysRound, RefusesRound, HasRoom, TakesRoom};
 
     /// Begins a batch: the seed's words are observed, or nothing for no rounds. No more of the challenger's room is taken than they need.
     ///
@@ -282,7 +173,7 @@ impl<'a, C: Challenger<F>, F: Field, EF: ExtensionField<F>> ProverTranscript<'a,
         ensures continues { Continues (driver_in self.old) (driver_in self.new) }
         ensures plays { IfOk result (λ x. PlaysRound EF.extension (driver_in self.old) (driver_in self.new)
             (pair_round (EF.number c_a) (EF.number c_inf) (option_map_or F.number x.1 0)) (EF.number x.0)) }
-        ensures due { IfOk result (λ x. IsDue (driver_in self.old) x.1) }
+        ensures due { IfOk result (λ x. IsDue (driver_in self.old).shape.pow_bits x.1) }
         ensures refused { IfErr result (RefusesRound EF.extension (driver_in self.old) (driver_in self.new) (EF.number c_a ∷ EF.number c_inf ∷ [])) }
         ensures has_room { HasRoom EF.DEGREE (driver_in self.old) → result ≢ Err SumcheckError.NoMemory }
         ensures takes_room { OnOk result (TakesRoom EF.DEGREE (driver_in self.old) (driver_in self.new)) }
@@ -290,14 +181,13 @@ impl<'a, C: Challenger<F>, F: Field, EF: ExtensionField<F>> ProverTranscript<'a,
         prove!(self.played < self.shape.num_rounds);
         let pow_bits = self.shape.pow_bits;
         self.challenger
-            .reserve(events_in_round(EF::DEGREE, pow_bits))?;
+            .reserve(events_in_round(EF::DEGREE, VALUES_PER_ROUND, pow_bits))?;
         observe_pair::<F, EF, C>(self.challenger, c_a, c_inf);
-        let Ok(witness) = append_witness::<F, C>(self.challenger, pow_bits) else {
+        let Some(sent) = send_rest::<F, EF, C>(self.challenger, pow_bits) else {
             return Err(SumcheckError::NoWitness { round: self.played });
         };
-        let challenge = sample_ext::<F, EF, C>(self.challenger).unwrap();
         self.played += 1;
-        Ok((challenge, witness))
+        Ok(sent)
     }
 
     /// The numbers that the batch was begun with.
@@ -401,16 +291,22 @@ impl<'a, C: Challenger<F>, F: Field, EF: ExtensionField<F>> VerifierTranscript<'
         let round = self.played;
         let difficulty = self.shape.pow_bits;
         self.challenger
-            .reserve(events_in_round(EF::DEGREE, difficulty))?;
+            .reserve(events_in_round(EF::DEGREE, VALUES_PER_ROUND, difficulty))?;
         observe_pair::<F, EF, C>(self.challenger, c_a, c_inf);
-        match test_witness::<F, C>(self.challenger, difficulty, witness) {
-            Tested::Passes => {}
-            Tested::Missing => return Err(SumcheckError::MissingPowWitness { round, difficulty }),
-            Tested::Fails => return Err(SumcheckError::InvalidPowWitness { round, difficulty }),
+        match take_rest::<F, EF, C>(self.challenger, witness, difficulty) {
+            Ok(challenge) => {
+                self.played += 1;
+                Ok(challenge)
+            }
+            Err(WitnessError::Missing) => Err(SumcheckError::MissingPowWitness {
+                round,
+                difficulty,
+            }),
+            Err(WitnessError::Invalid) => Err(SumcheckError::InvalidPowWitness {
+                round,
+                difficulty,
+            }),
         }
-        let challenge = sample_ext::<F, EF, C>(self.challenger).unwrap();
-        self.played += 1;
-        Ok(challenge)
     }
 
     /// The numbers that the batch was begun with.

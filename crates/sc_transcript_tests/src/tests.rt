@@ -2,6 +2,7 @@
 ghost use Rattle.std.specs.Prelude.{◌≡◌, ◌+◌, ◌<◌, ◌≤◌, OnOk};
 ghost use Rattle.sc_transcript.specs.Drivers.{driver_in, Continues, HasRoundsLeft};
 
+mod driver;
 mod shapes;
 mod texts;
 

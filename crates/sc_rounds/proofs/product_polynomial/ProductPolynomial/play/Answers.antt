@@ -13,7 +13,7 @@ loop-round-init g c =
     let T : g.row.EF.Denot → ℕ = λ x. g.EF.FromTable.to_number (g.EF.Field.number x) in
     let p = c.args.self.now in
     record {
-      continues = record { lender = refl; rules = refl; shape = refl };
+      continues = record { lender = refl; rules = refl; values = refl; shape = refl };
       played = c.requires.none_played;
       left = omega arith;
       order = refl;
@@ -35,6 +35,7 @@ loop-round-preserved g c =
       continues = record {
         lender = round.continues.lender ∙ inv.continues.lender;
         rules = round.continues.rules ∙ inv.continues.rules;
+        values = round.continues.values ∙ inv.continues.values;
         shape = round.continues.shape ∙ inv.continues.shape;
       };
       played = round.counts ∙ ap (λ n. n + 1) inv.played;
@@ -86,6 +87,7 @@ returns-in-Err g c =
       continues = record {
         lender = round.continues.lender ∙ inv.continues.lender;
         rules = round.continues.rules ∙ inv.continues.rules;
+        values = round.continues.values ∙ inv.continues.values;
         shape = round.continues.shape ∙ inv.continues.shape;
       };
       order = round.order ∙ inv.order;

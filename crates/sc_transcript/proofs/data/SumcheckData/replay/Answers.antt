@@ -13,7 +13,7 @@ pub rounds-init : goal.rounds-init
 rounds-init g c =
     let lent = c.over-transcript.ensures.lent in
     record {
-      continues = record { lender = refl; rules = refl; shape = refl };
+      continues = record { lender = refl; rules = refl; values = refl; shape = refl };
       replays = replays_begin _ (channel (g.C.Challenger.rules c.args.challenger.now) g.EF.ExtensionField.extension g.F.Field.ops.size c.args.shape.pow_bits) _ _ _ _ (ap g.C.Challenger.history lent.same) (ap (map g.EF.Field.number) c.requires.empty);
       played = c.over-transcript.ensures.fresh.played;
       len = c.args.challenges.ok.0 ∙ ap length c.requires.empty;
@@ -43,6 +43,7 @@ rounds-preserved g c =
       continues = record {
         lender = round.continues.lender ∙ before.continues.lender;
         rules = round.continues.rules ∙ before.continues.rules;
+        values = round.continues.values ∙ before.continues.values;
         shape = round.continues.shape ∙ before.continues.shape;
       };
       replays = replays_step g.EF.Field.number _ _ _ _ _ _ _ c.rounds.i

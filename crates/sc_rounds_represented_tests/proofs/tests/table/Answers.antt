@@ -1,6 +1,6 @@
 use Rattle.std.proofs.Common.{◌∙◌, sym}
 use Rattle.sc_definitions.proofs.Lengths.{pow-same}
-use Rattle.sc_rounds_images_tests.proofs.tests.table.Goals as goal
+use Rattle.sc_rounds_represented_tests.proofs.tests.table.Goals as goal
 
 pub new-requires : goal.new-requires
 new-requires c = (2, c.in_ok-elements.ensures ∙ c.requires)

@@ -3,7 +3,7 @@ use Rattle.std.proofs.Math.Nat.{pos_of_ne-zero}
 use Rattle.std.proofs.lemmas.Result.{IfOk-from_err}
 use Rattle.sc_transcript.proofs.RoundRoom.{spare_none, spare_some}
 use Rattle.sc_transcript.proofs.RoundWords.{tested_none, tested_positive}
-use Rattle.sc_transcript.proofs.transcript.append_witness.Goals as goal
+use Rattle.sc_transcript.proofs.driver.append_witness.Goals as goal
 
 -- a witness is sought at a positive difficulty alone
 pub grind-requires-clause-positive : goal.grind-requires-clause-positive

@@ -1,5 +1,5 @@
 use Rattle.std.proofs.Common.{rules}
-use Rattle.sc_transcript.proofs.transcript.test_witness.Goals as goal
+use Rattle.sc_transcript.proofs.driver.test_witness.Goals as goal
 
 -- what fails does not pass
 pub returns-else-unwrap-clause-passes : goal.returns-else-unwrap-clause-passes

@@ -1,0 +1,29 @@
+-- A round of any protocol, as a driver sends it and as it takes one that came.
+use Rattle.std.specs.Prelude.{◌≡◌, ℕ, zero, suc, ◌+◌, ◌*◌, ◌<◌, List, ◌++◌, Option, Some, None, IsSome, Result, Ok, Err}
+use Rattle.std.specs.Option.{option_map_or}
+use Rattle.sc_definitions.specs.declared.events.Event.{Event}
+use Rattle.sc_definitions.specs.Transcript.{Round, round_of, sent}
+use Rattle.sc_definitions.specs.Channels.{Channel, IsSent, IsTaken, NoWitnessFound, WitnessFails}
+use Rattle.sc_transcript.specs.declared.driver.WitnessError.{WitnessError}
+use Rattle.sc_transcript.specs.declared.driver.WitnessError.TheVariants.{Missing, Invalid}
+
+-- how many events a round appends that sends so many values, over an extension of a degree
+abbrev pub events_of : ℕ → ℕ → ℕ → ℕ
+events_of degree values zero = (values + 1) * degree
+events_of degree values (suc bits) = (values + 1) * degree + 2
+
+-- a witness comes exactly at a positive difficulty
+pub record IsDue {W : Type 0} (bits : ℕ) (witness : Option W) : Type 0 where
+  pub some : 0 < bits → IsSome witness
+  pub none : bits ≡ 0 → witness ≡ None
+
+-- what a round of these values that is sent at h leaves: the challenge and the witness, or none
+abbrev pub LeavesSent : {X W : Type 0} → (W → ℕ) → (X → ℕ) → Channel → List Event → List ℕ → Option (X × Option W) → List Event → Type 0
+LeavesSent base number c h values (Some x) h' = IsSent c h (round_of values (option_map_or base x.1 0)) (number x.0) h' × IsDue c.bits x.1
+LeavesSent base number c h values None h' = NoWitnessFound c h values h'
+
+-- what a round that came, with a witness or without one, leaves where it is taken at h, by its result
+abbrev pub LeavesTaken : {X W : Type 0} → (X → ℕ) → Channel → List Event → Round → Option W → Result X WitnessError → List Event → Type 0
+LeavesTaken number c h round came (Ok x) h' = (0 < c.bits → IsSome came) × IsTaken c h round (number x) h'
+LeavesTaken number c h round came (Err Missing) h' = (0 < c.bits) × (came ≡ None) × (h' ≡ h ++ sent c.extension round.values)
+LeavesTaken number c h round came (Err Invalid) h' = IsSome came × WitnessFails c h round h'
