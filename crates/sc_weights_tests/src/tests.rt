@@ -1,5 +1,6 @@
-//! Figures over the integers modulo 65537, worked out apart from the crate: each row's weight straight from its definition, the sum over
-//! all rows of entry times weight, and the sum of weight times the equality weight of a point.
+//! Figures over the integers modulo 65537, worked out apart from the crate: each row's weight
+//! straight from its definition, the sum over all rows of entry times weight, and the sum of weight
+//! times the equality weight of a point.
 
 ghost use Rattle.std.specs.Prelude.{◌≡◌, ◌≤◌, IfOk};
 ghost use Rattle.sc_definitions.specs.Statements.{arity_of};
@@ -12,12 +13,14 @@ use sc_weights::{NextConstraint, RowWeights, Selector};
 use std::alloc::Global;
 use std::process::Abort;
 
-// A table of n variables has the first 2^n of these entries, and the point the first n of these coordinates.
+// A table of n variables has the first 2^n of these entries, and the point the first n of these
+// coordinates.
 const ENTRIES: [u64; 8] = [1, 2, 3, 4, 9, 7, 12, 5];
 
 const COORDINATES: [u64; 3] = [3, 4, 5];
 
-// The weights at the rows, the sum of entries times weights, and the value of the weights at the point.
+// The weights at the rows, the sum of entries times weights, and the value of the weights at the
+// point.
 type Wanted<'a> = (&'a [u64], u64, u64);
 
 // Points, and what their equality weights are.
@@ -32,7 +35,8 @@ static EQUALITY: [(&[u64], Wanted<'static>); 5] = [
     ),
 ];
 
-// Selectors, points, and what their successor weights are where the slot stands first. Of a point of one coordinate every weight goes to the last row.
+// Selectors, points, and what their successor weights are where the slot stands first. Of a point
+// of one coordinate every weight goes to the last row.
 static SLOT_FIRST: [(&[u64], &[u64], Wanted<'static>); 8] = [
     (&[], &[], (&[1], 1, 1)),
     (&[], &[2, 3], (&[0, 2, 65534, 2], 3, 35)),
@@ -88,7 +92,8 @@ static SLOT_LAST: [(&[u64], &[u64], Wanted<'static>); 8] = [
     ),
 ];
 
-// Scalars, numbers of variables, and what the powers weigh. The power 0 of zero is one; 65536 is the opposite of one.
+// Scalars, numbers of variables, and what the powers weigh. The power 0 of zero is one; 65536 is
+// the opposite of one.
 static POWERS: [(u64, usize, Wanted<'static>); 6] = [
     (0, 0, (&[1], 1, 1)),
     (0, 2, (&[1, 0, 0, 0], 1, 6)),
