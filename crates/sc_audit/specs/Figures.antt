@@ -1,7 +1,7 @@
 -- The figures of a report, which the rounds and their challenges determine.
 use Rattle.std.specs.Prelude.{ℕ, List, map, Bool, true, false, ◌==◌, Option, Some, None}
 use Rattle.sc_definitions.specs.declared.false_claim.FalseClaim.{FalseClaim}
-use Rattle.sc_definitions.specs.Ring.{Ops, times}
+use Rattle.sc_definitions.specs.Ring.{Ops, ◌*⟨◌⟩◌}
 use Rattle.sc_definitions.specs.Statements.{first_false_claim}
 use Rattle.sc_definitions.specs.Problem.{Problem, claim_of, residual_of, eval_of, weight_value_of}
 use Rattle.sc_transcript.specs.Data.{messages_in, witnesses_in}
@@ -39,7 +39,7 @@ false_claim_of o p = first_false_claim o p.variables p.table 0 p.statements
 
 -- whether what messages leave of the claim is the product of the table's and the weights' values at their challenges
 abbrev pub is_matched : Ops → Problem → List (List ℕ) → List ℕ → Bool
-is_matched o p messages rs = residual_of o p messages rs == times o (eval_of o p rs) (weight_value_of o p rs)
+is_matched o p messages rs = residual_of o p messages rs == eval_of o p rs *⟨ o ⟩ weight_value_of o p rs
 
 -- the figures of these messages, witnesses and challenges
 unfoldable pub figures_of : Ops → Problem → List (List ℕ) → List ℕ → List ℕ → Figures

@@ -3,11 +3,11 @@ use Rattle.std.proofs.Common.{◌≡◌, ℕ, zero, suc, ◌+◌, ◌*◌, ◌^�
 use Rattle.sc_definitions.specs.Ring.{Ops, IsRing, element, plus, times, minus}
 use Rattle.sc_definitions.specs.Tables.{Basis, evaluation, projective, Order, prefix, suffix, IsOffered, sum_below, inner, bound, bound_low, bound_coefficients, bound_in, bound_by}
 use Rattle.sc_definitions.specs.Polynomials.{poly_at}
-use Rattle.sc_definitions.specs.Rounds.{line_zero, line_one, sent_pair, sent_polynomial, extrapolated, next_claim}
+use Rattle.sc_definitions.specs.Rounds.{placed_entry, slope, sent_pair, sent_polynomial, extrapolated, next_claim}
 use Rattle.sc_definitions.specs.Messages.{low_entry, high_entry, first_term, leading_term, message_first, message_leading, message_of}
 use Rattle.sc_definitions.proofs.RingLaws.{plus-zero, element-zero}
 use Rattle.sc_definitions.proofs.Identity.{atom, nought, unit, ◌⊕◌, ◌⊗◌, ◌⊖◌, Agree, identity, same_element}
-use Rattle.sc_definitions.proofs.TableLaws.{two_halves, bound-zero, bound-one, inner-halves}
+use Rattle.sc_definitions.proofs.TableLaws.{two_halves, bound-zero, bound-one, inner-halves, minus-elements}
 use Rattle.sc_definitions.proofs.PlacedLaws.{placed_entry-bound_by, bound_by-append}
 
 module _ (o : Ops) (ring : IsRing o) where
@@ -107,43 +107,83 @@ module _ (o : Ops) (ring : IsRing o) where
       (sym (inner-parts prefix m f w))
   inner-bound_in projective suffix offered m f w r = absurd offered
 
-  -- ---- the lines of the slow polynomial are the parts of the bound tables
+  -- ---- a table's line through the round's variable, from the parts of the bound table
 
-  pub line_zero-low : (basis : Basis) (order : Order) → IsOffered basis order → (f : ℕ → ℕ) (rs : List ℕ) (m b : ℕ) → b < 2 ^ m →
-      line_zero basis order o f rs m b ≡ element o (low_entry order (bound_by basis order o rs (suc m) f) b)
-  unfolding line_zero low_entry bound_low Agree
-  line_zero-low evaluation prefix offered f rs m b low =
+  -- at 0
+  pub line-at_zero : (basis : Basis) (order : Order) → IsOffered basis order → (f : ℕ → ℕ) (rs : List ℕ) (m b : ℕ) → b < 2 ^ m →
+      placed_entry basis order o f (rs ++ 0 ∷ []) m b ≡ element o (low_entry order (bound_by basis order o rs (suc m) f) b)
+  unfolding low_entry bound_low bound_coefficients Agree
+  line-at_zero evaluation prefix offered f rs m b low =
       placed_entry-bound_by o ring evaluation prefix f (rs ++ 0 ∷ []) m b low
       ∙ ap (λ g. element o (g b)) (bound_by-append evaluation prefix o rs 0 m f)
       ∙ bound-zero o ring (2 ^ m) b (bound_by evaluation prefix o rs (suc m) f)
-  line_zero-low evaluation suffix offered f rs m b low =
+  line-at_zero evaluation suffix offered f rs m b low =
       let F = bound_by evaluation suffix o rs (suc m) f in
       let A = atom 0 in let B = atom 1 in
       placed_entry-bound_by o ring evaluation suffix f (rs ++ 0 ∷ []) m b low
       ∙ ap (λ g. element o (g b)) (bound_by-append evaluation suffix o rs 0 m f)
       ∙ same_element o ring (F (2 * b) ∷ F (2 * b + 1) ∷ []) (A ⊕ (B ⊖ A) ⊗ nought) A refl
-  line_zero-low projective prefix offered f rs m b low =
-      let more : b < 2 ^ suc m = omega (arith, two_halves m) in
-      placed_entry-bound_by o ring projective prefix f rs (suc m) b more
-  line_zero-low projective suffix offered f rs m b low = absurd offered
+  line-at_zero projective prefix offered f rs m b low =
+      let F = bound_by projective prefix o rs (suc m) f in
+      let A = atom 0 in let B = atom 1 in
+      placed_entry-bound_by o ring projective prefix f (rs ++ 0 ∷ []) m b low
+      ∙ ap (λ g. element o (g b)) (bound_by-append projective prefix o rs 0 m f)
+      ∙ same_element o ring (F b ∷ F (2 ^ m + b) ∷ []) (A ⊕ B ⊗ nought) A refl
+  line-at_zero projective suffix offered f rs m b low = absurd offered
 
-  pub line_one-high : (basis : Basis) (order : Order) → IsOffered basis order → (f : ℕ → ℕ) (rs : List ℕ) (m b : ℕ) → b < 2 ^ m →
-      line_one basis order o f rs m b ≡ element o (high_entry order (2 ^ m) (bound_by basis order o rs (suc m) f) b)
-  unfolding line_one high_entry bound_low Agree
-  line_one-high evaluation prefix offered f rs m b low =
+  -- of values, at 1
+  pub line-at_one : (order : Order) → (f : ℕ → ℕ) (rs : List ℕ) (m b : ℕ) → b < 2 ^ m →
+      placed_entry evaluation order o f (rs ++ 1 ∷ []) m b ≡ element o (high_entry order (2 ^ m) (bound_by evaluation order o rs (suc m) f) b)
+  unfolding high_entry bound_low Agree
+  line-at_one prefix f rs m b low =
       placed_entry-bound_by o ring evaluation prefix f (rs ++ 1 ∷ []) m b low
       ∙ ap (λ g. element o (g b)) (bound_by-append evaluation prefix o rs 1 m f)
       ∙ bound-one o ring (2 ^ m) b (bound_by evaluation prefix o rs (suc m) f)
-  line_one-high evaluation suffix offered f rs m b low =
+  line-at_one suffix f rs m b low =
       let F = bound_by evaluation suffix o rs (suc m) f in
       let A = atom 0 in let B = atom 1 in
       placed_entry-bound_by o ring evaluation suffix f (rs ++ 1 ∷ []) m b low
       ∙ ap (λ g. element o (g b)) (bound_by-append evaluation suffix o rs 1 m f)
       ∙ same_element o ring (F (2 * b) ∷ F (2 * b + 1) ∷ []) (A ⊕ (B ⊖ A) ⊗ unit) B refl
-  line_one-high projective prefix offered f rs m b low =
-      let more : 2 ^ m + b < 2 ^ suc m = omega (arith, two_halves m) in
-      placed_entry-bound_by o ring projective prefix f rs (suc m) (2 ^ m + b) more
-  line_one-high projective suffix offered f rs m b low = absurd offered
+
+  -- of coefficients, at 1
+  pub line-both : (f : ℕ → ℕ) (rs : List ℕ) (m b : ℕ) → b < 2 ^ m →
+      let F = bound_by projective prefix o rs (suc m) f in
+      placed_entry projective prefix o f (rs ++ 1 ∷ []) m b ≡ element o (plus o (low_entry prefix F b) (high_entry prefix (2 ^ m) F b))
+  unfolding low_entry high_entry bound_coefficients Agree
+  line-both f rs m b low =
+      let F = bound_by projective prefix o rs (suc m) f in
+      let A = atom 0 in let B = atom 1 in
+      placed_entry-bound_by o ring projective prefix f (rs ++ 1 ∷ []) m b low
+      ∙ ap (λ g. element o (g b)) (bound_by-append projective prefix o rs 1 m f)
+      ∙ same_element o ring (F b ∷ F (2 ^ m + b) ∷ []) (A ⊕ B ⊗ unit) (A ⊕ B) refl
+
+  -- the slope of a line of values
+  pub slope-values : (order : Order) → IsOffered evaluation order → (f : ℕ → ℕ) (rs : List ℕ) (m b : ℕ) → b < 2 ^ m →
+      let F = bound_by evaluation order o rs (suc m) f in
+      slope evaluation order o f rs m b ≡ minus o (high_entry order (2 ^ m) F b) (low_entry order F b)
+  unfolding slope
+  slope-values order offered f rs m b low =
+      let F = bound_by evaluation order o rs (suc m) f in
+      let h = high_entry order (2 ^ m) F b in
+      ap (λ k. minus o k (placed_entry evaluation order o f (rs ++ 0 ∷ []) m b)) (line-at_one order f rs m b low)
+      ∙ ap (minus o (element o h)) (line-at_zero evaluation order offered f rs m b low)
+      ∙ minus-elements o ring h (low_entry order F b)
+
+  -- the slope of a line of coefficients
+  pub slope-coefficients : (f : ℕ → ℕ) (rs : List ℕ) (m b : ℕ) → b < 2 ^ m →
+      slope projective prefix o f rs m b ≡ element o (high_entry prefix (2 ^ m) (bound_by projective prefix o rs (suc m) f) b)
+  unfolding slope Agree
+  slope-coefficients f rs m b low =
+      let F = bound_by projective prefix o rs (suc m) f in
+      let l = low_entry prefix F b in
+      let h = high_entry prefix (2 ^ m) F b in
+      let A = atom 0 in let B = atom 1 in
+      ap (λ k. minus o k (placed_entry projective prefix o f (rs ++ 0 ∷ []) m b)) (line-both f rs m b low)
+      ∙ ap (minus o (element o (plus o l h))) (line-at_zero projective prefix tt f rs m b low)
+      ∙ minus-elements o ring (plus o l h) l
+      ∙ identity o ring (l ∷ h ∷ []) ((A ⊕ B) ⊖ A) (B ⊕ nought) tt tt refl
+      ∙ plus-zero o ring h
 
   -- ---- the next claim, written out
 

@@ -1,6 +1,6 @@
 -- Extensions of degree 2: the elements a + b u over a ring, where u^2 = k. Such an element has the number a + size b.
 use Rattle.std.specs.Prelude.{ℕ, ◌+◌, ◌*◌, ◌/◌, ◌%◌, [], ◌∷◌, slice_index}
-use Rattle.sc_definitions.specs.Ring.{Ops, plus, times, opposite}
+use Rattle.sc_definitions.specs.Ring.{Ops, ◌+⟨◌⟩◌, ◌*⟨◌⟩◌, opposite}
 use Rattle.sc_definitions.specs.Events.{Extension}
 
 -- the number of a + b u
@@ -19,9 +19,8 @@ high o x = x / o.size
 abbrev pub quadratic : Ops → ℕ → Ops
 quadratic o k = record {
   size = o.size * o.size;
-  raw_plus = λ x y. pair o (plus o (low o x) (low o y)) (plus o (high o x) (high o y));
-  raw_times = λ x y. pair o (plus o (times o (low o x) (low o y)) (times o k (times o (high o x) (high o y))))
-      (plus o (times o (low o x) (high o y)) (times o (high o x) (low o y)));
+  raw_plus = λ x y. pair o (low o x +⟨ o ⟩ low o y) (high o x +⟨ o ⟩ high o y);
+  raw_times = λ x y. pair o (low o x *⟨ o ⟩ low o y +⟨ o ⟩ k *⟨ o ⟩ (high o x *⟨ o ⟩ high o y)) (low o x *⟨ o ⟩ high o y +⟨ o ⟩ high o x *⟨ o ⟩ low o y);
   raw_opposite = λ x. pair o (opposite o (low o x)) (opposite o (high o x));
 }
 

@@ -1,7 +1,7 @@
 -- Statements on a table, their weights by rows, and the batch of several statements.
 use Rattle.std.specs.Prelude.{◌≡◌, ℕ, suc, ◌+◌, ◌-◌, ◌/◌, ◌%◌, ◌^◌, ◌==◌, Bool, List, [], ◌∷◌, length, map, nat_lt, if◌then◌else◌, Option, Some, None}
 use Rattle.sc_definitions.specs.declared.false_claim.FalseClaim.{FalseClaim}
-use Rattle.sc_definitions.specs.Ring.{Ops, plus, times, power}
+use Rattle.sc_definitions.specs.Ring.{Ops, ◌+⟨◌⟩◌, ◌*⟨◌⟩◌, power}
 use Rattle.sc_definitions.specs.Tables.{Order, prefix, suffix, sum_below, weight, monomial, inner}
 
 -- What a statement speaks of: the value at a point; the successor's value at a point, in the slot that
@@ -32,18 +32,18 @@ successor_weight o zs x = sum_below o (2 ^ length zs) (λ b. if next_row (length
 -- The three sums that make the successor's value at a second point, of one length with the first: that of the last row and row 0;
 -- those of each row but the last and the row after it, in sum; and that of the last row and itself.
 unfoldable pub next_carry : Ops → List ℕ → List ℕ → ℕ
-next_carry o zs xs = times o (weight o zs (2 ^ length zs - 1)) (weight o xs 0)
+next_carry o zs xs = weight o zs (2 ^ length zs - 1) *⟨ o ⟩ weight o xs 0
 
 unfoldable pub next_done : Ops → List ℕ → List ℕ → ℕ
-next_done o zs xs = sum_below o (2 ^ length zs - 1) (λ b. times o (weight o zs b) (weight o xs (b + 1)))
+next_done o zs xs = sum_below o (2 ^ length zs - 1) (λ b. weight o zs b *⟨ o ⟩ weight o xs (b + 1))
 
 unfoldable pub next_omega : Ops → List ℕ → List ℕ → ℕ
-next_omega o zs xs = times o (weight o zs (2 ^ length zs - 1)) (weight o xs (2 ^ length zs - 1))
+next_omega o zs xs = weight o zs (2 ^ length zs - 1) *⟨ o ⟩ weight o xs (2 ^ length zs - 1)
 
 -- the successor weight in a selector's slot; the selector's coordinates stand first for prefix and last for suffix
 unfoldable pub slot_weight : Order → Ops → List ℕ → List ℕ → ℕ → ℕ
-slot_weight prefix o selector zs b = times o (weight o selector (b / 2 ^ length zs)) (successor_weight o zs (b % 2 ^ length zs))
-slot_weight suffix o selector zs b = times o (weight o selector (b % 2 ^ length selector)) (successor_weight o zs (b / 2 ^ length selector))
+slot_weight prefix o selector zs b = weight o selector (b / 2 ^ length zs) *⟨ o ⟩ successor_weight o zs (b % 2 ^ length zs)
+slot_weight suffix o selector zs b = weight o selector (b % 2 ^ length selector) *⟨ o ⟩ successor_weight o zs (b / 2 ^ length selector)
 
 -- a statement's weight at a row
 unfoldable pub weight_of : Ops → Kind → ℕ → ℕ
@@ -86,7 +86,7 @@ first_false_claim o n f i (s ∷ ss) =
 -- the sum of x_0 c^p + x_1 c^(p+1) + ..
 unfoldable pub powers_sum : Ops → ℕ → ℕ → List ℕ → ℕ
 powers_sum o c p [] = 0
-powers_sum o c p (x ∷ xs) = plus o (times o (power o c p) x) (powers_sum o c (suc p) xs)
+powers_sum o c p (x ∷ xs) = power o c p *⟨ o ⟩ x +⟨ o ⟩ powers_sum o c (suc p) xs
 
 -- the statements' weights at a row
 abbrev pub weights_at : Ops → List Statement → ℕ → List ℕ

@@ -1,7 +1,7 @@
 -- Laws of sums and powers in a ring.
 use Rattle.std.specs.Prelude.{◌≡◌, ℕ, ◌+◌, List, map}
 use Rattle.std.specs.Iterator.{Yields}
-use Rattle.sc_definitions.specs.Ring.{Ops, plus, times, power}
+use Rattle.sc_definitions.specs.Ring.{Ops, ◌+⟨◌⟩◌, ◌*⟨◌⟩◌, power}
 use Rattle.sc_definitions.specs.Tables.{sum_below}
 use Rattle.sc_field.specs.declared.powers.Powers.{Powers}
 use Rattle.sc_field.specs.Powers.{base_of, start_of, GivesPower, ArePowers}
@@ -9,12 +9,12 @@ use Rattle.sc_field.specs.Powers.{base_of, start_of, GivesPower, ArePowers}
 -- a sum over m + n numbers is the sum over the first m and the sum over the n after them
 abbrev pub SumsSplit : Ops → Type 0
 SumsSplit o =
-    (m n : ℕ) (f : ℕ → ℕ) → sum_below o (m + n) f ≡ plus o (sum_below o m f) (sum_below o n (λ k. f (m + k)))
+    (m n : ℕ) (f : ℕ → ℕ) → sum_below o (m + n) f ≡ sum_below o m f +⟨ o ⟩ sum_below o n (λ k. f (m + k))
 
 -- the sum of two sums is the sum of the sums
 abbrev pub SumsAdd : Ops → Type 0
 SumsAdd o =
-    (n : ℕ) (f g : ℕ → ℕ) → plus o (sum_below o n f) (sum_below o n g) ≡ sum_below o n (λ k. plus o (f k) (g k))
+    (n : ℕ) (f g : ℕ → ℕ) → sum_below o n f +⟨ o ⟩ sum_below o n g ≡ sum_below o n (λ k. f k +⟨ o ⟩ g k)
 
 -- a sum of sums may be taken in the other order
 abbrev pub SumsExchange : Ops → Type 0
@@ -24,7 +24,7 @@ SumsExchange o =
 
 -- a factor of a sum is a factor of each term
 abbrev pub FactorMovesIn : Ops → Type 0
-FactorMovesIn o = (x n : ℕ) (f : ℕ → ℕ) → times o x (sum_below o n f) ≡ sum_below o n (λ k. times o x (f k))
+FactorMovesIn o = (x n : ℕ) (f : ℕ → ℕ) → x *⟨ o ⟩ sum_below o n f ≡ sum_below o n (λ k. x *⟨ o ⟩ f k)
 
 -- the power 0 is one
 abbrev pub PowerOfNone : Ops → Type 0
@@ -32,11 +32,11 @@ PowerOfNone o = (x : ℕ) → power o x 0 ≡ 1
 
 -- the power m + n is the product of the powers m and n
 abbrev pub PowersSplit : Ops → Type 0
-PowersSplit o = (x m n : ℕ) → power o x (m + n) ≡ times o (power o x m) (power o x n)
+PowersSplit o = (x m n : ℕ) → power o x (m + n) ≡ power o x m *⟨ o ⟩ power o x n
 
 -- a power of a product is the product of the powers
 abbrev pub PowerOfProduct : Ops → Type 0
-PowerOfProduct o = (x y n : ℕ) → power o (times o x y) n ≡ times o (power o x n) (power o y n)
+PowerOfProduct o = (x y n : ℕ) → power o (x *⟨ o ⟩ y) n ≡ power o x n *⟨ o ⟩ power o y n
 
 -- the items that an iterator of powers gives are its start times the powers of its base
 abbrev pub ItemsArePowers : {F : Type 0} → Ops → (F → ℕ) → Type 0

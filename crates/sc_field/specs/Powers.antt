@@ -1,6 +1,6 @@
 -- What an iterator of powers holds, and what it gives.
 use Rattle.std.specs.Prelude.{◌≡◌, ℕ, ◌<◌, List, length, slice_index, Option, IsSomeAnd}
-use Rattle.sc_definitions.specs.Ring.{Ops, times, power}
+use Rattle.sc_definitions.specs.Ring.{Ops, ◌*⟨◌⟩◌, power}
 use Rattle.sc_field.specs.declared.powers.Powers.{Powers}
 
 -- what each item is multiplied by
@@ -16,9 +16,9 @@ abbrev pub GivesPower : {F : Type 0} → Ops → (F → ℕ) → Powers F → Op
 GivesPower o number s r t =
     IsSomeAnd r
     (λ x. (number x ≡ number (start_of s))
-    × (number (start_of t) ≡ times o (number (start_of s)) (number (base_of s)))
+    × (number (start_of t) ≡ number (start_of s) *⟨ o ⟩ number (base_of s))
     × (number (base_of t) ≡ number (base_of s)))
 
 -- Number i of the list is start times the power i of base.
 abbrev pub ArePowers : Ops → ℕ → ℕ → List ℕ → Type 0
-ArePowers o start base ns = (i : ℕ) → i < length ns → slice_index ns i ≡ times o start (power o base i)
+ArePowers o start base ns = (i : ℕ) → i < length ns → slice_index ns i ≡ start *⟨ o ⟩ power o base i

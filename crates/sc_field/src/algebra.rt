@@ -1,7 +1,7 @@
 //! Fields over fields.
 ghost use Rattle.std.specs.Prelude.{◌≡◌, ℕ, ◌*◌, ◌<◌, ◌≤◌, length, map, slice_index, slice_set, refl};
 ghost use Rattle.std.proofs.Common.{lit≤};
-ghost use Rattle.sc_definitions.specs.Ring.{times, IsRingMap, IsExtension};
+ghost use Rattle.sc_definitions.specs.Ring.{IsRingMap, IsExtension, ◌*⟨◌⟩◌};
 ghost use Rattle.sc_definitions.specs.Tables.{entries};
 ghost use Rattle.sc_definitions.specs.Events.{Extension, own_extension};
 ghost use Rattle.sc_field.specs.Own.{identity_map, own_extends};
@@ -20,7 +20,7 @@ pub trait Algebra<B: Field>: Field {
 
     /// The product with the image of a base element.
     fn mul_base(self, b: B) -> Self
-        ensures { Self.number result ≡ times Self.ops (Self.number self) (embedding (B.number b)) };
+        ensures { Self.number result ≡ Self.number self *⟨ Self.ops ⟩ embedding (B.number b) };
 
     /// The sum of the products of base elements' images and elements, of two lists of one length, at most 512.
     fn dot_base(xs: &[B], ys: &[Self]) -> Self

@@ -1,7 +1,7 @@
 //! The integers modulo 257.
 ghost use Rattle.std.specs.Prelude.{◌≡◌, ◌%◌, ◌<◌, refl};
 ghost use Rattle.std.proofs.Common.{lit<, lit≤};
-ghost use Rattle.sc_definitions.specs.Ring.{minus};
+ghost use Rattle.sc_definitions.specs.Ring.{◌-⟨◌⟩◌};
 ghost use Rattle.sc_definitions.specs.Residues.{residues};
 ghost use Rattle.sc_field.specs.F257Laws.{f257_field, f257_two};
 ghost use Rattle.sc_field.specs.PrimeLaws.{eqb_iff};
@@ -31,7 +31,7 @@ impl F257 {
 
     // A number of the difference, not reduced.
     pub(crate) fn above(self, other: F257) -> u32
-        ensures number { result % 257 ≡ minus (residues 257) self.value other.value }
+        ensures number { result % 257 ≡ self.value -⟨ residues 257 ⟩ other.value }
         ensures below { result < 514 }
     {
         (self.value + MODULUS - other.value) as u32

@@ -1,7 +1,7 @@
 //! The integers modulo 65537.
 ghost use Rattle.std.specs.Prelude.{◌≡◌, ◌%◌, ◌<◌, refl};
 ghost use Rattle.std.proofs.Common.{lit<, lit≤};
-ghost use Rattle.sc_definitions.specs.Ring.{minus};
+ghost use Rattle.sc_definitions.specs.Ring.{◌-⟨◌⟩◌};
 ghost use Rattle.sc_definitions.specs.Residues.{residues};
 ghost use Rattle.sc_field.specs.ResiduesLaws.{residues_field, residues_two};
 ghost use Rattle.sc_field.specs.PrimeLaws.{eqb_iff};
@@ -162,7 +162,7 @@ fn reduced(number: u64) -> F65537
 
 // A number of the difference, not reduced.
 fn above(x: F65537, y: F65537) -> u64
-    ensures number { result % 65537 ≡ minus (residues 65537) x.value y.value }
+    ensures number { result % 65537 ≡ x.value -⟨ residues 65537 ⟩ y.value }
     ensures below { result < 131074 }
 {
     (x.value + MODULUS - y.value) as u64

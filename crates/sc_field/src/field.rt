@@ -1,6 +1,6 @@
 //! What a field is.
 ghost use Rattle.std.specs.Prelude.{◌≡◌, ℕ, ◌*◌, ◌<◌, ◌≤◌, ◌^◌, ◌↔◌, true, IfSome, length};
-ghost use Rattle.sc_definitions.specs.Ring.{Ops, IsField, plus, times, opposite, minus, power};
+ghost use Rattle.sc_definitions.specs.Ring.{Ops, IsField, opposite, power, ◌+⟨◌⟩◌, ◌-⟨◌⟩◌, ◌*⟨◌⟩◌};
 ghost use Rattle.sc_definitions.specs.Tables.{entries};
 ghost use Rattle.sc_field.specs.Products.{products, differences, even_rows, odd_rows};
 
@@ -47,15 +47,15 @@ pub trait Field: Copy + Eq {
 
     /// The sum.
     fn add(self, other: Self) -> Self
-        ensures { number result ≡ plus ops (number self) (number other) };
+        ensures { number result ≡ number self +⟨ ops ⟩ number other };
 
     /// `self` less `other`.
     fn sub(self, other: Self) -> Self
-        ensures { number result ≡ minus ops (number self) (number other) };
+        ensures { number result ≡ number self -⟨ ops ⟩ number other };
 
     /// The product.
     fn mul(self, other: Self) -> Self
-        ensures { number result ≡ times ops (number self) (number other) };
+        ensures { number result ≡ number self *⟨ ops ⟩ number other };
 
     /// Zero less `self`.
     fn neg(self) -> Self
@@ -64,18 +64,18 @@ pub trait Field: Copy + Eq {
     /// The inverse: the element whose product with `self` is one. `None` exactly at zero.
     fn inverse(self) -> Option<Self>
         ensures none { (result ≡ None) ↔ (number self ≡ 0) }
-        ensures product { IfSome result (λ y. times ops (number self) (number y) ≡ 1) };
+        ensures product { IfSome result (λ y. number self *⟨ ops ⟩ number y ≡ 1) };
 
     /// `self` plus itself.
     fn double(self) -> Self
-        ensures { number result ≡ plus ops (number self) (number self) }
+        ensures { number result ≡ number self +⟨ ops ⟩ number self }
     {
         self.add(self)
     }
 
     /// `self` times itself.
     fn square(self) -> Self
-        ensures { number result ≡ times ops (number self) (number self) }
+        ensures { number result ≡ number self *⟨ ops ⟩ number self }
     {
         self.mul(self)
     }
@@ -188,7 +188,7 @@ pub trait Field: Copy + Eq {
 
     ghost one_is: { number ONE ≡ 1 };
 
-    ghost two_is: { number TWO ≡ plus ops 1 1 };
+    ghost two_is: { number TWO ≡ 1 +⟨ ops ⟩ 1 };
 
     ghost number_below: { (x : Self) → number x < ops.size };
 

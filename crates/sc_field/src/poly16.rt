@@ -1,7 +1,7 @@
 //! The field of 16 elements as polynomials over two elements.
 ghost use Rattle.std.specs.Prelude.{◌≡◌, ◌<◌, map, IfOk, refl};
 ghost use Rattle.std.proofs.Common.{lit<, lit≤};
-ghost use Rattle.sc_definitions.specs.Ring.{times};
+ghost use Rattle.sc_definitions.specs.Ring.{◌*⟨◌⟩◌};
 ghost use Rattle.sc_definitions.specs.Sixteen.{polynomials, tower_to_polynomial, polynomial_to_tower};
 ghost use Rattle.sc_field.specs.PrimeLaws.{eqb_iff};
 ghost use Rattle.sc_field.specs.SixteenLaws.{polynomials_field, polynomials_represent_tower, sixteen_two};
@@ -41,7 +41,7 @@ fn product(a: u8, b: u8) -> u8
     requires first { a < 16 }
     requires second { b < 16 }
     ensures below { result < 16 }
-    ensures product { result ≡ times polynomials a b }
+    ensures product { result ≡ a *⟨ polynomials ⟩ b }
 {
     PRODUCTS[a as usize * 16 + b as usize]
 }

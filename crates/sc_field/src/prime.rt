@@ -1,7 +1,7 @@
 //! Inverses modulo a prime number.
 ghost use Rattle.std.specs.Prelude.{◌≡◌, ◌<◌};
 ghost use Rattle.sc_definitions.specs.Residues.{residues, IsPrime};
-ghost use Rattle.sc_definitions.specs.Ring.{times};
+ghost use Rattle.sc_definitions.specs.Ring.{◌*⟨◌⟩◌};
 
 /// The inverse of a number that is not 0, modulo a prime number.
 pub(crate) fn inverse_modulo(value: u32, modulus: u32) -> u32
@@ -9,7 +9,7 @@ pub(crate) fn inverse_modulo(value: u32, modulus: u32) -> u32
     requires positive { 0 < value }
     requires low { value < modulus }
     ensures below { result < modulus }
-    ensures inverse { times (residues modulus) value result ≡ 1 }
+    ensures inverse { value *⟨ residues modulus ⟩ result ≡ 1 }
 {
     let mut rest = value;
     let mut factor: u32 = 1;

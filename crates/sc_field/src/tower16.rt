@@ -1,7 +1,7 @@
 //! The field of 16 elements as a tower of two extensions of degree 2.
 ghost use Rattle.std.specs.Prelude.{◌≡◌, ◌<◌, refl};
 ghost use Rattle.std.proofs.Common.{lit<, lit≤};
-ghost use Rattle.sc_definitions.specs.Ring.{times};
+ghost use Rattle.sc_definitions.specs.Ring.{◌*⟨◌⟩◌};
 ghost use Rattle.sc_definitions.specs.Sixteen.{tower};
 ghost use Rattle.sc_field.specs.PrimeLaws.{eqb_iff};
 ghost use Rattle.sc_field.specs.SixteenLaws.{tower_field, sixteen_two};
@@ -37,7 +37,7 @@ fn product(a: u8, b: u8) -> u8
     requires first { a < 16 }
     requires second { b < 16 }
     ensures below { result < 16 }
-    ensures product { result ≡ times tower a b }
+    ensures product { result ≡ a *⟨ tower ⟩ b }
 {
     PRODUCTS[a as usize * 16 + b as usize]
 }

@@ -8,7 +8,7 @@ use Rattle.sc_definitions.specs.Tables.{entries, rows_of, inner}
 use Rattle.sc_definitions.proofs.StandingLaws.{entries-is}
 use Rattle.sc_table.specs.Polys.{variables_of, table_of}
 use Rattle.sc_table.specs.declared.poly.Poly.{Poly}
-use Rattle.sc_statements.specs.Batches.{AddsBatch}
+use Rattle.sc_statements.specs.Batches.{gathered, AddsBatch}
 use Rattle.sc_rounds.specs.declared.product_polynomial.ProductPolynomial.{ProductPolynomial}
 use Rattle.sc_rounds.specs.Products.{numbers_of, variables_in, order_in, evals_in, weights_in, sum_in}
 use Rattle.sc_rounds.specs.Provers.{Stated, shown_of, sum_with, IsTrueClaim, with_added, weight_of, claim_of}
@@ -51,7 +51,7 @@ module _ {F EF : Type 0} (number : EF → ℕ) where
 
   -- a constraint is taken in
   pub shown_taken : (o : Ops) (p p' : ProductPolynomial F EF) (s s' : EF) (c : Stated) → variables_in p' ≡ variables_in p → order_in p' ≡ order_in p →
-      evals_in number p' ≡ evals_in number p → AddsBatch o (variables_in p) c.challenge c.power c.statements (weights_in number p) (weights_in number p') (number s) (number s') →
+      evals_in number p' ≡ evals_in number p → AddsBatch o (variables_in p) c.challenge c.power c.statements (gathered (weights_in number p) (number s)) (gathered (weights_in number p') (number s')) →
       shown_of number p' s' ≡ with_added o (shown_of number p s) (weight_of o c) (claim_of o c)
   shown_taken o p p' s s' c variables order evals added = shown_added o p p' s s' (weight_of o c) (claim_of o c) variables order evals added.weights added.sum
 

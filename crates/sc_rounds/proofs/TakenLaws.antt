@@ -8,7 +8,7 @@ use Rattle.sc_definitions.specs.Statements.{Statement, batched_weight, batched_c
 use Rattle.sc_definitions.proofs.RingLaws.{plus_comm, plus_cancel, times-plus}
 use Rattle.sc_definitions.proofs.Sums.{sum-same, sum-plus, element-sum}
 use Rattle.sc_definitions.proofs.StatementLaws.{element-powers_sum}
-use Rattle.sc_statements.specs.Batches.{AddsBatch}
+use Rattle.sc_statements.specs.Batches.{gathered, AddsBatch}
 use Rattle.sc_rounds.specs.Provers.{Stated, claim_with}
 
 -- a claim that is known, with a constraint taken in
@@ -29,14 +29,14 @@ module _ (o : Ops) (ring : IsRing o) where
 
   -- the claim with a true constraint stays the sum
   pub sum_taken : (n c p : ℕ) (ss : List Statement) (f w w' : ℕ → ℕ) (s s' : ℕ) → s ≡ inner o n f w → inner o n f (batched_weight o c p ss) ≡ batched_claim o c p ss →
-      AddsBatch o n c p ss w w' s s' → s' ≡ inner o n f w'
+      AddsBatch o n c p ss (gathered w s) (gathered w' s') → s' ≡ inner o n f w'
   sum_taken n c p ss f w w' s s' true_sum claim added =
       added.sum ∙ ap (λ x. plus o x (batched_claim o c p ss)) true_sum ∙ ap (plus o (inner o n f w)) (sym claim)
       ∙ sym (inner-parts_of n f w (batched_weight o c p ss) w' added.weights)
 
   -- and only with a true one
   pub claim_taken : (n c p : ℕ) (ss : List Statement) (f w w' : ℕ → ℕ) (s s' : ℕ) → s ≡ inner o n f w → s' ≡ inner o n f w' →
-      AddsBatch o n c p ss w w' s s' → inner o n f (batched_weight o c p ss) ≡ batched_claim o c p ss
+      AddsBatch o n c p ss (gathered w s) (gathered w' s') → inner o n f (batched_weight o c p ss) ≡ batched_claim o c p ss
   unfolding batched_claim inner
   claim_taken n c p ss f w w' s s' true_sum after added =
       let v = batched_weight o c p ss in

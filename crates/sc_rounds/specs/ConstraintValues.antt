@@ -1,6 +1,6 @@
 -- The value of constraints' weights where the challenges end.
 use Rattle.std.specs.Prelude.{ℕ, ◌-◌, List, [], ◌∷◌, length, drop}
-use Rattle.sc_definitions.specs.Ring.{Ops, plus}
+use Rattle.sc_definitions.specs.Ring.{Ops, ◌+⟨◌⟩◌}
 use Rattle.sc_definitions.specs.Tables.{Order, value, point_of}
 use Rattle.sc_definitions.specs.Statements.{batched_weight}
 use Rattle.sc_statements.specs.declared.constraint.Constraint.{Constraint}
@@ -18,4 +18,4 @@ constraint_value o of number order rs c =
 -- the sum of these values over constraints
 abbrev pub constraints_value : {F EF : Type 0} → Ops → (F → ℕ) → (EF → ℕ) → Order → List ℕ → List (Constraint F EF) → ℕ
 constraints_value o of number order rs [] = 0
-constraints_value o of number order rs (c ∷ cs) = plus o (constraint_value o of number order rs c) (constraints_value o of number order rs cs)
+constraints_value o of number order rs (c ∷ cs) = constraint_value o of number order rs c +⟨ o ⟩ constraints_value o of number order rs cs

@@ -1,7 +1,7 @@
 -- What a prover shows, and constraints that it takes in.
 use Rattle.std.specs.Prelude.{◌≡◌, ℕ, List, Option, Some, None}
 use Rattle.sc_definitions.specs.declared.events.Event.{Event}
-use Rattle.sc_definitions.specs.Ring.{Ops, plus}
+use Rattle.sc_definitions.specs.Ring.{Ops, ◌+⟨◌⟩◌}
 use Rattle.sc_definitions.specs.Tables.{evaluation, Order, rows_of, inner}
 use Rattle.sc_definitions.specs.Statements.{Statement, batched_weight, batched_claim}
 use Rattle.sc_definitions.specs.Channels.{Channel, Wire}
@@ -40,11 +40,11 @@ IsTrueClaim o s = s.claim ≡ sum_with o s (rows_of s.weights)
 
 -- the weights with values added to them, row by row
 abbrev pub weights_plus : Ops → Shown → (ℕ → ℕ) → List ℕ
-weights_plus o s values = entries_of s.variables (λ b. plus o (rows_of s.weights b) (values b))
+weights_plus o s values = entries_of s.variables (λ b. rows_of s.weights b +⟨ o ⟩ values b)
 
 -- the same with values added to the weights, and a number to the claim
 abbrev pub with_added : Ops → Shown → (ℕ → ℕ) → ℕ → Shown
-with_added o s values number = record s { weights = weights_plus o s values; claim = plus o s.claim number }
+with_added o s values number = record s { weights = weights_plus o s values; claim = s.claim +⟨ o ⟩ number }
 
 -- ---- where its rounds stand
 
@@ -105,7 +105,7 @@ weights_with o s (Some c) = weights_plus o s (weight_of o c)
 -- the claim with a constraint taken in, if there is one
 abbrev pub claim_with : Ops → ℕ → Option Stated → ℕ
 claim_with o claim None = claim
-claim_with o claim (Some c) = plus o claim (claim_of o c)
+claim_with o claim (Some c) = claim +⟨ o ⟩ claim_of o c
 
 -- both
 abbrev pub with_taken : Ops → Shown → Option Stated → Shown

@@ -1,11 +1,11 @@
 //! A table and its weights, on which rounds are played.
 ghost use Rattle.std.specs.Prelude.{◌≡◌, ◌≢◌, ◌⊎◌, ℕ, Err, suc, ◌+◌, ◌<◌, ◌≤◌, ◌^◌, [], ◌∷◌, ◌++◌, IsOk, IfOk, IfErr, OnOk, OnErr, length, map, vec_capacity};
-ghost use Rattle.sc_definitions.specs.Ring.{plus, times};
+ghost use Rattle.sc_definitions.specs.Ring.{◌+⟨◌⟩◌, ◌*⟨◌⟩◌};
 ghost use Rattle.sc_definitions.specs.Tables.{entries, value, sum_below, inner};
 ghost use Rattle.sc_table.specs.Polys.{variables_of, table_of};
 ghost use Rattle.sc_table.specs.Strategy.{order_of};
 ghost use Rattle.sc_statements.specs.Constraints.{constraint_arity, constraint_challenge, constraint_power, constraint_statements};
-ghost use Rattle.sc_statements.specs.Batches.{AddsBatch};
+ghost use Rattle.sc_statements.specs.Batches.{gathered, AddsBatch};
 
 use sc_challenger::Challenger;
 use sc_field::{ExtensionField, Field, IntoTranscriptField, NoMemory, with_room};
@@ -116,7 +116,7 @@ impl<F: Field, EF: ExtensionField<F>> ProductPolynomial<F, EF> {
         ensures evals { evals_in EF.number self.new ≡ evals_in EF.number self.old }
         ensures added { AddsBatch EF.ops (variables_in self.old) (constraint_challenge EF.number constraint.now) (constraint_power constraint.now)
             (constraint_statements (λ x. EF.embedding (F.number x)) EF.number constraint.now)
-            (weights_in EF.number self.old) (weights_in EF.number self.new) (EF.number sum.old) (EF.number sum.new) }
+            (gathered (weights_in EF.number self.old) (EF.number sum.old)) (gathered (weights_in EF.number self.new) (EF.number sum.new)) }
         ensures answered { IsOk result }
     {
         constraint.combine(alloc, &mut self.weights, sum)
@@ -146,7 +146,7 @@ impl<F: Field, EF: ExtensionField<F>> ProductPolynomial<F, EF> {
         ensures order { order_in self.new ≡ order_in self.old }
         ensures evals { evals_in EF.number self.new ≡ evals_in EF.number self.old }
         ensures weights { (b : ℕ) → b < 2 ^ variables_in self.old
-            → weights_in EF.number self.new b ≡ plus EF.ops (weights_in EF.number self.old b) (entries EF.number delta.now b) }
+            → weights_in EF.number self.new b ≡ weights_in EF.number self.old b +⟨ EF.ops ⟩ entries EF.number delta.now b }
     {
         add_entries(self.weights.as_mut_slice(), delta);
     }
@@ -303,7 +303,7 @@ impl<F: Field, EF: ExtensionField<F>> ProductPolynomial<F, EF> {
 // The sum of the products of the entries of two lists of one length, of which the right one holds images in a representation.
 pub(crate) fn dot<EF: Field, R: IntoTranscriptField<EF>>(left: &[EF], right: &[R]) -> EF
     requires { length left.now ≡ length right.now }
-    ensures { EF.number result ≡ sum_below EF.ops (length left.now) (λ b. times EF.ops (entries EF.number left.now b) (entries (λ x. R.to_number (R.number x)) right.now b)) }
+    ensures { EF.number result ≡ sum_below EF.ops (length left.now) (λ b. entries EF.number left.now b *⟨ EF.ops ⟩ entries (λ x. R.to_number (R.number x)) right.now b) }
 {
     let mut sum = EF::ZERO;
     for i in 0..left.len() {
@@ -316,7 +316,7 @@ pub(crate) fn dot<EF: Field, R: IntoTranscriptField<EF>>(left: &[EF], right: &[R
 fn add_entries<EF: Field>(totals: &mut [EF], values: &[EF])
     requires { length totals.old ≡ length values.now }
     ensures { (b : ℕ) → b < length values.now
-        → entries EF.number totals.new b ≡ plus EF.ops (entries EF.number totals.old b) (entries EF.number values.now b) }
+        → entries EF.number totals.new b ≡ entries EF.number totals.old b +⟨ EF.ops ⟩ entries EF.number values.now b }
 {
     for i in 0..totals.len() {
         totals[i] = totals[i].add(values[i]);

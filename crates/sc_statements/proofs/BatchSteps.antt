@@ -3,7 +3,7 @@ use Rattle.std.proofs.Common.{◌≡◌, ℕ, suc, ◌+◌, ◌^◌, ◌<◌, �
 use Rattle.std.proofs.lemmas.List.{length-append, take_all}
 use Rattle.sc_definitions.specs.Ring.{Ops, IsRing, plus, times, power}
 use Rattle.sc_definitions.specs.Statements.{Statement, weight_of, weights_at, claimed_values, batched_weight, batched_claim}
-use Rattle.sc_statements.specs.Batches.{AddsBatch, WritesBatch}
+use Rattle.sc_statements.specs.Batches.{gathered, AddsBatch, WritesBatch}
 use Rattle.sc_statements.proofs.Places.{at-place, taken-at, read-at}
 use Rattle.sc_definitions.proofs.Power.{power-suc}
 use Rattle.sc_definitions.proofs.RingLaws.{element-small, plus-zero, plus_assoc, plus_comm, times_comm}
@@ -112,9 +112,9 @@ module _ (o : Ops) (c p : ℕ) (ss : List Statement) (i : ℕ) (past : length ss
 
 -- no statement adds nothing
 pub AddsBatch-none : (o : Ops) → IsRing o → (n c p : ℕ) (ss : List Statement) (table : ℕ → ℕ) (total : ℕ) → ss ≡ [] → ((b : ℕ) → table b < o.size) → total < o.size →
-    AddsBatch o n c p ss table table total total
+    AddsBatch o n c p ss (gathered table total) (gathered table total)
 AddsBatch-none o ring n c p ss table total none low below =
-    let P : List Statement → Type 0 = λ t. AddsBatch o n c p t table table total total in
+    let P : List Statement → Type 0 = λ t. AddsBatch o n c p t (gathered table total) (gathered table total) in
     subst P (sym none) (record {
       weights = λ b _. sym (ap (plus o (table b)) (batched-none o c p b).0 ∙ plus-zero o ring (table b) ∙ element-small o ring (table b) (low b));
       sum = sym (ap (plus o total) (batched-none o c p 0).1 ∙ plus-zero o ring total ∙ element-small o ring total below);
@@ -122,7 +122,7 @@ AddsBatch-none o ring n c p ss table total none low below =
 
 -- what is added to rows of zeros is there alone
 pub WritesBatch-cleared : (o : Ops) → IsRing o → (n c p : ℕ) (ss : List Statement) (zeros new : ℕ → ℕ) (old_sum new_sum : ℕ) → ((b : ℕ) → b < 2 ^ n → zeros b ≡ 0) →
-    AddsBatch o n c p ss zeros new old_sum new_sum → WritesBatch o n c p ss new old_sum new_sum
+    AddsBatch o n c p ss (gathered zeros old_sum) (gathered new new_sum) → WritesBatch o n c p ss old_sum (gathered new new_sum)
 unfolding batched_weight
 WritesBatch-cleared o ring n c p ss zeros new old_sum new_sum cleared added = record {
   weights = λ b low. added.weights b low ∙ ap (λ z. plus o z (batched_weight o c p ss b)) (cleared b low)

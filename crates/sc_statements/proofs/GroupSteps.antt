@@ -8,7 +8,7 @@ use Rattle.sc_definitions.specs.Ring.{Ops, IsRing, plus, times, power}
 use Rattle.sc_definitions.specs.Statements.{Statement, powers_sum, weight_of, batched_weight, batched_claim}
 use Rattle.sc_definitions.proofs.RingLaws.{plus-zero, plus_assoc, plus_comm}
 use Rattle.sc_definitions.proofs.StatementLaws.{element-powers_sum}
-use Rattle.sc_statements.specs.Batches.{AddsBatch}
+use Rattle.sc_statements.specs.Batches.{gathered, AddsBatch}
 use Rattle.sc_statements.proofs.BatchSteps.{IsSummed, AddsBatch-none}
 
 module _ (o : Ops) (ring : IsRing o) where
@@ -54,9 +54,9 @@ module _ (o : Ops) (ring : IsRing o) where
       })
 
   pub AddsBatch-group : (n m c p : ℕ) (ss ts longer : List Statement) (old table new : ℕ → ℕ) (old_sum total new_sum : ℕ) → longer ≡ ss ++ ts → m ≡ n →
-      AddsBatch o n c p ss old table old_sum total → AddsBatch o m c (p + length ss) ts table new total new_sum → AddsBatch o n c p longer old new old_sum new_sum
+      AddsBatch o n c p ss (gathered old old_sum) (gathered table total) → AddsBatch o m c (p + length ss) ts (gathered table total) (gathered new new_sum) → AddsBatch o n c p longer (gathered old old_sum) (gathered new new_sum)
   AddsBatch-group n m c p ss ts longer old table new old_sum total new_sum split arity so_far added =
-      let P : List Statement → Type 0 = λ t. AddsBatch o n c p t old new old_sum new_sum in
+      let P : List Statement → Type 0 = λ t. AddsBatch o n c p t (gathered old old_sum) (gathered new new_sum) in
       subst P (sym split) (record {
         weights = λ b low. added.weights b (omega (arith, low, ap (λ k. 2 ^ k) arity)) ∙ ap (λ t. plus o t (batched_weight o c (p + length ss) ts b)) (so_far.weights b low)
             ∙ plus_assoc o ring (old b) (batched_weight o c p ss b) (batched_weight o c (p + length ss) ts b)
@@ -100,7 +100,7 @@ module _ {G : Type 0} (statements_of : G → List Statement) (o : Ops) (ring : I
 
 -- the table and the sum have the batch of the first i groups, and the factor is that of the statement behind them
 pub record IsCombined {G : Type 0} (statements_of : G → List Statement) (o : Ops) (n c p : ℕ) (groups : List G) (i : ℕ) (old table : ℕ → ℕ) (old_sum total factor : ℕ) : Type 0 where
-  pub added : AddsBatch o n c p (flat_map statements_of (take i groups)) old table old_sum total
+  pub added : AddsBatch o n c p (flat_map statements_of (take i groups)) (gathered old old_sum) (gathered table total)
   pub next : factor ≡ power o c (p + length (flat_map statements_of (take i groups)))
 
 module _ {G : Type 0} (statements_of : G → List Statement) (o : Ops) (ring : IsRing o) (n c p : ℕ) (groups : List G) where
@@ -112,7 +112,7 @@ module _ {G : Type 0} (statements_of : G → List Statement) (o : Ops) (ring : I
 
   pub IsCombined-more : (arity : G → ℕ) (all : List G) (i : ℕ) (x : G) (old table table' : ℕ → ℕ) (old_sum total total' factor factor' : ℕ) →
       IsCombined statements_of o n c p groups i old table old_sum total factor → All (λ y. arity y ≡ n) all → groups ≡ all → i < length groups → x ≡ get_or groups i x →
-      ((q : ℕ) → factor ≡ power o c q → AddsBatch o (arity x) c q (statements_of x) table table' total total') → ((q : ℕ) → factor ≡ power o c q → factor' ≡ power o c (q + length (statements_of x))) →
+      ((q : ℕ) → factor ≡ power o c q → AddsBatch o (arity x) c q (statements_of x) (gathered table total) (gathered table' total')) → ((q : ℕ) → factor ≡ power o c q → factor' ≡ power o c (q + length (statements_of x))) →
       IsCombined statements_of o n c p groups (i + 1) old table' old_sum total' factor'
   IsCombined-more arity all i x old table table' old_sum total total' factor factor' so_far fits same low at added next =
       let done = flat_map statements_of (take i groups) in

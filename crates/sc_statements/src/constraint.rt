@@ -1,13 +1,13 @@
 //! Groups of statements, batched under the powers of one challenge.
 
 ghost use Rattle.std.specs.Prelude.{◌≡◌, ℕ, ◌+◌, ◌^◌, ◌<◌, ◌≤◌, All, length, map, IsOk, IfOk, OnOk, OnErr};
-ghost use Rattle.sc_definitions.specs.Ring.{plus, power};
+ghost use Rattle.sc_definitions.specs.Ring.{power, ◌+⟨◌⟩◌};
 ghost use Rattle.sc_definitions.specs.Tables.{value};
 ghost use Rattle.sc_definitions.specs.Statements.{first_false_claim, batched_weight, batched_claim};
 ghost use Rattle.sc_field.specs.Powers.{base_of, start_of};
-ghost use Rattle.sc_table.specs.Polys.{variables_of, table_of};
+ghost use Rattle.sc_table.specs.Polys.{most_table_variables, variables_of, table_of};
 ghost use Rattle.sc_statements.specs.Groups.{group_arity, group_statements};
-ghost use Rattle.sc_statements.specs.Batches.{AddsBatch};
+ghost use Rattle.sc_statements.specs.Batches.{gathered, AddsBatch};
 ghost use Rattle.sc_statements.specs.FalseClaims.{told};
 
 use crate::statement::Statements;
@@ -121,8 +121,8 @@ impl<F: Field, EF: ExtensionField<F>> Constraint<F, EF> {
 
     /// Adds the batched claim to the sum.
     pub fn combine_evals(&self, eval: &mut EF)
-        ensures { EF.number eval.new ≡ plus EF.ops (EF.number eval.old)
-            (batched_claim EF.ops (constraint_challenge EF.number self.now) (constraint_power self.now) (constraint_statements (λ x. EF.embedding (F.number x)) EF.number self.now)) }
+        ensures { EF.number eval.new ≡ EF.number eval.old
+            +⟨ EF.ops ⟩ batched_claim EF.ops (constraint_challenge EF.number self.now) (constraint_power self.now) (constraint_statements (λ x. EF.embedding (F.number x)) EF.number self.now) }
     {
         let mut coefficient = self.first_coefficient();
         for group in &self.statements {
@@ -144,7 +144,7 @@ impl<F: Field, EF: ExtensionField<F>> Constraint<F, EF> {
         ensures variables { variables_of combined.new ≡ variables_of combined.old }
         ensures ok { OnOk result (AddsBatch EF.ops (constraint_arity self.now) (constraint_challenge EF.number self.now) (constraint_power self.now)
             (constraint_statements (λ x. EF.embedding (F.number x)) EF.number self.now)
-            (table_of EF.number combined.old) (table_of EF.number combined.new) (EF.number eval.old) (EF.number eval.new)) }
+            (gathered (table_of EF.number combined.old) (EF.number eval.old)) (gathered (table_of EF.number combined.new) (EF.number eval.new))) }
         ensures answered { IsOk result }
     {
         let mut coefficient = self.first_coefficient();
@@ -156,7 +156,7 @@ impl<F: Field, EF: ExtensionField<F>> Constraint<F, EF> {
 
     /// The batched weights, in a table of at most 40 variables, and the batched claim.
     pub fn combine_new(&self, alloc: Global) -> Result<(Poly<EF>, EF), NoMemory>
-        requires { constraint_arity self.now ≤ 40 }
+        requires { constraint_arity self.now ≤ most_table_variables }
         ensures variables { IfOk result (λ p. variables_of p.0 ≡ constraint_arity self.now) }
         ensures weights { IfOk result (λ p. (b : ℕ) → b < 2 ^ constraint_arity self.now → table_of EF.number p.0 b
             ≡ batched_weight EF.ops (constraint_challenge EF.number self.now) (constraint_power self.now) (constraint_statements (λ x. EF.embedding (F.number x)) EF.number self.now) b) }

@@ -1,11 +1,11 @@
 //! Groups of statements of one kind, and what is taken from them one statement after the other.
 
 ghost use Rattle.std.specs.Prelude.{◌≡◌, ℕ, ◌+◌, ◌^◌, ◌<◌, ◌↔◌, List, length, map, slice_index, IsTrue};
-ghost use Rattle.sc_definitions.specs.Ring.{plus, times, power};
+ghost use Rattle.sc_definitions.specs.Ring.{power, ◌+⟨◌⟩◌, ◌*⟨◌⟩◌};
 ghost use Rattle.sc_definitions.specs.Tables.{value};
 ghost use Rattle.sc_definitions.specs.Statements.{Statement, AllTrueOf, first_false_claim, true_values, claimed_values, weights_at, batched_weight, batched_claim};
 ghost use Rattle.sc_table.specs.Polys.{variables_of, table_of};
-ghost use Rattle.sc_statements.specs.Batches.{AddsBatch};
+ghost use Rattle.sc_statements.specs.Batches.{gathered, AddsBatch};
 ghost use Rattle.sc_statements.specs.Weights.{weight_values};
 
 use sc_definitions::FalseClaim;
@@ -43,7 +43,7 @@ pub trait StatementList<EF: Field>: Drop {
         requires arity { variables_of table.old ≡ arity self.now }
         ensures variables { variables_of table.new ≡ variables_of table.old }
         ensures table { (b : ℕ) → b < 2 ^ arity self.now → table_of EF.number table.new b
-            ≡ plus EF.ops (table_of EF.number table.old b) (times EF.ops (EF.number scale) (slice_index (weights_at EF.ops (statements self.now) b) index)) };
+            ≡ table_of EF.number table.old b +⟨ EF.ops ⟩ EF.number scale *⟨ EF.ops ⟩ slice_index (weights_at EF.ops (statements self.now) b) index };
 
     /// The value at a point of a statement's weights, as a table. The point has as many coordinates as the tables have variables.
     fn weight_at(&self, index: usize, row: &Point<EF>) -> EF
@@ -94,7 +94,7 @@ pub(crate) fn add_values<EF: Field, S: StatementList<EF>>(
     first: EF,
 ) -> EF
     ensures added { (p : ℕ) → EF.number first ≡ power EF.ops (EF.number challenge) p →
-        EF.number sum.new ≡ plus EF.ops (EF.number sum.old) (batched_claim EF.ops (EF.number challenge) p (S.statements statements.now)) }
+        EF.number sum.new ≡ EF.number sum.old +⟨ EF.ops ⟩ batched_claim EF.ops (EF.number challenge) p (S.statements statements.now) }
     ensures next { (p : ℕ) → EF.number first ≡ power EF.ops (EF.number challenge) p →
         EF.number result ≡ power EF.ops (EF.number challenge) (p + length (S.statements statements.now)) }
 {
@@ -118,7 +118,7 @@ pub(crate) fn add_batch<EF: Field, S: StatementList<EF>>(
     ensures variables { variables_of weights.new ≡ variables_of weights.old }
     ensures added { (p : ℕ) → EF.number first ≡ power EF.ops (EF.number challenge) p →
         AddsBatch EF.ops (S.arity statements.now) (EF.number challenge) p (S.statements statements.now)
-        (table_of EF.number weights.old) (table_of EF.number weights.new) (EF.number sum.old) (EF.number sum.new) }
+        (gathered (table_of EF.number weights.old) (EF.number sum.old)) (gathered (table_of EF.number weights.new) (EF.number sum.new)) }
     ensures next { (p : ℕ) → EF.number first ≡ power EF.ops (EF.number challenge) p →
         EF.number result ≡ power EF.ops (EF.number challenge) (p + length (S.statements statements.now)) }
 {
@@ -140,8 +140,8 @@ pub(crate) fn add_weights_at<EF: Field, S: StatementList<EF>>(
 ) -> EF
     requires { length row.now ≡ S.arity statements.now }
     ensures added { (p : ℕ) → EF.number first ≡ power EF.ops (EF.number challenge) p →
-        EF.number sum.new ≡ plus EF.ops (EF.number sum.old)
-        (value EF.ops (batched_weight EF.ops (EF.number challenge) p (S.statements statements.now)) (map EF.number row.now)) }
+        EF.number sum.new ≡ EF.number sum.old
+        +⟨ EF.ops ⟩ value EF.ops (batched_weight EF.ops (EF.number challenge) p (S.statements statements.now)) (map EF.number row.now) }
     ensures next { (p : ℕ) → EF.number first ≡ power EF.ops (EF.number challenge) p →
         EF.number result ≡ power EF.ops (EF.number challenge) (p + length (S.statements statements.now)) }
 {

@@ -1,11 +1,11 @@
 //! The kinds of statements, and groups of one kind.
 
 ghost use Rattle.std.specs.Prelude.{◌≡◌, ℕ, ◌+◌, ◌↔◌, [], length, map, IsTrue, IsOk, IfOk};
-ghost use Rattle.sc_definitions.specs.Ring.{plus, power};
+ghost use Rattle.sc_definitions.specs.Ring.{power, ◌+⟨◌⟩◌};
 ghost use Rattle.sc_definitions.specs.Tables.{value};
 ghost use Rattle.sc_definitions.specs.Statements.{first_false_claim, batched_weight, batched_claim};
 ghost use Rattle.sc_table.specs.Polys.{variables_of, table_of};
-ghost use Rattle.sc_statements.specs.Batches.{AddsBatch};
+ghost use Rattle.sc_statements.specs.Batches.{gathered, AddsBatch};
 
 mod eq;
 mod next;
@@ -83,7 +83,7 @@ impl<F: Field, EF: ExtensionField<F>> Statements<F, EF> {
     // once more. The answer is the factor of a statement behind the last.
     pub(crate) fn add_values(&self, sum: &mut EF, challenge: EF, first: EF) -> EF
         ensures added { (p : ℕ) → EF.number first ≡ power EF.ops (EF.number challenge) p →
-            EF.number sum.new ≡ plus EF.ops (EF.number sum.old) (batched_claim EF.ops (EF.number challenge) p (group_statements (λ x. EF.embedding (F.number x)) EF.number self.now)) }
+            EF.number sum.new ≡ EF.number sum.old +⟨ EF.ops ⟩ batched_claim EF.ops (EF.number challenge) p (group_statements (λ x. EF.embedding (F.number x)) EF.number self.now) }
         ensures next { (p : ℕ) → EF.number first ≡ power EF.ops (EF.number challenge) p →
             EF.number result ≡ power EF.ops (EF.number challenge) (p + length (group_statements (λ x. EF.embedding (F.number x)) EF.number self.now)) }
     {
@@ -104,8 +104,8 @@ impl<F: Field, EF: ExtensionField<F>> Statements<F, EF> {
     ) -> EF
         requires { length row.now ≡ group_arity self.now }
         ensures added { (p : ℕ) → EF.number first ≡ power EF.ops (EF.number challenge) p →
-            EF.number sum.new ≡ plus EF.ops (EF.number sum.old)
-            (value EF.ops (batched_weight EF.ops (EF.number challenge) p (group_statements (λ x. EF.embedding (F.number x)) EF.number self.now)) (map EF.number row.now)) }
+            EF.number sum.new ≡ EF.number sum.old
+            +⟨ EF.ops ⟩ value EF.ops (batched_weight EF.ops (EF.number challenge) p (group_statements (λ x. EF.embedding (F.number x)) EF.number self.now)) (map EF.number row.now) }
         ensures next { (p : ℕ) → EF.number first ≡ power EF.ops (EF.number challenge) p →
             EF.number result ≡ power EF.ops (EF.number challenge) (p + length (group_statements (λ x. EF.embedding (F.number x)) EF.number self.now)) }
     {
@@ -135,7 +135,7 @@ impl<F: Field, EF: ExtensionField<F>> Statements<F, EF> {
         ensures variables { variables_of weights.new ≡ variables_of weights.old }
         ensures added { IfOk result (λ _. (p : ℕ) → EF.number first ≡ power EF.ops (EF.number challenge) p →
             AddsBatch EF.ops (group_arity self.now) (EF.number challenge) p (group_statements (λ x. EF.embedding (F.number x)) EF.number self.now)
-            (table_of EF.number weights.old) (table_of EF.number weights.new) (EF.number sum.old) (EF.number sum.new)) }
+            (gathered (table_of EF.number weights.old) (EF.number sum.old)) (gathered (table_of EF.number weights.new) (EF.number sum.new))) }
         ensures next { IfOk result (λ next. (p : ℕ) → EF.number first ≡ power EF.ops (EF.number challenge) p →
             EF.number next ≡ power EF.ops (EF.number challenge) (p + length (group_statements (λ x. EF.embedding (F.number x)) EF.number self.now))) }
         ensures answered { IsOk result }

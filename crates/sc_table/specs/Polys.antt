@@ -5,6 +5,10 @@ use Rattle.sc_definitions.specs.Ring.{Ops}
 use Rattle.sc_definitions.specs.Tables.{evaluation, Order, entries, value, placed, bound_in}
 use Rattle.sc_table.specs.declared.poly.Poly.{Poly}
 
+-- the most variables that a table can be made with: 2^40 values of two words each still fit in the addresses there are
+abbrev pub most_table_variables : ℕ
+most_table_variables = 40
+
 -- how many variables the table has
 abbrev pub variables_of : {A : Type 0} → Poly A → ℕ
 variables_of p = p.variables

@@ -1,7 +1,7 @@
 //! Points, and the equality weight of two points.
 
 ghost use Rattle.std.specs.Prelude.{◌≡◌, ◌≤◌, ◌++◌, List, length, map, reverse, IfOk};
-ghost use Rattle.sc_definitions.specs.Ring.{plus, power};
+ghost use Rattle.sc_definitions.specs.Ring.{power, ◌+⟨◌⟩◌};
 ghost use Rattle.sc_definitions.specs.Tables.{eq_product, value};
 ghost use Rattle.sc_definitions.specs.Statements.{successor_weight, next_carry, next_done, next_omega};
 
@@ -104,7 +104,7 @@ impl<EF: Field> Point<EF> {
         ensures omega { EF.number result.2 ≡ next_omega EF.ops (map EF.number z.now) (map EF.number x.now) }
 
         // The last two make the value at `x` of the successor weights of `z`, as a table.
-        ensures value { plus EF.ops (EF.number result.1) (EF.number result.2) ≡ value EF.ops (successor_weight EF.ops (map EF.number z.now)) (map EF.number x.now) }
+        ensures value { EF.number result.1 +⟨ EF.ops ⟩ EF.number result.2 ≡ value EF.ops (successor_weight EF.ops (map EF.number z.now)) (map EF.number x.now) }
     {
         let mut equal = EF::ONE;
         let mut carry = EF::ONE;

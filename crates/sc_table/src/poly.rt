@@ -2,7 +2,7 @@
 
 ghost use Rattle.std.specs.Prelude.{◌≡◌, ℕ, ◌+◌, ◌-◌, ◌*◌, ◌/◌, ◌^◌, ◌<◌, ◌≤◌, [], ◌∷◌, ◌++◌, List, length, map, IfOk, vec_len, vec_capacity};
 ghost use Rattle.std.specs.Borrow.{sem};
-ghost use Rattle.sc_definitions.specs.Ring.{plus, times, minus};
+ghost use Rattle.sc_definitions.specs.Ring.{◌+⟨◌⟩◌, ◌-⟨◌⟩◌, ◌*⟨◌⟩◌};
 ghost use Rattle.sc_definitions.specs.Tables.{entries, weight, value, bound, bound_low};
 ghost use Rattle.sc_definitions.specs.Statements.{successor_weight};
 ghost use Rattle.sc_definitions.specs.Shifts.{shifted, only_at};
@@ -21,7 +21,7 @@ pub struct Poly<A> {
 }
 
 impl<A: Field> Poly<A> {
-    ghost use Rattle.sc_table.specs.Polys.{variables_of, table_of, with_values};
+    ghost use Rattle.sc_table.specs.Polys.{most_table_variables, variables_of, table_of, with_values};
     ghost use Rattle.sc_table.specs.PolyLoans.{LendsValues};
 
     /// The table of these values, as many as a power of two.
@@ -37,7 +37,7 @@ impl<A: Field> Poly<A> {
     /// The table of `n` variables, at most 40, with zero in each row; `NoMemory` where there is no
     /// memory for its 2^n values.
     pub fn zero(alloc: Global, n: usize) -> Result<Self, NoMemory>
-        requires { n ≤ 40 }
+        requires { n ≤ most_table_variables }
         ensures variables { IfOk result (λ p. variables_of p ≡ n) }
         ensures table { IfOk result (λ p. (b : ℕ) → table_of A.number p b ≡ 0) }
     {
@@ -55,10 +55,10 @@ impl<A: Field> Poly<A> {
     /// table that the coordinates behind it make. Memory is taken once, for the whole table, and
     /// `NoMemory` says that there is not as much.
     pub fn new_from_point(alloc: Global, z: &[A], scale: A) -> Result<Self, NoMemory>
-        requires { length z.now ≤ 40 }
+        requires { length z.now ≤ most_table_variables }
         ensures variables { IfOk result (λ p. variables_of p ≡ length z.now) }
         ensures table { IfOk result (λ p. (b : ℕ) → b < 2 ^ length z.now →
-            table_of A.number p b ≡ times A.ops (A.number scale) (weight A.ops (map A.number z.now) b)) }
+            table_of A.number p b ≡ A.number scale *⟨ A.ops ⟩ weight A.ops (map A.number z.now) b) }
     {
         let variables = z.len();
         let mut evals = Vec::with_capacity(alloc, 1 << variables)?;
@@ -74,7 +74,7 @@ impl<A: Field> Poly<A> {
     ///
     /// It takes time linear in the table's length, and memory once, for the whole table; `NoMemory` says that there is not as much.
     pub fn new_next_from_point(alloc: Global, z: &[A]) -> Result<Self, NoMemory>
-        requires { length z.now ≤ 40 }
+        requires { length z.now ≤ most_table_variables }
         ensures variables { IfOk result (λ p. variables_of p ≡ length z.now) }
         ensures table { IfOk result (λ p. (b : ℕ) → b < 2 ^ length z.now → table_of A.number p b ≡ successor_weight A.ops (map A.number z.now) b) }
     {
@@ -207,9 +207,9 @@ fn push_weighted<A: Field>(weights: &mut Vec<A>, z: A)
     ensures room { vec_capacity weights.new ≡ vec_capacity weights.old }
     ensures size { length weights.new.items ≡ length weights.old.items + length weights.old.items }
     ensures low { (b : ℕ) → b < length weights.old.items →
-        entries A.number weights.new.items b ≡ minus A.ops (entries A.number weights.old.items b) (times A.ops (entries A.number weights.old.items b) (A.number z)) }
+        entries A.number weights.new.items b ≡ entries A.number weights.old.items b -⟨ A.ops ⟩ entries A.number weights.old.items b *⟨ A.ops ⟩ A.number z }
     ensures high { (b : ℕ) → b < length weights.old.items →
-        entries A.number weights.new.items (length weights.old.items + b) ≡ times A.ops (entries A.number weights.old.items b) (A.number z) }
+        entries A.number weights.new.items (length weights.old.items + b) ≡ entries A.number weights.old.items b *⟨ A.ops ⟩ A.number z }
 {
     let half = weights.len();
     for b in 0..half {
@@ -223,7 +223,7 @@ fn push_weighted<A: Field>(weights: &mut Vec<A>, z: A)
 fn move_rows_up<A: Field>(rows: &mut [A])
     requires { 0 < length rows.old }
     ensures { (b : ℕ) → b < length rows.old → entries A.number rows.new b
-        ≡ plus A.ops (shifted 0 (entries A.number rows.old) b) (only_at (length rows.old - 1) (entries A.number rows.old) b) }
+        ≡ shifted 0 (entries A.number rows.old) b +⟨ A.ops ⟩ only_at (length rows.old - 1) (entries A.number rows.old) b }
 {
     let last = rows.len() - 1;
     rows.rotate_right(1);

@@ -1,10 +1,10 @@
 //! What a round sends, from the two tables as they stand, and how it binds them: by basis and by order.
 
 ghost use Rattle.std.specs.Prelude.{◌≡◌, ℕ, suc, ◌+◌, ◌*◌, ◌/◌, ◌%◌, ◌^◌, ◌<◌, ◌≤◌, [], ◌∷◌, List, length};
-ghost use Rattle.sc_definitions.specs.Ring.{plus, times, minus};
-ghost use Rattle.sc_definitions.specs.Tables.{evaluation, projective, prefix, suffix, IsOffered, entries, value, placed, bound_in};
+ghost use Rattle.sc_definitions.specs.Ring.{◌+⟨◌⟩◌, ◌*⟨◌⟩◌};
+ghost use Rattle.sc_definitions.specs.Tables.{evaluation, projective, Order, prefix, suffix, IsOffered, entries, value, placed, bound_in};
 ghost use Rattle.sc_definitions.specs.Messages.{first_term, leading_term, message_first, message_leading};
-ghost use Rattle.sc_definitions.specs.Rounds.{honest_pair, next_claim};
+ghost use Rattle.sc_definitions.specs.Rounds.{true_claim, slow_value, honest_pair, next_claim};
 ghost use Rattle.sc_table.specs.Blocks.{sum_from};
 ghost use Rattle.sc_table.specs.Strategy.{basis_of, order_of};
 ghost use Rattle.sc_table.specs.Polys.{variables_of, table_of};
@@ -57,9 +57,9 @@ impl<A: Field> RoundMessage<A> {
         requires weights { half + half ≤ length weights.now }
         requires few { rows ≤ 512 }
         ensures first { A.number result.c_a
-            ≡ plus A.ops (A.number self.c_a) (sum_from A.ops from rows (first_term evaluation prefix A.ops half (entries (λ x. A.embedding (B.number x)) evals.now) (entries A.number weights.now))) }
+            ≡ A.number self.c_a +⟨ A.ops ⟩ sum_from A.ops from rows (first_term evaluation prefix A.ops half (entries (λ x. A.embedding (B.number x)) evals.now) (entries A.number weights.now)) }
         ensures leading { A.number result.c_inf
-            ≡ plus A.ops (A.number self.c_inf) (sum_from A.ops from rows (leading_term evaluation prefix A.ops half (entries (λ x. A.embedding (B.number x)) evals.now) (entries A.number weights.now))) }
+            ≡ A.number self.c_inf +⟨ A.ops ⟩ sum_from A.ops from rows (leading_term evaluation prefix A.ops half (entries (λ x. A.embedding (B.number x)) evals.now) (entries A.number weights.now)) }
     {
         let high = half + from;
         let (e0, e1) = (&evals[from..from + rows], &evals[high..high + rows]);
@@ -85,9 +85,9 @@ impl<A: Field> RoundMessage<A> {
         requires weights { 2 * (from + pairs) ≤ length weights.now }
         requires few { pairs ≤ 512 }
         ensures first { (half : ℕ) → A.number result.c_a
-            ≡ plus A.ops (A.number self.c_a) (sum_from A.ops from pairs (first_term evaluation suffix A.ops half (entries (λ x. A.embedding (B.number x)) evals.now) (entries A.number weights.now))) }
+            ≡ A.number self.c_a +⟨ A.ops ⟩ sum_from A.ops from pairs (first_term evaluation suffix A.ops half (entries (λ x. A.embedding (B.number x)) evals.now) (entries A.number weights.now)) }
         ensures leading { (half : ℕ) → A.number result.c_inf
-            ≡ plus A.ops (A.number self.c_inf) (sum_from A.ops from pairs (leading_term evaluation suffix A.ops half (entries (λ x. A.embedding (B.number x)) evals.now) (entries A.number weights.now))) }
+            ≡ A.number self.c_inf +⟨ A.ops ⟩ sum_from A.ops from pairs (leading_term evaluation suffix A.ops half (entries (λ x. A.embedding (B.number x)) evals.now) (entries A.number weights.now)) }
     {
         let (at, rows) = (2 * from, 2 * pairs);
         let (even, difference) = A::dot_base_pairs(
@@ -107,9 +107,9 @@ impl<A: Field> RoundMessage<A> {
     where
         A: Algebra<B>,
         ensures first { A.number result.c_a
-            ≡ plus A.ops (A.number self.c_a) (times A.ops (plus A.ops (A.embedding (B.number e0)) (A.embedding (B.number e1))) (plus A.ops (A.number w0) (A.number w1))) }
+            ≡ A.number self.c_a +⟨ A.ops ⟩ (A.embedding (B.number e0) +⟨ A.ops ⟩ A.embedding (B.number e1)) *⟨ A.ops ⟩ (A.number w0 +⟨ A.ops ⟩ A.number w1) }
         ensures leading { A.number result.c_inf
-            ≡ plus A.ops (A.number self.c_inf) (times A.ops (A.embedding (B.number e1)) (A.number w1)) }
+            ≡ A.number self.c_inf +⟨ A.ops ⟩ A.embedding (B.number e1) *⟨ A.ops ⟩ A.number w1 }
     {
         RoundMessage {
             c_a: self.c_a.add(w0.add(w1).mul_base(e0.add(e1))),
@@ -266,8 +266,15 @@ impl Basis {
     /// and 1. In the projective basis `c_a` is its value at 1, and `claimed_sum` the sum of its
     /// constant and its leading coefficient.
     pub fn reduce_claim<EF: Field>(self, c_a: EF, c_inf: EF, r: EF, claimed_sum: EF) -> EF
-        ensures { EF.number result
+        ensures claim { EF.number result
             ≡ next_claim (basis_of self) EF.ops (EF.number claimed_sum) (EF.number c_a ∷ EF.number c_inf ∷ []) (EF.number r) }
+
+        // Of an honest pair under the true claim it is the value of the round's polynomial, the true
+        // claim at one challenge more.
+        ensures honest { (order : Order) → IsOffered (basis_of self) order → (f w : ℕ → ℕ) (rs : List ℕ) (m : ℕ) →
+            EF.number c_a ∷ EF.number c_inf ∷ [] ≡ honest_pair (basis_of self) order EF.ops f w rs m →
+            EF.number claimed_sum ≡ true_claim (basis_of self) order EF.ops f w rs (suc m) →
+            EF.number result ≡ slow_value (basis_of self) order EF.ops f w rs m (EF.number r) }
     {
         match self {
             Basis::Evaluation => extrapolate_01inf(c_a, claimed_sum.sub(c_a), c_inf, r),

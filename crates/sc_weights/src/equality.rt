@@ -1,7 +1,7 @@
 //! Equality weights: those of a point.
 
 ghost use Rattle.std.specs.Prelude.{◌≡◌, ℕ, ◌^◌, ◌<◌, length, map};
-ghost use Rattle.sc_definitions.specs.Ring.{plus, times};
+ghost use Rattle.sc_definitions.specs.Ring.{◌+⟨◌⟩◌, ◌*⟨◌⟩◌};
 ghost use Rattle.sc_definitions.specs.Tables.{entries, weight};
 
 use crate::row_weights::RowWeights;
@@ -34,7 +34,7 @@ pub(crate) fn add_equality<EF: Field>(rows: &mut [EF], z: &[EF], scale: EF)
     requires { length rows.old ≡ 2 ^ length z.now }
     ensures { (b : ℕ) → b < 2 ^ length z.now →
         entries EF.number rows.new b
-        ≡ plus EF.ops (entries EF.number rows.old b) (times EF.ops (EF.number scale) (weight EF.ops (map EF.number z.now) b)) }
+        ≡ entries EF.number rows.old b +⟨ EF.ops ⟩ EF.number scale *⟨ EF.ops ⟩ weight EF.ops (map EF.number z.now) b }
 {
     match z {
         [] => rows[0] = rows[0].add(scale),

@@ -1,7 +1,7 @@
 //! Successor weights, in the slot that a selector fixes.
 
 ghost use Rattle.std.specs.Prelude.{◌≡◌, ℕ, ◌+◌, ◌-◌, ◌*◌, ◌^◌, ◌<◌, ◌==◌, [], length, map, if◌then◌else◌};
-ghost use Rattle.sc_definitions.specs.Ring.{plus, times};
+ghost use Rattle.sc_definitions.specs.Ring.{◌+⟨◌⟩◌, ◌*⟨◌⟩◌};
 ghost use Rattle.sc_definitions.specs.Tables.{entries, weight, value};
 ghost use Rattle.sc_definitions.specs.Shifts.{shifted};
 ghost use Rattle.sc_definitions.specs.Statements.{next_row, successor_weight};
@@ -70,8 +70,8 @@ impl<EF: Field> RowWeights<EF> for NextConstraint<EF> {
 fn add_slots<EF: Field>(rows: &mut [EF], selector: &[EF], point: &[EF], scale: EF)
     requires { length rows.old ≡ 2 ^ (length selector.now + length point.now) }
     ensures { (a c : ℕ) → a < 2 ^ length selector.now → c < 2 ^ length point.now → entries EF.number rows.new (a * 2 ^ length point.now + c)
-        ≡ plus EF.ops (entries EF.number rows.old (a * 2 ^ length point.now + c))
-        (times EF.ops (EF.number scale) (times EF.ops (weight EF.ops (map EF.number selector.now) a) (successor_weight EF.ops (map EF.number point.now) c))) }
+        ≡ entries EF.number rows.old (a * 2 ^ length point.now + c)
+        +⟨ EF.ops ⟩ EF.number scale *⟨ EF.ops ⟩ (weight EF.ops (map EF.number selector.now) a *⟨ EF.ops ⟩ successor_weight EF.ops (map EF.number point.now) c) }
 {
     let [first, rest @ ..] = selector else {
         add_successor(rows, point, &[], 1, scale);
@@ -88,8 +88,8 @@ fn add_successor<EF: Field>(rows: &mut [EF], point: &[EF], selector: &[EF], bloc
     requires size { length rows.old ≡ 2 ^ (length point.now + length selector.now) }
     requires block { block ≡ 2 ^ length selector.now }
     ensures { (a c : ℕ) → a < 2 ^ length point.now → c < 2 ^ length selector.now → entries EF.number rows.new (a * 2 ^ length selector.now + c)
-        ≡ plus EF.ops (entries EF.number rows.old (a * 2 ^ length selector.now + c))
-        (times EF.ops (EF.number scale) (times EF.ops (successor_weight EF.ops (map EF.number point.now) a) (weight EF.ops (map EF.number selector.now) c))) }
+        ≡ entries EF.number rows.old (a * 2 ^ length selector.now + c)
+        +⟨ EF.ops ⟩ EF.number scale *⟨ EF.ops ⟩ (successor_weight EF.ops (map EF.number point.now) a *⟨ EF.ops ⟩ weight EF.ops (map EF.number selector.now) c) }
 {
     let last = rows.len() - block;
     let stays = add_moved_up(rows, point, selector, scale, EF::ZERO);
@@ -108,9 +108,9 @@ fn add_moved_up<EF: Field>(
 ) -> EF
     requires { length rows.old ≡ 2 ^ (length point.now + length selector.now) }
     ensures rows { (a c : ℕ) → a < 2 ^ length point.now → c < 2 ^ length selector.now → entries EF.number rows.new (a * 2 ^ length selector.now + c)
-        ≡ plus EF.ops (entries EF.number rows.old (a * 2 ^ length selector.now + c))
-        (times EF.ops (shifted (EF.number before) (λ b. times EF.ops (EF.number scale) (weight EF.ops (map EF.number point.now) b)) a) (weight EF.ops (map EF.number selector.now) c)) }
-    ensures last { EF.number result ≡ times EF.ops (EF.number scale) (weight EF.ops (map EF.number point.now) (2 ^ length point.now - 1)) }
+        ≡ entries EF.number rows.old (a * 2 ^ length selector.now + c)
+        +⟨ EF.ops ⟩ shifted (EF.number before) (λ b. EF.number scale *⟨ EF.ops ⟩ weight EF.ops (map EF.number point.now) b) a *⟨ EF.ops ⟩ weight EF.ops (map EF.number selector.now) c }
+    ensures last { EF.number result ≡ EF.number scale *⟨ EF.ops ⟩ weight EF.ops (map EF.number point.now) (2 ^ length point.now - 1) }
 {
     let [first, rest @ ..] = point else {
         add_equality(rows, selector, before);

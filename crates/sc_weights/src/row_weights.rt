@@ -1,7 +1,7 @@
 //! What weights of rows are.
 
 ghost use Rattle.std.specs.Prelude.{◌≡◌, ℕ, ◌^◌, ◌<◌, length, map};
-ghost use Rattle.sc_definitions.specs.Ring.{plus, times};
+ghost use Rattle.sc_definitions.specs.Ring.{◌+⟨◌⟩◌, ◌*⟨◌⟩◌};
 ghost use Rattle.sc_definitions.specs.Tables.{value};
 ghost use Rattle.sc_definitions.specs.Statements.{Kind, arity_of, weight_of, true_value};
 ghost use Rattle.sc_table.specs.Polys.{variables_of, table_of};
@@ -19,7 +19,7 @@ pub trait RowWeights<EF: Field>: Drop {
         requires { arity_of (variables_of table.old) (kind self.now) ≡ variables_of table.old }
         ensures variables { variables_of table.new ≡ variables_of table.old }
         ensures table { (b : ℕ) → b < 2 ^ variables_of table.old → table_of EF.number table.new b
-            ≡ plus EF.ops (table_of EF.number table.old b) (times EF.ops (EF.number scale) (weight_of EF.ops (kind self.now) b)) };
+            ≡ table_of EF.number table.old b +⟨ EF.ops ⟩ EF.number scale *⟨ EF.ops ⟩ weight_of EF.ops (kind self.now) b };
 
     /// The sum over all rows of the table's entry times the weight. The table has as many variables as the statement's point.
     fn true_value<A: Field>(&self, table: &Poly<A>) -> EF

@@ -1,7 +1,7 @@
 //! Selecting weights: the powers of a scalar, or the products of a point's coordinates.
 
 ghost use Rattle.std.specs.Prelude.{◌≡◌, ℕ, ◌^◌, ◌<◌, length, map};
-ghost use Rattle.sc_definitions.specs.Ring.{plus, times, power};
+ghost use Rattle.sc_definitions.specs.Ring.{power, ◌+⟨◌⟩◌, ◌*⟨◌⟩◌};
 ghost use Rattle.sc_definitions.specs.Tables.{entries, monomial, sum_below, inner, value};
 
 use crate::row_weights::RowWeights;
@@ -50,7 +50,7 @@ impl<'a, F: Field, EF: ExtensionField<F>> RowWeights<EF> for Selector<'a, F> {
 // Adds `scale` times the powers of `var`, row after row.
 fn add_powers<F: Field, EF: Algebra<F>>(rows: &mut [EF], var: F, scale: EF)
     ensures { (b : ℕ) → b < length rows.old → entries EF.number rows.new b
-        ≡ plus EF.ops (entries EF.number rows.old b) (times EF.ops (EF.number scale) (power EF.ops (EF.embedding (F.number var)) b)) }
+        ≡ entries EF.number rows.old b +⟨ EF.ops ⟩ EF.number scale *⟨ EF.ops ⟩ power EF.ops (EF.embedding (F.number var)) b }
 {
     let mut power = scale;
     for row in rows.iter_mut() {
@@ -63,7 +63,7 @@ fn add_powers<F: Field, EF: Algebra<F>>(rows: &mut [EF], var: F, scale: EF)
 fn add_products<F: Field, EF: Algebra<F>>(rows: &mut [EF], z: &[F], scale: EF)
     requires { length rows.old ≡ 2 ^ length z.now }
     ensures { (b : ℕ) → b < 2 ^ length z.now → entries EF.number rows.new b
-        ≡ plus EF.ops (entries EF.number rows.old b) (times EF.ops (EF.number scale) (monomial EF.ops (map (λ x. EF.embedding (F.number x)) z.now) b)) }
+        ≡ entries EF.number rows.old b +⟨ EF.ops ⟩ EF.number scale *⟨ EF.ops ⟩ monomial EF.ops (map (λ x. EF.embedding (F.number x)) z.now) b }
 {
     let [first, rest @ ..] = z else {
         rows[0] = rows[0].add(scale);
@@ -76,7 +76,7 @@ fn add_products<F: Field, EF: Algebra<F>>(rows: &mut [EF], z: &[F], scale: EF)
 
 // The sum of the entries times the powers of `var`, the last entry first.
 fn powers_value<F: Field, A: Field, EF: Algebra<F> + Algebra<A>>(rows: &[A], var: F) -> EF
-    ensures { EF.number result ≡ sum_below EF.ops (length rows.now) (λ b. times EF.ops (⟦<EF as Algebra<A>>⟧.embedding (entries A.number rows.now b)) (power EF.ops (⟦<EF as Algebra<F>>⟧.embedding (F.number var)) b)) }
+    ensures { EF.number result ≡ sum_below EF.ops (length rows.now) (λ b. ⟦<EF as Algebra<A>>⟧.embedding (entries A.number rows.now b) *⟨ EF.ops ⟩ power EF.ops (⟦<EF as Algebra<F>>⟧.embedding (F.number var)) b) }
 {
     let mut sum = EF::ZERO;
     for row in rows.iter().rev() {

@@ -21,8 +21,8 @@ reading_failed = 6
 abbrev pub writing_failed : ℕ
 writing_failed = 7
 
-abbrev pub out_of_memory : ℕ
-out_of_memory = 8
+abbrev pub want_of_memory : ℕ
+want_of_memory = 8
 
 -- ---- what a run leaves
 
@@ -50,11 +50,11 @@ pub record IsCutShort (reads : Bool) (reply : List ℕ → Reply) (left left' wr
 
 -- This reply's status and whole text, or want of memory.
 abbrev pub WritesReply : Reply → Option (List ℕ) → Option (List ℕ) → ℕ → Type 0
-WritesReply reply written written' code = (code ≡ out_of_memory) ⊎ ((code ≡ code_of reply.outcome) × Appends written written' reply.text)
+WritesReply reply written written' code = (code ≡ want_of_memory) ⊎ ((code ≡ code_of reply.outcome) × Appends written written' reply.text)
 
 -- The reply's status and whole text, without a fault; or a failed write, a proper prefix and a fault; or want of memory, and the sink as it was.
 abbrev pub Responds : {K : Type 0} → (K → Option (List ℕ)) → (K → ℕ) → Reply → K → K → ℕ → Type 0
 Responds taken faults reply sink sink' code =
     ((code ≡ code_of reply.outcome) × Appends (taken sink) (taken sink') reply.text × (faults sink' ≡ faults sink))
     ⊎ ((code ≡ writing_failed) × ((count : ℕ) × (count < length reply.text) × Appends (taken sink) (taken sink') (take count reply.text)) × HasRisen (faults sink) (faults sink'))
-    ⊎ ((code ≡ out_of_memory) × (sink' ≡ sink))
+    ⊎ ((code ≡ want_of_memory) × (sink' ≡ sink))

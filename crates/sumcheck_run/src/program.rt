@@ -4,7 +4,7 @@ ghost use Rattle.sc_streams.specs.Faults.{HasRisen};
 ghost use Rattle.sumcheck_run.specs.Program.{audit_reply, bad_json, command_of, json_reply, max_input, reads_input, reply_of, too_long};
 ghost use Rattle.sumcheck_run.specs.Reply.{refused};
 ghost use Rattle.sumcheck_jobs.specs.Members.{misfit_text};
-ghost use Rattle.sumcheck_run.specs.Run.{IsAnswered, IsCutShort, IsRead, Responds, WritesReply, IsOfReply, told_usage, reading_failed, writing_failed, out_of_memory};
+ghost use Rattle.sumcheck_run.specs.Run.{IsAnswered, IsCutShort, IsRead, Responds, WritesReply, IsOfReply, told_usage, reading_failed, writing_failed, want_of_memory};
 
 use crate::command::{Command, needs_input, read_command};
 use crate::lines;
@@ -123,9 +123,9 @@ pub fn run<S: Source, K: Sink>(
         (K.taken sink.old) (K.taken sink.new) }
 
     // Statuses 6, a read failed, and 8, want of memory: nothing is written. There is no other status.
-    ensures silent { (result.code ≡ reading_failed) ⊎ (result.code ≡ out_of_memory)
+    ensures silent { (result.code ≡ reading_failed) ⊎ (result.code ≡ want_of_memory)
         → sink.new ≡ sink.old }
-    ensures no_other { result.code ≤ out_of_memory }
+    ensures no_other { result.code ≤ want_of_memory }
 
     // A command that reads nothing leaves the source as it was.
     ensures untouched { reads_input (command_of (map string_bytes words.now)) ≡ false
@@ -134,7 +134,7 @@ pub fn run<S: Source, K: Sink>(
     // Usage exactly where the words are no command, write faults and want of memory aside.
     ensures usage { result.code ≡ told_usage → command_of (map string_bytes words.now) ≡ None }
     ensures no_command { command_of (map string_bytes words.now) ≡ None
-        → (result.code ≡ told_usage) ⊎ (result.code ≡ writing_failed) ⊎ (result.code ≡ out_of_memory) }
+        → (result.code ≡ told_usage) ⊎ (result.code ≡ writing_failed) ⊎ (result.code ≡ want_of_memory) }
 
     // Where the source tells its bytes and neither has a fault: the reply to all of them, memory aside.
     ensures headline { (input : List ℕ) → S.left source.old ≡ Some input

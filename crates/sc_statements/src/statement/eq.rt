@@ -2,10 +2,10 @@
 
 ghost use Rattle.std.specs.Prelude.{◌≡◌, ◌+◌, ◌<◌, ◌↔◌, [], ◌∷◌, ◌++◌, All, length, map, slice_index, IsTrue, IsOk, IfOk, OnOk, OnErr, true, false};
 ghost use Rattle.std.specs.Iterator.{YieldsFirstBy, item_count};
-ghost use Rattle.sc_definitions.specs.Ring.{plus, power};
+ghost use Rattle.sc_definitions.specs.Ring.{power, ◌+⟨◌⟩◌};
 ghost use Rattle.sc_definitions.specs.Statements.{equality, claims, arity_of, AllTrueOf, true_values, claimed_values, weights_at, batched_claim};
 ghost use Rattle.sc_table.specs.Polys.{variables_of, table_of};
-ghost use Rattle.sc_statements.specs.Batches.{AddsBatch, WritesBatch, IsUnchanged};
+ghost use Rattle.sc_statements.specs.Batches.{gathered, AddsBatch, WritesBatch, IsUnchanged};
 
 use crate::evaluated::EvaluatedConstraint;
 use crate::list::{StatementList, add_batch, add_values, all_true};
@@ -172,7 +172,7 @@ impl<EF: Field> EqStatement<EF> {
     /// the power `shift + i`.
     pub fn combine_evals(&self, claimed_eval: &mut EF, gamma: EF, shift: usize)
         ensures { EF.number claimed_eval.new
-            ≡ plus EF.ops (EF.number claimed_eval.old) (batched_claim EF.ops (EF.number gamma) shift (eq_statements EF.number self.now)) }
+            ≡ EF.number claimed_eval.old +⟨ EF.ops ⟩ batched_claim EF.ops (EF.number gamma) shift (eq_statements EF.number self.now) }
     {
         let first = gamma.exp_u64(shift as u64);
         let _next = add_values(self, claimed_eval, gamma, first);
@@ -200,12 +200,12 @@ impl<EF: Field> EqStatement<EF> {
         requires { variables_of acc_weights.old ≡ eq_arity self.now }
         ensures variables { variables_of acc_weights.new ≡ variables_of acc_weights.old }
         ensures added { OnOk result (IsTrue INITIALIZED → AddsBatch EF.ops (eq_arity self.now) (EF.number challenge) shift (eq_statements EF.number self.now)
-            (table_of EF.number acc_weights.old) (table_of EF.number acc_weights.new) (EF.number acc_sum.old) (EF.number acc_sum.new)) }
+            (gathered (table_of EF.number acc_weights.old) (EF.number acc_sum.old)) (gathered (table_of EF.number acc_weights.new) (EF.number acc_sum.new))) }
         ensures overwritten { OnOk result (INITIALIZED ≡ false → 0 < length (eq_statements EF.number self.now) →
             WritesBatch EF.ops (eq_arity self.now) (EF.number challenge) shift (eq_statements EF.number self.now)
-            (table_of EF.number acc_weights.new) (EF.number acc_sum.old) (EF.number acc_sum.new)) }
+            (EF.number acc_sum.old) (gathered (table_of EF.number acc_weights.new) (EF.number acc_sum.new))) }
         ensures empty { eq_statements EF.number self.now ≡ [] → IsUnchanged (eq_arity self.now)
-            (table_of EF.number acc_weights.old) (table_of EF.number acc_weights.new) (EF.number acc_sum.old) (EF.number acc_sum.new) }
+            (gathered (table_of EF.number acc_weights.old) (EF.number acc_sum.old)) (gathered (table_of EF.number acc_weights.new) (EF.number acc_sum.new)) }
         ensures answered { IsOk result }
     {
         if self.is_empty() {

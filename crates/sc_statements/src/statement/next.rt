@@ -1,11 +1,11 @@
 //! Successor statements: that a table has given values through the successor map, in slots that selectors fix.
 
 ghost use Rattle.std.specs.Prelude.{◌≡◌, ◌+◌, ◌<◌, ◌↔◌, [], ◌∷◌, ◌++◌, length, map, slice_index, All, IsTrue, IsOk, IfOk, OnOk, OnErr};
-ghost use Rattle.sc_definitions.specs.Ring.{plus};
+ghost use Rattle.sc_definitions.specs.Ring.{◌+⟨◌⟩◌};
 ghost use Rattle.sc_definitions.specs.Statements.{successor, claims, AllTrueOf, true_values, claimed_values, weights_at, batched_claim};
 ghost use Rattle.sc_table.specs.Polys.{variables_of, table_of};
 ghost use Rattle.sc_table.specs.Strategy.{order_of};
-ghost use Rattle.sc_statements.specs.Batches.{AddsBatch};
+ghost use Rattle.sc_statements.specs.Batches.{gathered, AddsBatch};
 
 use crate::evaluated::EvaluatedConstraint;
 use crate::list::{StatementList, add_batch, add_values, all_true};
@@ -164,7 +164,7 @@ impl<EF: Field> NextStatement<EF> {
     /// the power `shift + i`.
     pub fn combine_evals(&self, claimed_eval: &mut EF, gamma: EF, shift: usize)
         ensures { EF.number claimed_eval.new
-            ≡ plus EF.ops (EF.number claimed_eval.old) (batched_claim EF.ops (EF.number gamma) shift (next_statements EF.number self.now)) }
+            ≡ EF.number claimed_eval.old +⟨ EF.ops ⟩ batched_claim EF.ops (EF.number gamma) shift (next_statements EF.number self.now) }
     {
         let first = gamma.exp_u64(shift as u64);
         let _next = add_values(self, claimed_eval, gamma, first);
@@ -186,7 +186,7 @@ impl<EF: Field> NextStatement<EF> {
         requires { variables_of acc_weights.old ≡ next_arity self.now }
         ensures variables { variables_of acc_weights.new ≡ variables_of acc_weights.old }
         ensures added { OnOk result (AddsBatch EF.ops (next_arity self.now) (EF.number challenge) shift (next_statements EF.number self.now)
-            (table_of EF.number acc_weights.old) (table_of EF.number acc_weights.new) (EF.number acc_sum.old) (EF.number acc_sum.new)) }
+            (gathered (table_of EF.number acc_weights.old) (EF.number acc_sum.old)) (gathered (table_of EF.number acc_weights.new) (EF.number acc_sum.new))) }
         ensures answered { IsOk result }
     {
         let first = challenge.exp_u64(shift as u64);

@@ -2,10 +2,10 @@
 
 ghost use Rattle.std.specs.Prelude.{◌≡◌, ◌+◌, ◌<◌, ◌↔◌, [], ◌∷◌, ◌++◌, length, map, slice_index, IsTrue, IsOk, IfOk, OnOk, OnErr, ◌*◌, vec_len, All};
 ghost use Rattle.std.specs.Iterator.{YieldsFirstBy, item_count};
-ghost use Rattle.sc_definitions.specs.Ring.{plus};
+ghost use Rattle.sc_definitions.specs.Ring.{◌+⟨◌⟩◌};
 ghost use Rattle.sc_definitions.specs.Statements.{powers, products, claims, arity_of, AllTrueOf, true_values, claimed_values, weights_at, batched_claim};
 ghost use Rattle.sc_table.specs.Polys.{variables_of, table_of};
-ghost use Rattle.sc_statements.specs.Batches.{AddsBatch};
+ghost use Rattle.sc_statements.specs.Batches.{gathered, AddsBatch};
 
 use crate::list::{StatementList, add_batch, add_values, all_true};
 use crate::weights::Weights;
@@ -206,8 +206,8 @@ impl<F: Field, EF: ExtensionField<F>> SelectStatement<F, EF> {
     /// Adds to the sum the claimed values times the powers of `gamma`: that of statement number i times
     /// the power `shift + i`.
     pub fn combine_evals(&self, claimed_eval: &mut EF, gamma: EF, shift: usize)
-        ensures { EF.number claimed_eval.new ≡ plus EF.ops (EF.number claimed_eval.old)
-            (batched_claim EF.ops (EF.number gamma) shift (select_statements (λ x. EF.embedding (F.number x)) EF.number self.now)) }
+        ensures { EF.number claimed_eval.new ≡ EF.number claimed_eval.old
+            +⟨ EF.ops ⟩ batched_claim EF.ops (EF.number gamma) shift (select_statements (λ x. EF.embedding (F.number x)) EF.number self.now) }
     {
         let first = gamma.exp_u64(shift as u64);
         let _next = add_values(self, claimed_eval, gamma, first);
@@ -229,7 +229,7 @@ impl<F: Field, EF: ExtensionField<F>> SelectStatement<F, EF> {
         requires { variables_of acc_weights.old ≡ select_arity self.now }
         ensures variables { variables_of acc_weights.new ≡ variables_of acc_weights.old }
         ensures added { OnOk result (AddsBatch EF.ops (select_arity self.now) (EF.number challenge) shift (select_statements (λ x. EF.embedding (F.number x)) EF.number self.now)
-            (table_of EF.number acc_weights.old) (table_of EF.number acc_weights.new) (EF.number acc_sum.old) (EF.number acc_sum.new)) }
+            (gathered (table_of EF.number acc_weights.old) (EF.number acc_sum.old)) (gathered (table_of EF.number acc_weights.new) (EF.number acc_sum.new))) }
         ensures answered { IsOk result }
     {
         let first = challenge.exp_u64(shift as u64);

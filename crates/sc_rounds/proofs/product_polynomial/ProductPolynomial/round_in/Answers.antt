@@ -46,7 +46,7 @@ returns-clause-round g c =
     (λ k low. (let P : ℕ → Type 0 = λ n. k < 2 ^ n → table_of N c.fix_var-2.new.poly k ≡ bound_in evaluation order a n r (table_of N c.args.self.now.weights) k in
     subst P same (c.fix_var-2.ensures.bound k)) low))
     (image_next a b ra rb to image _ _ _ _ _ r s _ (g.met.EF.Field.number_below _) (g.met.EF.Field.number_below _) (g.met.EF.Field.number_below _) (g.met.EF.Field.number_below _)
-    c.into_transcript-c_a.ensures c.into_transcript-c_inf.ensures r_is c.reduce_claim.ensures)
+    c.into_transcript-c_a.ensures c.into_transcript-c_inf.ensures r_is c.reduce_claim.ensures.claim)
 
 pub returns-clause-sum : goal.returns-clause-sum
 returns-clause-sum g c =
@@ -62,7 +62,7 @@ returns-clause-sum g c =
     (λ k low. c.fix_var.ensures.bound k low)
     (λ k low. (let P : ℕ → Type 0 = λ n. k < 2 ^ n → table_of N c.fix_var-2.new.poly k ≡ bound_in evaluation order o n r (table_of N c.args.self.now.weights) k in
     subst P same (c.fix_var-2.ensures.bound k)) low)
-    c.reduce_claim.ensures
+    c.reduce_claim.ensures.claim
 
 pub returns-in-Err-clause-round : goal.returns-in-Err-clause-round
 unfolding entries rows_of

@@ -1,7 +1,7 @@
 use Rattle.std.proofs.Common.{refl, sym, subst, ◌∙◌}
 use Rattle.std.proofs.lemmas.List.{take_all}
 use Rattle.sc_statements.specs.Groups.{group_arity, group_statements, all_statements}
-use Rattle.sc_statements.specs.Batches.{AddsBatch}
+use Rattle.sc_statements.specs.Batches.{gathered, AddsBatch}
 use Rattle.sc_table.specs.Polys.{table_of}
 use Rattle.sc_table.proofs.EntryLaws.{entry-below}
 use Rattle.sc_statements.proofs.GroupSteps.{arity-of, IsCombined-none, IsCombined-more}
@@ -40,7 +40,7 @@ returns-clause-ok g c =
     let f = g.EF.Field in
     let self = c.args.self.now in
     subst (λ l. AddsBatch f.ops self.num_variables (f.number self.challenge) self.initial_power (all_statements (λ x. g.EF.Algebra.embedding (g.F.Field.number x)) f.number l)
-    (table_of f.number c.args.combined.now) (table_of f.number c.loop-group.combined) (f.number c.args.eval.now) (f.number c.loop-group.eval))
+    (gathered (table_of f.number c.args.combined.now) (f.number c.args.eval.now)) (gathered (table_of f.number c.loop-group.combined) (f.number c.loop-group.eval)))
     (take_all c.loop-group.group-index c.deref-group-items.result.now c.loop-group-test.false ∙ c.deref-group-items.ensures.value) c.loop-group.invariant.combined.added
 
 -- each step keeps the number of variables

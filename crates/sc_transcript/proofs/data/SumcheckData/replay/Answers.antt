@@ -51,7 +51,7 @@ rounds-preserved g c =
           c.rounds.challenges.items c.push_reserved.new.self.items c.in-Ok.r
           c.round_at.ensures.round
           (same_channel _ _ _ _ _ _ (before.continues.rules ∙ ap g.C.Challenger.rules begun.lent.same) (ap (λ s. s.pow_bits) (before.continues.shape ∙ begun.fresh.shape)))
-          before.replays round.takes.taken c.reduce_claim.ensures c.push_reserved.ensures.items;
+          before.replays round.takes.taken c.reduce_claim.ensures.claim c.push_reserved.ensures.items;
       played = round.takes.played ∙ ap (λ n. n + 1) before.played;
       len = rw (c.push_reserved.ensures.len, before.len) refl;
       room = rw c.push_reserved.ensures.capacity before.room;
