@@ -7,6 +7,8 @@ use Rattle.sc_definitions.specs.Standings.{Setting, Standing, IsRound, IsPlayed,
 use Rattle.sc_definitions.proofs.StandingLaws.{played_more}
 use Rattle.sc_transcript.specs.declared.error.SumcheckError.{SumcheckError}
 use Rattle.sc_transcript.specs.declared.error.SumcheckError.TheVariants.{NoMemory, NoWitness}
+use Rattle.sc_rounds.specs.Provers.{Stored, HoldsIfAny}
+use Rattle.sc_rounds.specs.HeldProducts.{HoldsBatch}
 use Rattle.sc_rounds.specs.Standings.{IsHalted, IsStopped, Batch, BreaksOff, LeavesBatch}
 
 -- ---- rounds, by other names of what they move
@@ -18,6 +20,10 @@ same_setting c c' o order order' ec eo = rw (ec, eo) refl
 pub played_at : (s s' : Setting) (t t' u u' : Standing) (rs rs' : List ℕ) → s ≡ s' → t ≡ t' → u ≡ u' → rs ≡ rs' → IsPlayed s t u rs → IsPlayed s' t' u' rs'
 played_at s s' t t' u u' rs rs' es et eu er p = rw (← es, ← et, ← eu, ← er) p
 
+-- what is held, by other names of the rounds
+pub holds_at : (s s' : Setting) (t t' : Standing) (rs rs' : List ℕ) (kept : Stored) → s ≡ s' → t ≡ t' → rs ≡ rs' → HoldsIfAny s t rs kept → HoldsIfAny s' t' rs' kept
+holds_at s s' t t' rs rs' kept es et er p = rw (← es, ← et, ← er) p
+
 -- a batch that got no memory before it began
 pub never_begun : {X : Type 0} (result : Result X SumcheckError) (challenges : X → List ℕ) (b : Batch) (u : Standing) →
     IsErrAnd result (λ e. e ≡ NoMemory) → u ≡ b.taken → LeavesBatch challenges b u result
@@ -28,6 +34,10 @@ never_begun (Err e) challenges b u memory none = rw memory (inl none)
 pub batch_as : {X : Type 0} (result : Result X SumcheckError) (challenges : X → List ℕ) (b b' : Batch) (u u' : Standing) → b ≡ b' → u ≡ u' →
     LeavesBatch challenges b u result → LeavesBatch challenges b' u' result
 batch_as result challenges b b' u u' eb eu p = subst (λ v. LeavesBatch challenges b' v result) eu (subst (λ d. LeavesBatch challenges d u result) eb p)
+
+-- what is held after a batch, by another name of it
+pub holds_as : (b b' : Batch) (rs : List ℕ) (kept : Stored) → b ≡ b' → HoldsBatch b rs kept → HoldsBatch b' rs kept
+holds_as b b' rs kept eb p = subst (λ d. HoldsBatch d rs kept) eb p
 
 -- no challenge yet, by another name
 pub as_none : (s : Setting) (t : Standing) (rs : List ℕ) → rs ≡ [] → IsPlayed s t t [] → IsPlayed s t t rs

@@ -1,9 +1,12 @@
 pub mod PairRounds
+pub mod HeldLaws
 pub mod MappedRounds
+pub mod HeldRounds
+pub mod HeldImages
 pub mod RepresentedLaws
 pub mod BatchLaws
 pub mod TakenLaws
 pub mod ShownLaws
 pub mod ConstraintPoints
 pub mod InStep
-pub mod AddedEntries
+pub mod MovedEntries

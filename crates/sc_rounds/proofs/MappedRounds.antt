@@ -2,7 +2,7 @@
 use Rattle.std.proofs.Common.{◌≡◌, ℕ, zero, suc, ◌+◌, ◌*◌, ◌^◌, ◌<◌, List, [], ◌∷◌, map, slice_index, refl, ap, sym, ◌∙◌}
 use Rattle.std.proofs.Math.Path.{fun_ext}
 use Rattle.sc_definitions.specs.Ring.{Ops, IsRing, IsRingMap, plus, times, minus}
-use Rattle.sc_definitions.specs.Tables.{evaluation, Order, prefix, suffix, entries, sum_below, inner, bound, bound_low, bound_in}
+use Rattle.sc_definitions.specs.Tables.{evaluation, Order, prefix, suffix, entries, rows_of, sum_below, inner, bound, bound_low, bound_in}
 use Rattle.sc_definitions.specs.Messages.{low_entry, high_entry, first_term, leading_term, message_first, message_leading, message_of}
 use Rattle.sc_definitions.specs.Polynomials.{poly_at}
 use Rattle.sc_definitions.specs.Rounds.{sent_pair, sent_polynomial, next_claim}
@@ -44,6 +44,16 @@ module _ (a b : Ops) (ra : IsRing a) (rb : IsRing b) (h : ℕ → ℕ) (m : IsRi
   below_entries number low [] k = size_pos a ra
   below_entries number low (x ∷ xs) zero = low x
   below_entries number low (x ∷ xs) (suc k) = below_entries number low xs k
+
+  mapped_rows : (ns : List ℕ) (k : ℕ) → rows_of (map h ns) k ≡ h (rows_of ns k)
+  unfolding rows_of
+  mapped_rows [] k = sym m.zero_kept
+  mapped_rows (n ∷ ns) zero = refl
+  mapped_rows (n ∷ ns) (suc k) = mapped_rows ns k
+
+  -- the entries of a list of numbers
+  pub image_rows : (ns : List ℕ) → rows_of (map h ns) ≡ image (rows_of ns)
+  image_rows ns = fun_ext (mapped_rows ns)
 
   low_image : (order : Order) (f : ℕ → ℕ) (k : ℕ) → low_entry order (image f) k ≡ h (low_entry order f k)
   unfolding low_entry

@@ -3,7 +3,7 @@ use Rattle.std.proofs.Common.{◌≡◌, ◌↔◌, ℕ, ◌^◌, ◌<◌, List,
 use Rattle.std.proofs.lemmas.Bool.{eqb-true, eq-eqb}
 use Rattle.std.proofs.lemmas.List.{length-map}
 use Rattle.std.proofs.lemmas.Grind.{same_number_lists}
-use Rattle.sc_definitions.specs.Ring.{Ops, plus}
+use Rattle.sc_definitions.specs.Ring.{Ops, plus, times}
 use Rattle.sc_definitions.specs.Tables.{entries, rows_of, inner}
 use Rattle.sc_definitions.proofs.StandingLaws.{entries-is}
 use Rattle.sc_table.specs.Polys.{variables_of, table_of}
@@ -11,7 +11,7 @@ use Rattle.sc_table.specs.declared.poly.Poly.{Poly}
 use Rattle.sc_statements.specs.Batches.{gathered, AddsBatch}
 use Rattle.sc_rounds.specs.declared.product_polynomial.ProductPolynomial.{ProductPolynomial}
 use Rattle.sc_rounds.specs.Products.{numbers_of, variables_in, order_in, evals_in, weights_in, sum_in}
-use Rattle.sc_rounds.specs.Provers.{Stated, shown_of, sum_with, IsTrueClaim, with_added, weight_of, claim_of}
+use Rattle.sc_rounds.specs.Provers.{Stated, shown_of, sum_with, IsTrueClaim, with_added, with_scaled, weight_of, claim_of}
 use Rattle.sc_rounds.proofs.PairRounds.{pair_rows, sized, same_lists}
 
 -- a table by the list of its numbers
@@ -49,6 +49,16 @@ module _ {F EF : Type 0} (number : EF → ℕ) where
       let more = entries-is (variables_in p) (numbers_of number p'.weights) _ ((pair_rows number p').1 ∙ ap (λ n. 2 ^ n) variables) weights in
       λ i. record { order = order i; variables = variables i; evals = same i; weights = more i; claim = claim i }
 
+  -- the weights and the claim are multiplied
+  pub shown_scaled : (o : Ops) (p p' : ProductPolynomial F EF) (s s' : EF) (k : ℕ) → variables_in p' ≡ variables_in p → order_in p' ≡ order_in p →
+      evals_in number p' ≡ evals_in number p → ((b : ℕ) → b < 2 ^ variables_in p → weights_in number p' b ≡ times o (weights_in number p b) k) →
+      number s' ≡ times o (number s) k → shown_of number p' s' ≡ with_scaled o (shown_of number p s) k
+  unfolding entries rows_of
+  shown_scaled o p p' s s' k variables order evals weights claim =
+      let same = same_lists number _ _ p.evals.evals.items p'.evals.evals.items (pair_rows number p).0 (pair_rows number p').0 variables evals in
+      let more = entries-is (variables_in p) (numbers_of number p'.weights) _ ((pair_rows number p').1 ∙ ap (λ n. 2 ^ n) variables) weights in
+      λ i. record { order = order i; variables = variables i; evals = same i; weights = more i; claim = claim i }
+
   -- a constraint is taken in
   pub shown_taken : (o : Ops) (p p' : ProductPolynomial F EF) (s s' : EF) (c : Stated) → variables_in p' ≡ variables_in p → order_in p' ≡ order_in p →
       evals_in number p' ≡ evals_in number p → AddsBatch o (variables_in p) c.challenge c.power c.statements (gathered (weights_in number p) (number s)) (gathered (weights_in number p') (number s')) →
@@ -63,6 +73,11 @@ module _ {F EF : Type 0} (number : EF → ℕ) where
   pub true_shown : (o : Ops) (p : ProductPolynomial F EF) (s : EF) → number s ≡ sum_in o number p → IsTrueClaim o (shown_of number p s)
   true_shown o p s true_sum =
       true_sum ∙ sym (sum_shown o p s (rows_of (numbers_of number p.weights)) ∙ ap (inner o (variables_in p) (evals_in number p)) (rows-numbers number p.weights.evals.items))
+
+  -- and back
+  pub true_of : (o : Ops) (p : ProductPolynomial F EF) (s : EF) → IsTrueClaim o (shown_of number p s) → number s ≡ sum_in o number p
+  true_of o p s true_claim =
+      true_claim ∙ sum_shown o p s (rows_of (numbers_of number p.weights)) ∙ ap (inner o (variables_in p) (evals_in number p)) (rows-numbers number p.weights.evals.items)
 
 -- the numbers of a table that a call answers
 pub numbers_if_ok : {A B E : Type 0} (number : A → ℕ) (image : B → ℕ) (p : Poly A) (r : Result (Poly B) E) → IfOk r (λ q. variables_of q ≡ variables_of p) →

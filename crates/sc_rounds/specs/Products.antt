@@ -1,7 +1,9 @@
 -- A pair of tables, by the numbers of its entries.
-use Rattle.std.specs.Prelude.{ℕ, List, map}
+use Rattle.std.specs.Prelude.{◌≡◌, ℕ, ◌+◌, ◌^◌, ◌<◌, List, map}
 use Rattle.sc_definitions.specs.Ring.{Ops}
-use Rattle.sc_definitions.specs.Tables.{Order, inner}
+use Rattle.sc_definitions.specs.Tables.{evaluation, Order, inner, bound_in}
+use Rattle.sc_definitions.specs.Messages.{message_of}
+use Rattle.sc_definitions.specs.Standings.{half_rows}
 use Rattle.sc_table.specs.Polys.{variables_of, table_of}
 use Rattle.sc_table.specs.Strategy.{order_of}
 use Rattle.sc_table.specs.declared.poly.Poly.{Poly}
@@ -30,3 +32,16 @@ weights_in number p = table_of number p.weights
 -- the sum over all rows of the product of the two
 abbrev pub sum_in : {F EF : Type 0} → Ops → (EF → ℕ) → ProductPolynomial F EF → ℕ
 sum_in o number p = inner o (variables_in p) (evals_in number p) (weights_in number p)
+
+-- the message of a round on the two
+abbrev pub pair_message : {F EF : Type 0} → Ops → (EF → ℕ) → ProductPolynomial F EF → List ℕ
+pair_message o number p = message_of evaluation (order_in p) o (half_rows (variables_in p)) (evals_in number p) (weights_in number p)
+
+-- Both tables have the variable that comes next bound at r.
+pub record BindsPair {F EF : Type 0} (o : Ops) (number : EF → ℕ) (r : ℕ) (old new : ProductPolynomial F EF) : Type 0 where
+  pub order : order_in new ≡ order_in old
+  pub fewer : variables_in old ≡ variables_in new + 1
+  pub evals : (b : ℕ) → b < 2 ^ variables_in new →
+      evals_in number new b ≡ bound_in evaluation (order_in old) o (variables_in new) r (evals_in number old) b
+  pub weights : (b : ℕ) → b < 2 ^ variables_in new →
+      weights_in number new b ≡ bound_in evaluation (order_in old) o (variables_in new) r (weights_in number old) b

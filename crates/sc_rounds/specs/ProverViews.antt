@@ -15,13 +15,17 @@ use Rattle.sc_transcript.specs.declared.transcript.SumcheckShape.{SumcheckShape}
 use Rattle.sc_transcript.specs.declared.data.SumcheckData.{SumcheckData}
 use Rattle.sc_rounds.specs.declared.strategy.SumcheckProver.{SumcheckProver}
 use Rattle.sc_rounds.specs.declared.strategy.repr.ReprSumcheckProver.{ReprSumcheckProver}
-use Rattle.sc_rounds.specs.Provers.{Shown, Stated, shown_of, setting_at, standing_at, stated, stated_if_some, IsTrueConstraint, IsTrueIfSome, with_taken}
+use Rattle.sc_rounds.specs.Provers.{Shown, Stored, Stated, held_shown, stored_of, imaged, setting_at, standing_at, stated, stated_if_some, IsTrueConstraint, IsTrueIfSome, with_taken}
 use Rattle.sc_rounds.specs.Standings.{Batch, batch_at}
 
 module _ {F EF : Type 0} {f : FieldOf F} {p : PartialEqOf F} {x : ExtensionOf EF F} {a : AlgebraOf EF F} {e : FieldOf EF} {q : PartialEqOf EF} where
   -- what a prover shows
   abbrev pub shown_by : SumcheckProver F EF f p x a e q → Shown
-  shown_by s = shown_of e.number s.poly s.sum
+  shown_by s = held_shown e.ops e.number s.rounds.poly s.rounds.held s.rounds.sum
+
+  -- what is kept of it
+  abbrev pub stored_by : SumcheckProver F EF f p x a e q → Stored
+  stored_by s = stored_of e.number s.rounds.poly s.rounds.held
 
   -- a constraint as it takes it in, if there is one
   abbrev pub stated_to : SumcheckProver F EF f p x a e q → Option (Constraint F EF) → Option Stated
@@ -52,7 +56,11 @@ module _ {F EF R : Type 0} {f : FieldOf F} {p : PartialEqOf F} {x : ExtensionOf 
     {t : FromTableOf R EF} {r : FieldOf R} {k : PartialEqOf R} where
   -- what a prover over a representation shows, by the images of its numbers
   abbrev pub image_shown_by : ReprSumcheckProver F EF R f p x a e q t r k → Shown
-  image_shown_by s = shown_of (λ y. t.to_number (r.number y)) s.poly s.sum
+  image_shown_by s = imaged t.to_number (held_shown r.ops r.number s.rounds.poly s.rounds.held s.rounds.sum)
+
+  -- what is kept of it
+  abbrev pub image_stored_by : ReprSumcheckProver F EF R f p x a e q t r k → Stored
+  image_stored_by s = stored_of (λ y. t.to_number (r.number y)) s.rounds.poly s.rounds.held
 
   -- where its rounds stand
   abbrev pub image_standing_of : ReprSumcheckProver F EF R f p x a e q t r k → SumcheckData F EF → List Event → Standing

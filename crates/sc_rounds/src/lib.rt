@@ -6,6 +6,7 @@
 #![tactic(auto)]
 
 mod eval_constraints;
+mod held_product;
 mod laws;
 mod product_polynomial;
 mod strategy;

@@ -8,10 +8,10 @@ ghost use Rattle.sc_statements.specs.Constraints.{constraint_arity, constraint_c
 ghost use Rattle.sc_statements.specs.Batches.{gathered, AddsBatch};
 
 use sc_challenger::Challenger;
-use sc_field::{ExtensionField, Field, IntoTranscriptField, NoMemory, with_room};
+use sc_field::{ExtensionField, Field, IntoTranscriptField, NoMemory};
 use sc_statements::Constraint;
-use sc_table::{Basis, Point, Poly, VariableOrder};
-use sc_transcript::{ProverTranscript, SumcheckData, SumcheckError, SumcheckShape};
+use sc_table::{Basis, Point, Poly, RoundMessage, VariableOrder};
+use sc_transcript::{ProverTranscript, SumcheckData, SumcheckError};
 use std::alloc::Global;
 use std::marker::PhantomData;
 
@@ -26,11 +26,10 @@ pub struct ProductPolynomial<F, EF> {
 }
 
 impl<F: Field, EF: ExtensionField<F>> ProductPolynomial<F, EF> {
-    ghost use Rattle.sc_definitions.specs.Channels.{channel};
     ghost use Rattle.sc_transcript.specs.Data.{wire_in, spare_in};
     ghost use Rattle.sc_transcript.specs.Drivers.{driver_in, Continues, HasRoundLeft, HasRoom};
-    ghost use Rattle.sc_rounds.specs.Products.{variables_in, order_in, evals_in, weights_in, sum_in};
-    ghost use Rattle.sc_rounds.specs.Standings.{setting_in, standing_in, setting_on, standing_on, Moves, MovesHonestly, Counts, TakesItsRoom, PlaysAll, batch_at, LeavesBatch};
+    ghost use Rattle.sc_rounds.specs.Products.{variables_in, order_in, evals_in, weights_in, sum_in, pair_message, BindsPair};
+    ghost use Rattle.sc_rounds.specs.Standings.{setting_on, standing_on, Moves, MovesHonestly, Counts, TakesItsRoom};
 
     /// The pair of these tables, which have as many variables.
     pub fn new_unpacked(order: VariableOrder, evals: Poly<EF>, weights: Poly<EF>) -> Self
@@ -228,75 +227,48 @@ impl<F: Field, EF: ExtensionField<F>> ProductPolynomial<F, EF> {
         Ok(drawn)
     }
 
-    // Plays so many rounds of a transcript, as `round_in`, as it has left, and appends their challenges to a list that has room for them. The sum is
-    // `dot_product`.
-    pub(crate) fn play<G: Field, EG: ExtensionField<G>, C: Challenger<G>>(
-        &mut self,
-        sumcheck_data: &mut SumcheckData<G, EG>,
-        transcript: &mut ProverTranscript<'_, C, G, EG>,
-        sum: &mut EF,
-        challenges: &mut Vec<EG>,
-    ) -> Result<(), SumcheckError>
-    where
-        EF: IntoTranscriptField<EG>,
-        requires variables { (driver_in transcript.old).shape.num_rounds ≤ variables_in self.old }
-        requires none_played { (driver_in transcript.old).played ≡ 0 }
-        requires sum { EF.number sum.old ≡ sum_in EF.ops EF.number self.old }
-        requires empty { challenges.old.items ≡ [] }
-        requires room { (driver_in transcript.old).shape.num_rounds ≤ vec_capacity challenges.old }
-        ensures continues { Continues (driver_in transcript.old) (driver_in transcript.new) }
-        ensures order { order_in self.new ≡ order_in self.old }
-        ensures sum { EF.number sum.new ≡ sum_in EF.ops EF.number self.new }
-        ensures left { variables_in self.new + (driver_in transcript.new).played ≡ variables_in self.old }
-        ensures rounds { PlaysAll (setting_on EG.extension EG.ops self.old transcript.old)
-            (standing_on (λ x. EF.to_number (EF.number x)) EG.number self.old sum.old transcript.old sumcheck_data.old)
-            (standing_on (λ x. EF.to_number (EF.number x)) EG.number self.new sum.new transcript.new sumcheck_data.new)
-            (map EG.number challenges.new.items) (driver_in transcript.new) result }
+    // The message of a round. A variable is left.
+    pub(crate) fn measure(&self) -> RoundMessage<EF>
+        requires { 0 < variables_in self.now }
+        ensures { EF.number result.c_a ∷ EF.number result.c_inf ∷ [] ≡ pair_message EF.ops EF.number self.now }
     {
-        for _round in 0..transcript.shape().num_rounds {
-            match self.round_in::<G, EG, C>(sumcheck_data, transcript, sum) {
-                Ok(r) => challenges.push_reserved(r),
-                Err(error) => return Err(error),
-            }
-        }
-        Ok(())
+        let (evals, weights) = (self.evals.as_slice(), self.weights.as_slice());
+        self.order.sumcheck_coefficients::<EF, EF>(evals, weights)
     }
 
-    // Seeds a transcript and plays a batch of rounds in it, as `play`, whose challenges it answers. The sum is `dot_product`.
-    pub(crate) fn play_batch<G: Field, EG: ExtensionField<G>, C: Challenger<G>>(
-        &mut self,
-        alloc: Global,
-        sumcheck_data: &mut SumcheckData<G, EG>,
-        challenger: &mut C,
-        shape: SumcheckShape,
-        sum: &mut EF,
-    ) -> Result<Point<EG>, SumcheckError>
-    where
-        EF: IntoTranscriptField<EG>,
-        requires variables { shape.num_rounds ≤ variables_in self.old }
-        requires difficulty { shape.pow_bits ≤ (C.rules challenger.old).max_bits }
-        requires sum { EF.number sum.old ≡ sum_in EF.ops EF.number self.old }
-        ensures rules { C.rules challenger.new ≡ C.rules challenger.old }
-        ensures order { order_in self.new ≡ order_in self.old }
-        ensures sum { EF.number sum.new ≡ sum_in EF.ops EF.number self.new }
-        ensures batch { LeavesBatch (map EG.number)
-            (batch_at (setting_in (channel (C.rules challenger.old) EG.extension G.ops.size shape.pow_bits) EG.ops self.old)
-            (standing_in (λ x. EF.to_number (EF.number x)) self.old sum.old (C.history challenger.old) (wire_in G.number EG.number sumcheck_data.old)) EG.DEGREE shape)
-            (standing_in (λ x. EF.to_number (EF.number x)) self.new sum.new (C.history challenger.new) (wire_in G.number EG.number sumcheck_data.new)) result }
+    // Binds the variable that comes next.
+    pub(crate) fn bind(&mut self, r: EF)
+        requires { 0 < variables_in self.old }
+        ensures { BindsPair EF.ops EF.number (EF.number r) self.old self.new }
     {
-        let mut challenges = with_room(alloc, shape.num_rounds)?;
-        shape.seed::<G, EG, C>(alloc, challenger)?;
-        let mut transcript = ProverTranscript::over(challenger, shape);
-        match self.play::<G, EG, C>(sumcheck_data, &mut transcript, sum, &mut challenges) {
-            Ok(()) => {
-                transcript.finish();
-                Ok(Point::new(challenges))
-            }
-            Err(error) => {
-                transcript.abort();
-                Err(error)
-            }
-        }
+        self.order.fix_var::<EF, EF>(&mut self.evals, r);
+        self.order.fix_var::<EF, EF>(&mut self.weights, r);
+    }
+
+    // Binds the variable that comes next, and gives the message of the round that binds the one after it, in one pass.
+    pub(crate) fn bind_and_measure(&mut self, r: EF) -> RoundMessage<EF>
+        requires { 1 < variables_in self.old }
+        ensures bound { BindsPair EF.ops EF.number (EF.number r) self.old self.new }
+        ensures message { EF.number result.c_a ∷ EF.number result.c_inf ∷ [] ≡ pair_message EF.ops EF.number self.new }
+    {
+        let ProductPolynomial {
+            order,
+            evals,
+            weights,
+            of: _,
+        } = self;
+        order.fold_and_round_coefficients::<EF, EF>(evals, weights, r)
+    }
+
+    // The weights times a value. The evaluations stay.
+    pub(crate) fn scale_weights(&mut self, scale: EF)
+        ensures variables { variables_in self.new ≡ variables_in self.old }
+        ensures order { order_in self.new ≡ order_in self.old }
+        ensures evals { evals_in EF.number self.new ≡ evals_in EF.number self.old }
+        ensures weights { (b : ℕ) → b < 2 ^ variables_in self.old
+            → weights_in EF.number self.new b ≡ weights_in EF.number self.old b *⟨ EF.ops ⟩ EF.number scale }
+    {
+        scale_entries(self.weights.as_mut_slice(), scale);
     }
 }
 
@@ -320,5 +292,15 @@ fn add_entries<EF: Field>(totals: &mut [EF], values: &[EF])
 {
     for i in 0..totals.len() {
         totals[i] = totals[i].add(values[i]);
+    }
+}
+
+// Multiplies each entry by the scale.
+fn scale_entries<EF: Field>(values: &mut [EF], scale: EF)
+    ensures { (b : ℕ) → b < length values.old
+        → entries EF.number values.new b ≡ entries EF.number values.old b *⟨ EF.ops ⟩ EF.number scale }
+{
+    for i in 0..values.len() {
+        values[i] = values[i].mul(scale);
     }
 }

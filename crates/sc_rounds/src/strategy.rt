@@ -1,18 +1,29 @@
 //! The prover of a sumcheck.
-ghost use Rattle.std.specs.Prelude.{◌≡◌, ◌↔◌, ℕ, ◌<◌, ◌≤◌, ◌^◌, Err, IfOk, IfErr, OnErr, IsTrue, Some, length, map};
+ghost use Rattle.std.specs.Prelude.{◌≡◌, ◌↔◌, ℕ, ◌<◌, ◌≤◌, ◌^◌, Err, IfOk, IfErr, OnErr, IsTrue, None, Some, [], ◌∷◌, length, map};
 ghost use Rattle.std.specs.Borrow.{sem};
 ghost use Rattle.std.specs.Io.BufRead.{Rests};
 ghost use Rattle.sc_definitions.specs.Tables.{entries, rows_of, value};
 ghost use Rattle.sc_table.specs.Polys.{variables_of};
 ghost use Rattle.sc_table.specs.Strategy.{order_of};
 ghost use Rattle.sc_rounds.specs.Products.{sum_in, numbers_of};
-ghost use Rattle.sc_rounds.specs.Provers.{shown_of, sum_with, IsTrueClaim, with_added};
+ghost use Rattle.sc_rounds.specs.Provers.{
+  shown_of,
+  held_shown,
+  number_if_some,
+  honest_shown,
+  with_bound,
+  with_scaled,
+  sum_with,
+  IsTrueClaim,
+  with_added,
+};
 
+use crate::held_product::HeldProduct;
 use crate::product_polynomial::ProductPolynomial;
 use sc_challenger::Challenger;
 use sc_field::{ExtensionField, Field, NoMemory};
 use sc_statements::Constraint;
-use sc_table::{Basis, Point, Poly, VariableOrder};
+use sc_table::{Basis, Point, Poly, RoundMessage, VariableOrder};
 use sc_transcript::{SumcheckData, SumcheckError, SumcheckShape};
 use std::alloc::Global;
 
@@ -20,27 +31,33 @@ mod repr;
 
 pub use repr::ReprSumcheckProver;
 
-/// A prover: a pair of tables, and the claim that the sum over all rows of evaluation times weight has a value, which is always true. Each challenge
-/// is bound at once.
+/// A prover: a pair of tables, and the claim that the sum over all rows of evaluation times weight has
+/// a value, which is always true.
+///
+/// The last challenge of a batch is held: the tables are not bound at it before the next round measures
+/// them, which does both in one pass, or before somebody asks what they are.
 #[derive(Drop)]
 pub struct SumcheckProver<F: Field, EF: ExtensionField<F>> {
-    poly: ProductPolynomial<F, EF>,
-    sum: EF,
-    ghost true_sum: { EF.number sum ≡ sum_in EF.ops EF.number poly },
+    rounds: HeldProduct<F, EF>,
+    ghost true_sum: { IsTrueClaim EF.ops (held_shown EF.ops EF.number rounds.poly rounds.held rounds.sum) },
 }
 
 impl<F: Field, EF: ExtensionField<F>> SumcheckProver<F, EF> {
     ghost use Rattle.sc_transcript.specs.Shapes.{shape_of};
     ghost use Rattle.sc_rounds.specs.Standings.{LeavesBatch};
-    ghost use Rattle.sc_rounds.specs.ProverViews.{shown_by, IsTrueOf, IsNoneOrTrueOf, shown_with, standing_of, batch_of};
+    ghost use Rattle.sc_rounds.specs.HeldProducts.{Holds, HoldsBatch};
+    ghost use Rattle.sc_rounds.specs.ProverViews.{shown_by, stored_by, IsTrueOf, IsNoneOrTrueOf, shown_with, standing_of, batch_of};
     ghost use Rattle.sc_rounds.specs.contracts.strategy.SumcheckProver.{the_row};
 
     /// A prover of a claim that is true, as [`SumcheckProver::sum_is_true`] tests.
     pub fn new(poly: ProductPolynomial<F, EF>, sum: EF) -> Self
         requires { EF.number sum ≡ sum_in EF.ops EF.number poly }
-        ensures { shown_by result ≡ shown_of EF.number poly sum }
+        ensures shown { shown_by result ≡ shown_of EF.number poly sum }
+        ensures outstanding { (stored_by result).held ≡ None }
     {
-        SumcheckProver { poly, sum }
+        SumcheckProver {
+            rounds: HeldProduct::new(poly, sum),
+        }
     }
 
     /// Whether the sum over all rows of evaluation times weight is this one. It takes no memory.
@@ -57,27 +74,66 @@ impl<F: Field, EF: ExtensionField<F>> SumcheckProver<F, EF> {
         // It is the sum over all rows of evaluation times weight.
         ensures true_sum { IsTrueClaim EF.ops (shown_by self.now) }
     {
-        self.sum
+        self.rounds.sum
     }
 
-    /// How many variables are left.
+    /// How many variables are left. That of a challenge which is held is none of them.
     pub fn num_variables(&self) -> usize
         ensures { result ≡ (shown_by self.now).variables }
     {
-        self.poly.num_variables()
+        self.rounds.num_variables()
     }
 
     /// The order in which rounds bind the variables.
     pub fn order(&self) -> VariableOrder
         ensures { order_of result ≡ (shown_by self.now).order }
     {
-        self.poly.order()
+        self.rounds.poly.order()
     }
 
-    /// Binds a challenge that is still held. None is: each is bound at once.
+    /// The challenge that is held.
+    pub fn outstanding(&self) -> Option<EF>
+        ensures { number_if_some EF.number result ≡ (stored_by self.now).held }
+    {
+        self.rounds.held
+    }
+
+    /// Binds the challenge that is held. Where none is, nothing changes.
     pub fn settle(&mut self)
-        ensures { shown_by self.new ≡ shown_by self.old }
-    {}
+        ensures kept { shown_by self.new ≡ shown_by self.old }
+        ensures settled { (stored_by self.new).held ≡ None }
+    {
+        self.rounds.settle();
+    }
+
+    /// The message of the next round, which binds a held challenge on the way. A variable is left.
+    pub fn measure_round(&mut self) -> RoundMessage<EF>
+        requires { 0 < (shown_by self.old).variables }
+        ensures kept { shown_by self.new ≡ shown_by self.old }
+        ensures settled { (stored_by self.new).held ≡ None }
+        ensures message { EF.number result.c_a ∷ EF.number result.c_inf ∷ [] ≡ honest_shown EF.ops (shown_by self.old) }
+    {
+        self.rounds.measure()
+    }
+
+    /// Moves the claim to what the message of [`SumcheckProver::measure_round`] sends at `r`, which is
+    /// held. A variable is left, and no challenge is held.
+    pub fn bind_round(&mut self, m: RoundMessage<EF>, r: EF)
+        requires left { 0 < (shown_by self.old).variables }
+        requires settled { (stored_by self.old).held ≡ None }
+        requires message { EF.number m.c_a ∷ EF.number m.c_inf ∷ [] ≡ honest_shown EF.ops (shown_by self.old) }
+        ensures bound { shown_by self.new ≡ with_bound EF.ops (shown_by self.old) (EF.number r) }
+        ensures holds { Holds (shown_by self.old) (EF.number r) (stored_by self.new) }
+    {
+        self.rounds.bind(m, r);
+    }
+
+    /// Multiplies the weights and the claim by a value. The evaluations stay.
+    pub fn scale_weights_and_claim(&mut self, scale: EF)
+        ensures { shown_by self.new ≡ with_scaled EF.ops (shown_by self.old) (EF.number scale) }
+    {
+        self.rounds.scale(scale);
+    }
 
     /// The bound evaluations, in memory of their own.
     pub fn evals(&mut self, alloc: Global) -> Result<Poly<EF>, NoMemory>
@@ -85,7 +141,8 @@ impl<F: Field, EF: ExtensionField<F>> SumcheckProver<F, EF> {
         ensures variables { IfOk result (λ p. variables_of p ≡ (shown_by self.old).variables) }
         ensures table { IfOk result (λ p. numbers_of EF.number p ≡ (shown_by self.old).evals) }
     {
-        self.poly.evals(alloc)
+        self.rounds.settle();
+        self.rounds.poly.evals(alloc)
     }
 
     /// The bound weights, in memory of their own.
@@ -94,7 +151,8 @@ impl<F: Field, EF: ExtensionField<F>> SumcheckProver<F, EF> {
         ensures variables { IfOk result (λ p. variables_of p ≡ (shown_by self.old).variables) }
         ensures table { IfOk result (λ p. numbers_of EF.number p ≡ (shown_by self.old).weights) }
     {
-        self.poly.weights(alloc)
+        self.rounds.settle();
+        self.rounds.poly.weights(alloc)
     }
 
     /// The value of the bound table of evaluations alone, at a point of as many coordinates as variables are left.
@@ -103,7 +161,8 @@ impl<F: Field, EF: ExtensionField<F>> SumcheckProver<F, EF> {
         ensures kept { shown_by self.new ≡ shown_by self.old }
         ensures number { EF.number result ≡ value EF.ops (rows_of (shown_by self.old).evals) (map EF.number point.now) }
     {
-        self.poly.eval(point)
+        self.rounds.settle();
+        self.rounds.poly.eval(point)
     }
 
     /// Whether a constraint is on tables of as many variables as are left, and its batched claim is the sum over all rows of evaluation times its
@@ -116,13 +175,14 @@ impl<F: Field, EF: ExtensionField<F>> SumcheckProver<F, EF> {
         ensures kept { shown_by self.new ≡ shown_by self.old }
         ensures told { IfOk result (λ told. IsTrue told ↔ IsTrueOf self.old c.now) }
     {
-        if c.num_variables() != self.poly.num_variables() {
+        self.rounds.settle();
+        let poly = &self.rounds.poly;
+        if c.num_variables() != poly.num_variables() {
             return Ok(false);
         }
-        let evals = self.poly.evals(alloc)?;
-        let weights = self.poly.weights(alloc)?;
-        let mut combined = ProductPolynomial::new_unpacked(self.poly.order(), evals, weights);
-        let mut sum = self.sum;
+        let (evals, weights) = (poly.evals(alloc)?, poly.weights(alloc)?);
+        let mut combined = ProductPolynomial::new_unpacked(poly.order(), evals, weights);
+        let mut sum = self.rounds.sum;
         combined.combine(alloc, &mut sum, c)?;
         Ok(SumcheckProver::sum_is_true(&combined, sum))
     }
@@ -133,7 +193,8 @@ impl<F: Field, EF: ExtensionField<F>> SumcheckProver<F, EF> {
         ensures numbers { map EF.number result.now ≡ (shown_by self.old).evals }
         ensures size { length result.now ≡ 2 ^ (shown_by self.old).variables }
     {
-        self.poly.evals_view()
+        self.rounds.settle();
+        self.rounds.poly.evals_view()
     }
 
     /// Whether the sum over all rows of evaluation times these values, as many as there are rows, is this one. It takes no memory.
@@ -142,7 +203,8 @@ impl<F: Field, EF: ExtensionField<F>> SumcheckProver<F, EF> {
         ensures kept { shown_by self.new ≡ shown_by self.old }
         ensures told { IsTrue result ↔ (EF.number sum_delta ≡ sum_with EF.ops (shown_by self.old) (entries EF.number weights_delta.now)) }
     {
-        self.poly.dot_with(weights_delta).index() == sum_delta.index()
+        self.rounds.settle();
+        self.rounds.poly.dot_with(weights_delta).index() == sum_delta.index()
     }
 
     /// Adds to the weights, row by row, as many values as there are rows, and to the claim their sum times the evaluations, as
@@ -152,9 +214,7 @@ impl<F: Field, EF: ExtensionField<F>> SumcheckProver<F, EF> {
         requires sum { EF.number sum_delta ≡ sum_with EF.ops (shown_by self.old) (entries EF.number weights_delta.now) }
         ensures { shown_by self.new ≡ with_added EF.ops (shown_by self.old) (entries EF.number weights_delta.now) (EF.number sum_delta) }
     {
-        let SumcheckProver { poly, sum } = self;
-        poly.add_weights(weights_delta);
-        *sum = sum.add(sum_delta);
+        self.rounds.add(weights_delta, sum_delta);
     }
 
     /// Plays a batch of rounds, one for each of the next `folding_factor` variables, at a difficulty of at most the challenger's
@@ -180,11 +240,16 @@ impl<F: Field, EF: ExtensionField<F>> SumcheckProver<F, EF> {
         ensures batch { LeavesBatch (map EF.number)
             (batch_of self.old constraint sumcheck_data.old (C.rules challenger.old) (C.history challenger.old) (shape_of folding_factor pow_bits Basis.Evaluation))
             (standing_of self.new sumcheck_data.new (C.history challenger.new)) result }
+
+        // The last challenge is held, and the stored tables have all others bound.
+        ensures holds { IfOk result (λ rs. HoldsBatch
+            (batch_of self.old constraint sumcheck_data.old (C.rules challenger.old) (C.history challenger.old) (shape_of folding_factor pow_bits Basis.Evaluation))
+            (map EF.number rs) (stored_by self.new)) }
     {
         self.take_in_if_some(alloc, constraint);
         let shape = SumcheckShape::new(folding_factor, pow_bits, Basis::Evaluation);
-        self.poly
-            .play_batch::<F, EF, C>(alloc, sumcheck_data, challenger, shape, &mut self.sum)
+        self.rounds
+            .play_batch::<F, EF, C>(alloc, sumcheck_data, challenger, shape)
     }
 
     // Takes in a constraint, if there is one, which is true.
@@ -193,15 +258,7 @@ impl<F: Field, EF: ExtensionField<F>> SumcheckProver<F, EF> {
         ensures { shown_by self.new ≡ shown_with self.old constraint }
     {
         if let Some(constraint) = constraint {
-            self.take_in(alloc, &constraint);
+            self.rounds.take_in(alloc, &constraint);
         }
-    }
-
-    // Adds the batch of a true constraint to the weights and to the claim.
-    fn take_in(&mut self, alloc: Global, constraint: &Constraint<F, EF>)
-        requires { IsTrueOf self.old constraint.now }
-        ensures { shown_by self.new ≡ shown_with self.old (Some constraint.now) }
-    {
-        self.poly.combine(alloc, &mut self.sum, constraint).unwrap();
     }
 }

@@ -254,6 +254,38 @@ fn batches_on_images_follow_on_each_other(rt: HostRuntime) {
     }
 }
 
+// The number of the challenge that a prover holds.
+fn held(prover: &Prover) -> Option<u64> {
+    match prover.outstanding() {
+        Some(r) => Some(r.index()),
+        None => None,
+    }
+}
+
+// The challenge that the prover on the elements holds is carried across.
+#[test]
+fn a_held_challenge_is_carried_across(rt: HostRuntime) {
+    for batches in &BATCHES {
+        let mut elements = plain(rt.alloc(), batches).expect(&rt, "an answer");
+        let mut data = SumcheckData::new(rt.alloc());
+        let mut challenger = scripted(rt.alloc(), &[]).expect(&rt, "an answer");
+        let drawn = play_plain(rt.alloc(), &mut elements, &mut data, &mut challenger, 1, 0);
+        assert!(rt; drew(&drawn, &[2]));
+        let mut prover: Prover = ReprSumcheckProver::new(rt.alloc(), elements).expect(
+            &rt,
+            "an answer",
+        );
+        assert!(rt; (held(&prover), prover.num_variables()) == (Some(2), 1));
+        let drawn = play(rt.alloc(), &mut prover, &mut data, &mut challenger, 1, 0);
+        assert!(rt; drew(&drawn, &[4]));
+        assert_eq!(rt; held(&prover), Some(4));
+        prover.settle();
+        assert_eq!(rt; held(&prover), None);
+        assert!(rt; stands(rt.alloc(), &mut prover, &batches.after[1].1) == Ok(true));
+        assert!(rt; is_data(&data, batches.messages, &[]));
+    }
+}
+
 // Whether a batch of two tested rounds on the elements draws 2 and 4, and its data is as wanted.
 fn is_played_plain(
     alloc: Global,

@@ -4,6 +4,7 @@ ghost use Rattle.sc_table.specs.Polys.{variables_of};
 ghost use Rattle.sc_rounds.specs.Products.{variables_in};
 
 mod constraint;
+mod held;
 mod step;
 
 use sc_challenger::ScriptedChallenger;

@@ -4,10 +4,11 @@ ghost use Rattle.std.specs.Prelude.{◌≡◌, ℕ, ◌*◌, ◌/◌, ◌^◌, �
 ghost use Rattle.sc_definitions.specs.Tables.{evaluation, prefix, suffix, entries, bound, bound_low};
 ghost use Rattle.sc_definitions.specs.Messages.{message_first, message_leading};
 ghost use Rattle.sc_table.specs.Polys.{variables_of, table_of, IsFixed};
+ghost use Rattle.sc_table.specs.Strategy.{order_of};
 
 use crate::poly::{bind_halves, bind_pairs};
 use crate::strategy::BLOCK;
-use crate::{Poly, RoundMessage};
+use crate::{Poly, RoundMessage, VariableOrder};
 use sc_field::{Algebra, Field};
 
 /// Binds the first variable of two tables of values at `r`, in their places, and gives the message of the round that binds the next one.
@@ -129,4 +130,34 @@ fn bind_and_measure_pairs<A: Algebra<Ch>, Ch: Field>(
         from += pairs;
     }
     message
+}
+
+impl VariableOrder {
+    /// Binds the variable of two tables of values that comes next in this order at `r`, in their
+    /// places, and gives the message of the round that binds the one after it. Both tables have the
+    /// same two variables or more.
+    pub fn fold_and_round_coefficients<A: Algebra<Ch>, Ch: Field>(
+        self,
+        evals: &mut Poly<A>,
+        weights: &mut Poly<A>,
+        r: Ch,
+    ) -> RoundMessage<A>
+        requires same { variables_of evals.old ≡ variables_of weights.old }
+        requires two { 2 ≤ variables_of evals.old }
+        ensures evals { IsFixed (order_of self) A.ops A.number (A.embedding (Ch.number r)) evals.old evals.new }
+        ensures weights { IsFixed (order_of self) A.ops A.number (A.embedding (Ch.number r)) weights.old weights.new }
+
+        // The message is that of the bound tables.
+        ensures first { A.number result.c_a
+            ≡ message_first evaluation (order_of self) A.ops (2 ^ variables_of evals.new / 2)
+            (table_of A.number evals.new) (table_of A.number weights.new) }
+        ensures leading { A.number result.c_inf
+            ≡ message_leading evaluation (order_of self) A.ops (2 ^ variables_of evals.new / 2)
+            (table_of A.number evals.new) (table_of A.number weights.new) }
+    {
+        match self {
+            VariableOrder::Prefix => fold_and_round_coefficients_prefix(evals, weights, r),
+            VariableOrder::Suffix => fold_and_round_coefficients_suffix(evals, weights, r),
+        }
+    }
 }

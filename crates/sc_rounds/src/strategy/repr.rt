@@ -1,8 +1,10 @@
 //! The prover whose tables are held in a representation of the field in which the transcript is written.
-ghost use Rattle.std.specs.Prelude.{◌≡◌, ◌↔◌, ℕ, ◌≤◌, Err, IfOk, IfErr, OnErr, IsTrue, map};
+ghost use Rattle.std.specs.Prelude.{◌≡◌, ◌↔◌, ℕ, ◌≤◌, None, Err, IfOk, IfErr, OnErr, IsTrue, map};
 ghost use Rattle.sc_table.specs.Polys.{variables_of, table_of};
-ghost use Rattle.sc_rounds.specs.Products.{sum_in, numbers_of};
+ghost use Rattle.sc_rounds.specs.Products.{numbers_of};
+ghost use Rattle.sc_rounds.specs.Provers.{held_shown, number_if_some, IsTrueClaim};
 
+use crate::held_product::HeldProduct;
 use crate::product_polynomial::{ProductPolynomial, dot};
 use crate::strategy::SumcheckProver;
 use sc_challenger::Challenger;
@@ -19,26 +21,45 @@ use std::marker::PhantomData;
 /// `SumcheckProver` on the tables of the represented elements. What differs is what a multiplication costs.
 #[derive(Drop)]
 pub struct ReprSumcheckProver<F: Field, EF: ExtensionField<F>, R: IntoTranscriptField<EF>> {
-    poly: ProductPolynomial<R, R>,
-    sum: R,
+    rounds: HeldProduct<R, R>,
     of: PhantomData<(F, EF)>,
-    ghost true_sum: { R.number sum ≡ sum_in R.ops R.number poly },
+    ghost true_sum: { IsTrueClaim R.ops (held_shown R.ops R.number rounds.poly rounds.held rounds.sum) },
 }
 
 impl<F: Field, EF: ExtensionField<F>, R: IntoTranscriptField<EF>> ReprSumcheckProver<F, EF, R> {
     ghost use Rattle.sc_transcript.specs.Shapes.{shape_of};
     ghost use Rattle.sc_rounds.specs.Standings.{LeavesBatch};
-    ghost use Rattle.sc_rounds.specs.ProverViews.{shown_by, image_shown_by, image_standing_of, image_batch_of};
+    ghost use Rattle.sc_rounds.specs.HeldProducts.{HoldsBatch};
+    ghost use Rattle.sc_rounds.specs.ProverViews.{
+      shown_by,
+      stored_by,
+      image_shown_by,
+      image_stored_by,
+      image_standing_of,
+      image_batch_of,
+    };
     ghost use Rattle.sc_rounds.specs.Represented.{TablesAgree, tables_shown};
 
     /// The same prover with its tables and its claim in `R`. A prover that is refused is given up.
     pub fn new(alloc: Global, prover: SumcheckProver<F, EF>) -> Result<Self, NoMemory>
-        ensures { IfOk result (λ p. image_shown_by p ≡ shown_by prover) }
+        ensures shown { IfOk result (λ p. image_shown_by p ≡ shown_by prover) }
+
+        // A challenge that is held is carried across.
+        ensures stored { IfOk result (λ p. image_stored_by p ≡ stored_by prover) }
     {
-        let SumcheckProver { poly, sum } = prover;
+        let HeldProduct { poly, held, sum } = prover.rounds;
         let (order, evals, weights) = poly.into_tables();
+        let evals = represented(alloc, evals)?;
         let weights = represented(alloc, weights)?;
-        ReprSumcheckProver::from_tables(alloc, order, evals, weights, sum)
+        let rounds = HeldProduct {
+            poly: ProductPolynomial::new_unpacked(order, evals, weights),
+            held: image_if_some(held),
+            sum: R::from_element(sum),
+        };
+        Ok(ReprSumcheckProver {
+            rounds,
+            of: PhantomData,
+        })
     }
 
     /// The prover on evaluations in `EF` and weights that are in `R` already, of as many variables, and a claim that is true, as
@@ -56,8 +77,7 @@ impl<F: Field, EF: ExtensionField<F>, R: IntoTranscriptField<EF>> ReprSumcheckPr
         let evals = represented(alloc, evals)?;
         let poly = ProductPolynomial::new_unpacked(order, evals, weights);
         Ok(ReprSumcheckProver {
-            poly,
-            sum: R::from_element(sum),
+            rounds: HeldProduct::new(poly, R::from_element(sum)),
             of: PhantomData,
         })
     }
@@ -75,20 +95,33 @@ impl<F: Field, EF: ExtensionField<F>, R: IntoTranscriptField<EF>> ReprSumcheckPr
     pub fn claimed_sum(&self) -> EF
         ensures { EF.number result ≡ (image_shown_by self.now).claim }
     {
-        self.sum.into_transcript()
+        self.rounds.sum.into_transcript()
     }
 
-    /// How many variables are left.
+    /// How many variables are left. That of a challenge which is held is none of them.
     pub fn num_variables(&self) -> usize
         ensures { result ≡ (image_shown_by self.now).variables }
     {
-        self.poly.num_variables()
+        self.rounds.num_variables()
     }
 
-    /// Binds a challenge that is still held. None is: each is bound at once.
+    /// The challenge that is held.
+    pub fn outstanding(&self) -> Option<EF>
+        ensures { number_if_some EF.number result ≡ (image_stored_by self.now).held }
+    {
+        match self.rounds.held {
+            Some(r) => Some(r.into_transcript()),
+            None => None,
+        }
+    }
+
+    /// Binds the challenge that is held. Where none is, nothing changes.
     pub fn settle(&mut self)
-        ensures { image_shown_by self.new ≡ image_shown_by self.old }
-    {}
+        ensures kept { image_shown_by self.new ≡ image_shown_by self.old }
+        ensures settled { (image_stored_by self.new).held ≡ None }
+    {
+        self.rounds.settle();
+    }
 
     /// The bound evaluations, as they are held, in memory of their own.
     pub fn evals(&mut self, alloc: Global) -> Result<Poly<R>, NoMemory>
@@ -96,7 +129,8 @@ impl<F: Field, EF: ExtensionField<F>, R: IntoTranscriptField<EF>> ReprSumcheckPr
         ensures variables { IfOk result (λ p. variables_of p ≡ (image_shown_by self.old).variables) }
         ensures table { IfOk result (λ p. numbers_of (λ x. R.to_number (R.number x)) p ≡ (image_shown_by self.old).evals) }
     {
-        self.poly.evals(alloc)
+        self.rounds.settle();
+        self.rounds.poly.evals(alloc)
     }
 
     /// The bound weights, as they are held, in memory of their own.
@@ -105,7 +139,8 @@ impl<F: Field, EF: ExtensionField<F>, R: IntoTranscriptField<EF>> ReprSumcheckPr
         ensures variables { IfOk result (λ p. variables_of p ≡ (image_shown_by self.old).variables) }
         ensures table { IfOk result (λ p. numbers_of (λ x. R.to_number (R.number x)) p ≡ (image_shown_by self.old).weights) }
     {
-        self.poly.weights(alloc)
+        self.rounds.settle();
+        self.rounds.poly.weights(alloc)
     }
 
     /// Plays a batch of rounds, one for each of the next `folding_factor` variables, at a difficulty of at most the challenger's
@@ -127,10 +162,25 @@ impl<F: Field, EF: ExtensionField<F>, R: IntoTranscriptField<EF>> ReprSumcheckPr
         ensures batch { LeavesBatch (map EF.number)
             (image_batch_of self.old sumcheck_data.old (C.rules challenger.old) (C.history challenger.old) (shape_of folding_factor pow_bits Basis.Evaluation))
             (image_standing_of self.new sumcheck_data.new (C.history challenger.new)) result }
+
+        // The last challenge is held, and the stored tables have all others bound.
+        ensures holds { IfOk result (λ rs. HoldsBatch
+            (image_batch_of self.old sumcheck_data.old (C.rules challenger.old) (C.history challenger.old) (shape_of folding_factor pow_bits Basis.Evaluation))
+            (map EF.number rs) (image_stored_by self.new)) }
     {
         let shape = SumcheckShape::new(folding_factor, pow_bits, Basis::Evaluation);
-        self.poly
-            .play_batch::<F, EF, C>(alloc, sumcheck_data, challenger, shape, &mut self.sum)
+        self.rounds
+            .play_batch::<F, EF, C>(alloc, sumcheck_data, challenger, shape)
+    }
+}
+
+// The image of a value, if there is one.
+fn image_if_some<EF: Field, R: IntoTranscriptField<EF>>(value: Option<EF>) -> Option<R>
+    ensures { number_if_some (λ x. R.to_number (R.number x)) result ≡ number_if_some EF.number value }
+{
+    match value {
+        Some(x) => Some(R::from_element(x)),
+        None => None,
     }
 }
 

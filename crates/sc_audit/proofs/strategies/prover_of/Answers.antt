@@ -58,4 +58,4 @@ returns g c =
     let weights = entries-is n _ (weights_of o p) ((pair_rows N poly).1 ∙ ap (λ k. 2 ^ k) count)
     (λ b low. weights-batched o p b _ (ap (λ t. t b) c.new_unpacked-poly.ensures.weights ∙ c.in_ok-weights.ensures.weights b low)) in
     let claim = claim-batched o p _ c.in_ok-weights.ensures.claim in
-    c.new.ensures ∙ (λ i. record { order = c.new_unpacked-poly.ensures.order i; variables = count i; evals = evals i; weights = weights i; claim = claim i })
+    c.new.ensures.shown ∙ (λ i. record { order = c.new_unpacked-poly.ensures.order i; variables = count i; evals = evals i; weights = weights i; claim = claim i })

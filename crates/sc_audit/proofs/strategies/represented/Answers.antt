@@ -9,7 +9,7 @@ use Rattle.sc_audit.proofs.strategies.represented.Goals as goal
 -- each variable has had its round
 pub last_values-requires : goal.last_values-requires
 last_values-requires g c =
-    omega (arith, c.in-Ok.ensures.batch.whole, c.num_variables.ensures, ap (λ (s : Shown). s.variables) (c.in_ok-prover.ensures ∙ c.in_ok-prover_of.ensures))
+    omega (arith, c.in-Ok.ensures.batch.whole, c.num_variables.ensures, ap (λ (s : Shown). s.variables) (c.in_ok-prover.ensures.shown ∙ c.in_ok-prover_of.ensures))
 
 -- the rounds were built
 pub returns : goal.returns
@@ -19,7 +19,7 @@ returns g c =
     let q = asked_of job (g.C.Challenger.rules c.args.challenger.now) (g.C.Challenger.history c.args.challenger.now) in
     let ring = g.met.EF.Field.is_field.ring in
     let degree = sym g.met.EF.ExtensionField.degree_is in
-    let shows = c.in_ok-prover.ensures ∙ c.in_ok-prover_of.ensures in
+    let shows = c.in_ok-prover.ensures.shown ∙ c.in_ok-prover_of.ensures in
     let setting = same_setting q ring refl _ _ _ _ _ _ c.in_ok-copied.ensures.rules c.in_ok-copied.ensures.history shows c.new-rounds.ensures degree c.num_variables.ensures in
     let start = same_start q ring refl _ _ _ _ _ _ c.in_ok-copied.ensures.rules c.in_ok-copied.ensures.history shows c.new-rounds.ensures degree c.num_variables.ensures in
     let after = image_standing_of c.compute_sumcheck_polynomials.new.self c.compute_sumcheck_polynomials.new.sumcheck_data (g.C.Challenger.history c.compute_sumcheck_polynomials.new.challenger) in
@@ -34,7 +34,7 @@ returns-in-Err g c =
     let q = asked_of job (g.C.Challenger.rules c.args.challenger.now) (g.C.Challenger.history c.args.challenger.now) in
     let ring = g.met.EF.Field.is_field.ring in
     let degree = sym g.met.EF.ExtensionField.degree_is in
-    let shows = c.in_ok-prover.ensures ∙ c.in_ok-prover_of.ensures in
+    let shows = c.in_ok-prover.ensures.shown ∙ c.in_ok-prover_of.ensures in
     let setting = same_setting q ring refl _ _ _ _ _ _ c.in_ok-copied.ensures.rules c.in_ok-copied.ensures.history shows c.new-rounds.ensures degree c.num_variables.ensures in
     let start = same_start q ring refl _ _ _ _ _ _ c.in_ok-copied.ensures.rules c.in_ok-copied.ensures.history shows c.new-rounds.ensures degree c.num_variables.ensures in
     let after = image_standing_of c.compute_sumcheck_polynomials.new.self c.compute_sumcheck_polynomials.new.sumcheck_data (g.C.Challenger.history c.compute_sumcheck_polynomials.new.challenger) in

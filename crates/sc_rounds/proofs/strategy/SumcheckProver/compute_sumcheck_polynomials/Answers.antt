@@ -1,22 +1,47 @@
-use Rattle.std.proofs.Common.{ap, ◌∙◌, refl, map}
+use Rattle.std.proofs.Common.{ap, ◌∙◌, map}
+use Rattle.std.proofs.lemmas.Result.{IfOk-weaker}
 use Rattle.sc_definitions.specs.Channels.{channel}
 use Rattle.sc_transcript.specs.Data.{wire_in}
 use Rattle.sc_transcript.specs.declared.transcript.SumcheckShape.{SumcheckShape}
-use Rattle.sc_rounds.specs.Provers.{Shown, setting_at, standing_at}
+use Rattle.sc_rounds.specs.Provers.{Shown, held_shown, setting_at, standing_at}
+use Rattle.sc_rounds.specs.ProverViews.{shown_with}
 use Rattle.sc_rounds.specs.Standings.{Batch, batch_at}
-use Rattle.sc_rounds.proofs.BatchLaws.{batch_as}
+use Rattle.sc_rounds.proofs.BatchLaws.{batch_as, holds_as}
+use Rattle.sc_rounds.proofs.HeldLaws.{imaged_same}
 use Rattle.sc_rounds.proofs.strategy.SumcheckProver.compute_sumcheck_polynomials.Goals as goal
 
 -- a constraint was taken in, if there is one
 pub returns-clause-batch : goal.returns-clause-batch
 returns-clause-batch g c =
+    let o = g.EF.Field.ops in
+    let N = g.EF.Field.number in
     let R = g.C.Challenger.rules c.args.challenger.now in
     let H = g.C.Challenger.history c.args.challenger.now in
-    let W = wire_in g.F.Field.number g.EF.Field.number c.args.sumcheck_data.now in
-    let at : Shown → SumcheckShape → Batch = λ p shape.
-    batch_at (setting_at (channel R g.EF.ExtensionField.extension g.F.Field.ops.size shape.pow_bits) g.EF.Field.ops p) (standing_at p H W) g.EF.ExtensionField.DEGREE shape in
-    batch_as c.play_batch.result (map g.EF.Field.number) _ _ _ _ (ap (λ p. at p c.new-shape.result) c.take_in_if_some.ensures ∙ ap (at _) c.new-shape.ensures) refl c.play_batch.ensures.batch
+    let W = wire_in g.F.Field.number N in
+    let at : Shown → Shown → SumcheckShape → Batch = λ p q shape.
+    batch_at (setting_at (channel R g.EF.ExtensionField.extension g.F.Field.ops.size shape.pow_bits) o p) (standing_at q H (W c.args.sumcheck_data.now)) g.EF.ExtensionField.DEGREE shape in
+    let t = c.take_in_if_some.new.self.rounds in
+    let taken = held_shown o N t.poly t.held t.sum in
+    let wanted = shown_with c.args.self.now c.args.constraint in
+    let u = c.play_batch.new.self in
+    batch_as c.play_batch.result (map N) _ _ _ _
+    (ap (λ q. at taken q c.new-shape.result) (imaged_same taken) ∙ ap (λ p. at p p c.new-shape.result) c.take_in_if_some.ensures ∙ ap (at wanted wanted) c.new-shape.ensures)
+    (ap (λ q. standing_at q (g.C.Challenger.history c.play_batch.new.challenger) (W c.play_batch.new.sumcheck_data)) (imaged_same (held_shown o N u.poly u.held u.sum)))
+    c.play_batch.ensures.batch
 
--- a prover's sum is that of its tables
-pub play_batch-requires-clause-sum : goal.play_batch-requires-clause-sum
-play_batch-requires-clause-sum g c = c.take_in_if_some.new.self.true_sum
+pub returns-clause-holds : goal.returns-clause-holds
+returns-clause-holds g c =
+    let o = g.EF.Field.ops in
+    let N = g.EF.Field.number in
+    let R = g.C.Challenger.rules c.args.challenger.now in
+    let H = g.C.Challenger.history c.args.challenger.now in
+    let W = wire_in g.F.Field.number N in
+    let at : Shown → Shown → SumcheckShape → Batch = λ p q shape.
+    batch_at (setting_at (channel R g.EF.ExtensionField.extension g.F.Field.ops.size shape.pow_bits) o p) (standing_at q H (W c.args.sumcheck_data.now)) g.EF.ExtensionField.DEGREE shape in
+    let t = c.take_in_if_some.new.self.rounds in
+    let taken = held_shown o N t.poly t.held t.sum in
+    let wanted = shown_with c.args.self.now c.args.constraint in
+    IfOk-weaker c.play_batch.result _ _
+    (λ rs. holds_as _ _ (map N rs) _
+    (ap (λ q. at taken q c.new-shape.result) (imaged_same taken) ∙ ap (λ p. at p p c.new-shape.result) c.take_in_if_some.ensures ∙ ap (at wanted wanted) c.new-shape.ensures))
+    c.play_batch.ensures.holds

@@ -1,11 +1,13 @@
-use Rattle.std.proofs.Common.{◌≡◌, ap, ◌∙◌, sym}
+use Rattle.std.proofs.Common.{◌≡◌, ap, ◌∙◌, sym, subst}
 use Rattle.std.proofs.lemmas.Result.{IfOk-from_err}
 use Rattle.sc_definitions.specs.Tables.{inner}
 use Rattle.sc_definitions.specs.Statements.{batched_weight, batched_claim}
 use Rattle.sc_statements.specs.Constraints.{constraint_arity, constraint_challenge, constraint_power, constraint_statements}
-use Rattle.sc_rounds.specs.Products.{variables_in, evals_in, weights_in}
+use Rattle.sc_rounds.specs.Products.{variables_in, evals_in, weights_in, sum_in}
+use Rattle.sc_rounds.specs.Provers.{Shown, sum_with, IsTrueClaim}
+use Rattle.sc_rounds.proofs.HeldLaws.{none_held, settled_pair}
 use Rattle.sc_rounds.proofs.TakenLaws.{sum_taken, claim_taken}
-use Rattle.sc_rounds.proofs.ShownLaws.{sum_shown}
+use Rattle.sc_rounds.proofs.ShownLaws.{sum_shown, true_of}
 use Rattle.sc_rounds.proofs.strategy.SumcheckProver.constraint_is_true.Goals as goal
 
 pub returns-clause-told : goal.returns-clause-told
@@ -13,7 +15,9 @@ returns-clause-told g c =
     let o = g.EF.Field.ops in
     let ring = g.met.EF.Field.is_field.ring in
     let N = g.EF.Field.number in
-    let old = c.args.self.now in
+    let old = c.settle.new.self in
+    let same = settled_pair o N old.poly old.sum old.held _ c.settle.ensures.settled c.settle.ensures.kept in
+    let true_sum : N old.sum ≡ sum_in o N old.poly = true_of N o old.poly old.sum (subst (IsTrueClaim o) (none_held o N old.poly old.sum old.held c.settle.ensures.settled) old.true_sum) in
     let n = variables_in old.poly in
     let f = evals_in N old.poly in
     let w = weights_in N old.poly in
@@ -26,16 +30,16 @@ returns-clause-told g c =
     let evals : evals_in N pair ≡ f = c.new_unpacked-combined.ensures.evals ∙ c.in_ok-evals.ensures.table in
     let weights : weights_in N pair ≡ w = c.new_unpacked-combined.ensures.weights ∙ c.in_ok-weights.ensures.table in
     let begun : N old.sum ≡ inner o (variables_in pair) (evals_in N pair) (weights_in N pair) =
-    old.true_sum ∙ ap (λ k. inner o k f w) (sym size) ∙ ap (λ t. inner o (variables_in pair) t w) (sym evals) ∙ ap (inner o (variables_in pair) (evals_in N pair)) (sym weights) in
+    true_sum ∙ ap (λ k. inner o k f w) (sym size) ∙ ap (λ t. inner o (variables_in pair) t w) (sym evals) ∙ ap (inner o (variables_in pair) (evals_in N pair)) (sym weights) in
     let moved : inner o (variables_in end) (evals_in N end) (weights_in N end) ≡ inner o (variables_in pair) (evals_in N pair) (weights_in N end) =
     ap (λ k. inner o k (evals_in N end) (weights_in N end)) c.combine.ensures.variables ∙ ap (λ t. inner o (variables_in pair) t (weights_in N end)) c.combine.ensures.evals in
     let there : inner o (variables_in pair) (evals_in N pair) v ≡ inner o n f v = ap (λ k. inner o k (evals_in N pair) v) size ∙ ap (λ t. inner o n t v) evals in
     let added = c.combine.ensures.added in (
       λ told. record {
-        arity = arity;
-        claim = sum_shown N o old.poly old.sum v ∙ sym there ∙ claim_taken o ring _ _ _ _ _ _ _ _ _ begun (c.sum_is_true.ensures.0 told ∙ moved) added;
+        arity = arity ∙ ap (λ (s : Shown). s.variables) same;
+        claim = ap (λ (s : Shown). sum_with o s v) (sym same) ∙ sum_shown N o old.poly old.sum v ∙ sym there ∙ claim_taken o ring _ _ _ _ _ _ _ _ _ begun (c.sum_is_true.ensures.0 told ∙ moved) added;
       },
-      λ true_one. c.sum_is_true.ensures.1 (sum_taken o ring _ _ _ _ _ _ _ _ _ begun (there ∙ sym (sum_shown N o old.poly old.sum v) ∙ true_one.claim) added ∙ sym moved),
+      λ true_one. c.sum_is_true.ensures.1 (sum_taken o ring _ _ _ _ _ _ _ _ _ begun (there ∙ sym (sum_shown N o old.poly old.sum v) ∙ ap (λ (s : Shown). sum_with o s v) same ∙ true_one.claim) added ∙ sym moved),
     )
 
 -- a refusal tells nothing of an answer

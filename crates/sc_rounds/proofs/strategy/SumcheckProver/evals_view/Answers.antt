@@ -1,14 +1,20 @@
-use Rattle.std.proofs.Common.{refl}
+use Rattle.std.proofs.Common.{ap, ◌∙◌, ◌^◌, refl}
+use Rattle.sc_rounds.specs.Provers.{Shown}
+use Rattle.sc_rounds.proofs.HeldLaws.{settled_pair}
 use Rattle.sc_rounds.proofs.ShownLaws.{same_entries}
 use Rattle.sc_rounds.proofs.strategy.SumcheckProver.evals_view.Goals as goal
 
--- the prover is lent whole, and comes back as it was
+-- the prover is lent whole, with its tables settled
 pub returns : goal.returns
-returns g c = (
-  (refl, λ after. tt, refl),
-  record {
-    kept = tt;
-    numbers = same_entries g.EF.Field.number c.args.self.now.poly.evals _ c.evals_view.ensures.size c.evals_view.ensures.numbers;
-    size = c.evals_view.ensures.size;
-  },
-)
+returns g c =
+    let N = g.EF.Field.number in
+    let t = c.settle.new.self in
+    let e = c.settle.ensures in
+    let same = settled_pair g.EF.Field.ops N t.poly t.sum t.held _ e.settled e.kept in (
+      (refl, λ after. tt, e.kept),
+      record {
+        kept = tt;
+        numbers = same_entries N t.poly.evals _ c.evals_view.ensures.size c.evals_view.ensures.numbers ∙ ap (λ (s : Shown). s.evals) same;
+        size = c.evals_view.ensures.size ∙ ap (λ (s : Shown). 2 ^ s.variables) same;
+      },
+    )

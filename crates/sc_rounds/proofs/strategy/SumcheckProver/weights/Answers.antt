@@ -1,9 +1,22 @@
-use Rattle.std.proofs.Common.{◌∙◌}
+use Rattle.std.proofs.Common.{ap, ◌∙◌}
 use Rattle.std.proofs.lemmas.Result.{IfOk-weaker}
+use Rattle.sc_rounds.specs.Provers.{Shown}
+use Rattle.sc_rounds.proofs.HeldLaws.{settled_pair}
 use Rattle.sc_rounds.proofs.ShownLaws.{numbers_if_ok}
 use Rattle.sc_rounds.proofs.strategy.SumcheckProver.weights.Goals as goal
 
+pub returns-clause-variables : goal.returns-clause-variables
+returns-clause-variables g c =
+    let t = c.settle.new.self in
+    let e = c.settle.ensures in
+    let same = settled_pair g.EF.Field.ops g.EF.Field.number t.poly t.sum t.held _ e.settled e.kept in
+    IfOk-weaker c.weights.result _ _ (λ q size. size ∙ ap (λ (s : Shown). s.variables) same) c.weights.ensures.variables
+
 pub returns-clause-table : goal.returns-clause-table
 returns-clause-table g c =
-    let p = c.args.self.now.poly in
-    numbers_if_ok g.EF.Field.number g.EF.Field.number p.weights c.weights.result (IfOk-weaker c.weights.result _ _ (λ q size. size ∙ p.same) c.weights.ensures.variables) c.weights.ensures.table
+    let N = g.EF.Field.number in
+    let t = c.settle.new.self in
+    let e = c.settle.ensures in
+    let same = settled_pair g.EF.Field.ops N t.poly t.sum t.held _ e.settled e.kept in
+    IfOk-weaker c.weights.result _ _ (λ q is. is ∙ ap (λ (s : Shown). s.weights) same)
+    (numbers_if_ok N N t.poly.weights c.weights.result (IfOk-weaker c.weights.result _ _ (λ q size. size ∙ t.poly.same) c.weights.ensures.variables) c.weights.ensures.table)

@@ -1,15 +1,31 @@
-use Rattle.std.proofs.Common.{ℕ}
+use Rattle.std.proofs.Common.{ℕ, ap, sym, ◌∙◌}
+use Rattle.std.proofs.lemmas.Simd.{map-map}
 use Rattle.std.proofs.lemmas.Result.{IfOk-weaker}
+use Rattle.sc_rounds.specs.Provers.{Shown, imaged}
 use Rattle.sc_rounds.proofs.MappedRounds.{same_images}
+use Rattle.sc_rounds.proofs.HeldLaws.{settled_pair}
 use Rattle.sc_rounds.proofs.ShownLaws.{numbers_if_ok}
 use Rattle.sc_rounds.proofs.strategy.repr.ReprSumcheckProver.evals.Goals as goal
 
+pub returns-clause-variables : goal.returns-clause-variables
+returns-clause-variables g c =
+    let t = c.settle.new.self in
+    let e = c.settle.ensures in
+    let same = settled_pair g.R.Field.ops g.R.Field.number t.poly t.sum t.held _ e.settled e.kept in
+    IfOk-weaker c.evals.result _ _ (λ q size. size ∙ ap (λ (s : Shown). s.variables) same) c.evals.ensures.variables
+
 pub returns-clause-table : goal.returns-clause-table
 returns-clause-table g c =
-    let T : g.row.R.Denot → ℕ = λ x. g.R.FromTable.to_number (g.R.Field.number x) in
-    let table = c.args.self.now.poly.evals in
-    numbers_if_ok T T table c.evals.result c.evals.ensures.variables
+    let to = g.R.FromTable.to_number in
+    let N = g.R.Field.number in
+    let T : g.row.R.Denot → ℕ = λ x. to (N x) in
+    let t = c.settle.new.self in
+    let e = c.settle.ensures in
+    let same = settled_pair g.R.Field.ops N t.poly t.sum t.held _ e.settled e.kept in
+    let table = t.poly.evals in
+    IfOk-weaker c.evals.result _ _ (λ q is. is ∙ sym (map-map to N table.evals.items) ∙ ap (λ (s : Shown). (imaged to s).evals) same)
+    (numbers_if_ok T T table c.evals.result c.evals.ensures.variables
     (IfOk-weaker c.evals.result _ _
-    (λ p. same_images g.R.Field.ops g.EF.Field.ops g.met.R.Field.is_field.ring g.met.EF.Field.is_field.ring g.R.FromTable.to_number g.met.R.FromTable.represents.back
-    g.R.Field.number g.R.Field.number p.evals.items table.evals.items)
-    c.evals.ensures.table)
+    (λ p. same_images g.R.Field.ops g.EF.Field.ops g.met.R.Field.is_field.ring g.met.EF.Field.is_field.ring to g.met.R.FromTable.represents.back
+    N N p.evals.items table.evals.items)
+    c.evals.ensures.table))

@@ -1,8 +1,11 @@
 use Rattle.std.proofs.Common.{◌≡◌, ℕ, ◌∙◌, ap, sym}
+use Rattle.std.proofs.lemmas.Simd.{map-map}
 use Rattle.std.proofs.lemmas.Result.{IfOk-from_err}
 use Rattle.sc_definitions.specs.Tables.{inner}
 use Rattle.sc_table.specs.Polys.{variables_of}
 use Rattle.sc_rounds.specs.Products.{variables_in, evals_in, weights_in}
+use Rattle.sc_rounds.specs.Provers.{shown_of, imaged}
+use Rattle.sc_rounds.specs.Represented.{tables_shown}
 use Rattle.sc_rounds.proofs.MappedRounds.{mapped, below_entries, same_images}
 use Rattle.sc_rounds.proofs.RepresentedLaws.{represented_sum}
 use Rattle.sc_rounds.proofs.ShownLaws.{same_numbers}
@@ -17,13 +20,15 @@ returns g c =
     let same = same_images g.R.Field.ops g.EF.Field.ops g.met.R.Field.is_field.ring g.met.EF.Field.is_field.ring to represents.back N N in
     let poly = c.new_unpacked-poly.result in
     let size : variables_in poly ≡ variables_of c.args.evals = c.new_unpacked-poly.ensures.variables ∙ c.in_ok-evals.ensures.variables in
-    let evals = same_numbers g.EF.Field.number T c.args.evals poly.evals size (same _ _ c.new_unpacked-poly.ensures.evals ∙ c.in_ok-evals.ensures.images) in
-    let weights = same_numbers T T c.args.weights poly.weights (sym poly.same ∙ size ∙ c.requires.variables) (same _ _ c.new_unpacked-poly.ensures.weights) in
+    let evals = map-map to N poly.evals.evals.items ∙ same_numbers g.EF.Field.number T c.args.evals poly.evals size (same _ _ c.new_unpacked-poly.ensures.evals ∙ c.in_ok-evals.ensures.images) in
+    let weights = map-map to N poly.weights.evals.items ∙ same_numbers T T c.args.weights poly.weights (sym poly.same ∙ size ∙ c.requires.variables) (same _ _ c.new_unpacked-poly.ensures.weights) in
     let claim = ap to c.from_element.ensures ∙ represents.back_forth _ (g.met.EF.Field.number_below c.args.sum) in
-    λ i. record { order = c.new_unpacked-poly.ensures.order i; variables = size i; evals = evals i; weights = weights i; claim = claim i }
+    let parts : imaged to (shown_of N poly c.from_element.result) ≡ tables_shown g.EF.Field.number T c.args.order c.args.evals c.args.weights (g.EF.Field.number c.args.sum) =
+    λ i. record { order = c.new_unpacked-poly.ensures.order i; variables = size i; evals = evals i; weights = weights i; claim = claim i } in
+    ap (imaged to) c.new.ensures.shown ∙ parts
 
-pub invariant_of-result : goal.invariant_of-result
-invariant_of-result g c =
+pub new-requires : goal.new-requires
+new-requires g c =
     let r = g.R.Field.ops in let e = g.EF.Field.ops in
     let ring_r = g.met.R.Field.is_field.ring in let ring_e = g.met.EF.Field.is_field.ring in
     let to = g.R.FromTable.to_number in
@@ -33,15 +38,13 @@ invariant_of-result g c =
     let poly = c.new_unpacked-poly.result in
     let same = same_images r e ring_r ring_e to represents.back in
     let size : variables_in poly ≡ n = c.new_unpacked-poly.ensures.variables ∙ c.in_ok-evals.ensures.variables in
-    record {
-      true_sum = represented_sum e r ring_e ring_r g.R.FromTable.from_number to represents n (evals_in N poly) (weights_in N poly) _ _ _ _
-          (below_entries r e ring_r ring_e to represents.back N g.met.R.Field.number_below poly.evals.evals.items)
-          (below_entries r e ring_r ring_e to represents.back N g.met.R.Field.number_below poly.weights.evals.items)
-          (sym (same N N _ _ c.new_unpacked-poly.ensures.evals ∙ c.in_ok-evals.ensures.images) ∙ mapped r e ring_r ring_e to represents.back N poly.evals.evals.items)
-          (sym (same N N _ _ c.new_unpacked-poly.ensures.weights) ∙ mapped r e ring_r ring_e to represents.back N poly.weights.evals.items)
-          c.requires.true_sum c.from_element.ensures
-          ∙ ap (λ k. inner r k (evals_in N poly) (weights_in N poly)) (sym size);
-    }
+    represented_sum e r ring_e ring_r g.R.FromTable.from_number to represents n (evals_in N poly) (weights_in N poly) _ _ _ _
+    (below_entries r e ring_r ring_e to represents.back N g.met.R.Field.number_below poly.evals.evals.items)
+    (below_entries r e ring_r ring_e to represents.back N g.met.R.Field.number_below poly.weights.evals.items)
+    (sym (same N N _ _ c.new_unpacked-poly.ensures.evals ∙ c.in_ok-evals.ensures.images) ∙ mapped r e ring_r ring_e to represents.back N poly.evals.evals.items)
+    (sym (same N N _ _ c.new_unpacked-poly.ensures.weights) ∙ mapped r e ring_r ring_e to represents.back N poly.weights.evals.items)
+    c.requires.true_sum c.from_element.ensures
+    ∙ ap (λ k. inner r k (evals_in N poly) (weights_in N poly)) (sym size)
 
 -- a refusal tells nothing of an answer
 pub returns-in_err-evals : goal.returns-in_err-evals

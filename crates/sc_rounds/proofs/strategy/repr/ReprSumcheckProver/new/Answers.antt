@@ -1,36 +1,84 @@
-use Rattle.std.proofs.Common.{ℕ, ◌∙◌, sym, ap}
-use Rattle.std.proofs.lemmas.Result.{IfOk-weaker, IfOk-from_err}
-use Rattle.sc_definitions.specs.Tables.{inner}
-use Rattle.sc_table.specs.Polys.{variables_of, table_of}
+use Rattle.std.proofs.Common.{◌≡◌, ℕ, ap, sym, ◌∙◌, subst}
+use Rattle.std.proofs.lemmas.Simd.{map-map}
+use Rattle.std.proofs.lemmas.Result.{IfOk-from_err}
+use Rattle.sc_rounds.specs.Products.{variables_in}
+use Rattle.sc_rounds.specs.Provers.{held_shown, IsTrueClaim}
+use Rattle.sc_rounds.proofs.MappedRounds.{same_images}
 use Rattle.sc_rounds.proofs.ShownLaws.{same_numbers}
+use Rattle.sc_rounds.proofs.HeldImages.{held_below, image_held, true_back, left_for_image}
 use Rattle.sc_rounds.proofs.strategy.repr.ReprSumcheckProver.new.Goals as goal
 
-pub returns : goal.returns
-returns g c =
-    let N = g.EF.Field.number in
-    let T : g.row.R.Denot → ℕ = λ x. g.R.FromTable.to_number (g.R.Field.number x) in
+-- the tables, the challenge and the claim have the images of the prover's
+pub returns-clause-stored : goal.returns-clause-stored
+returns-clause-stored g c =
+    let represents = g.met.R.FromTable.represents in
+    let to = g.R.FromTable.to_number in
+    let N = g.R.Field.number in
+    let T : g.row.R.Denot → ℕ = λ x. to (N x) in
+    let p = c.args.prover.rounds.poly in
+    let q = c.new_unpacked.result in
     let tables = c.into_tables-order.ensures in
-    let poly = c.args.prover.poly in
-    let evals = same_numbers N N poly.evals c.into_tables-order.result.1 tables.variables tables.evals in
-    let weights = same_numbers N T poly.weights c.in_ok-weights.weights (c.in_ok-weights.ensures.variables ∙ tables.same ∙ poly.same) (c.in_ok-weights.ensures.images ∙ tables.weights) in
-    IfOk-weaker c.from_tables.result _ _
-    (λ p is. is ∙ (λ i. record { order = tables.order i; variables = tables.variables i; evals = evals i; weights = weights i; claim = N c.args.prover.sum })) c.from_tables.ensures
+    let same = same_images g.R.Field.ops g.EF.Field.ops g.met.R.Field.is_field.ring g.met.EF.Field.is_field.ring to represents.back N N in
+    let size : variables_in q ≡ variables_in p = c.new_unpacked.ensures.variables ∙ c.in_ok-evals.ensures.variables ∙ tables.variables in
+    let evals = same_numbers g.EF.Field.number T p.evals q.evals size (same _ _ c.new_unpacked.ensures.evals ∙ c.in_ok-evals.ensures.images ∙ tables.evals) in
+    let weights = same_numbers g.EF.Field.number T p.weights q.weights (sym q.same ∙ size ∙ p.same) (same _ _ c.new_unpacked.ensures.weights ∙ c.in_ok-weights.ensures.images ∙ tables.weights) in
+    λ i. record { evals = evals i; weights = weights i; held = c.image_if_some.ensures i }
 
-pub from_tables-requires : goal.from_tables-requires
-from_tables-requires g c =
-    let N = g.EF.Field.number in
-    let o = g.EF.Field.ops in
-    let T : g.row.R.Denot → ℕ = λ x. g.R.FromTable.to_number (g.R.Field.number x) in
+pub returns-clause-shown : goal.returns-clause-shown
+returns-clause-shown g c =
+    let represents = g.met.R.FromTable.represents in
+    let r = g.R.Field.ops in let e = g.EF.Field.ops in
+    let ring_r = g.met.R.Field.is_field.ring in let ring_e = g.met.EF.Field.is_field.ring in
+    let to = g.R.FromTable.to_number in
+    let N = g.R.Field.number in
+    let T : g.row.R.Denot → ℕ = λ x. to (N x) in
+    let t = c.args.prover.rounds in
+    let p = t.poly in
+    let q = c.new_unpacked.result in
     let tables = c.into_tables-order.ensures in
-    let poly = c.args.prover.poly in
-    let v = c.into_tables-order.result.1 in
+    let same = same_images r e ring_r ring_e to represents.back N N in
+    let size : variables_in q ≡ variables_in p = c.new_unpacked.ensures.variables ∙ c.in_ok-evals.ensures.variables ∙ tables.variables in
+    let evals = same_numbers g.EF.Field.number T p.evals q.evals size (same _ _ c.new_unpacked.ensures.evals ∙ c.in_ok-evals.ensures.images ∙ tables.evals) in
+    let weights = same_numbers g.EF.Field.number T p.weights q.weights (sym q.same ∙ size ∙ p.same) (same _ _ c.new_unpacked.ensures.weights ∙ c.in_ok-weights.ensures.images ∙ tables.weights) in
+    image_held r e ring_r ring_e to represents.back N g.EF.Field.number g.met.R.Field.number_below q p c.image_if_some.result t.held c.from_element.result t.sum
+    (c.new_unpacked.ensures.order ∙ tables.order) size (map-map to N q.evals.evals.items ∙ evals) (map-map to N q.weights.evals.items ∙ weights) c.image_if_some.ensures
+    (ap to c.from_element.ensures ∙ represents.back_forth _ (g.met.EF.Field.number_below t.sum))
+
+pub invariant_of-rounds : goal.invariant_of-rounds
+invariant_of-rounds g c =
+    let represents = g.met.R.FromTable.represents in
+    let r = g.R.Field.ops in let e = g.EF.Field.ops in
+    let ring_r = g.met.R.Field.is_field.ring in let ring_e = g.met.EF.Field.is_field.ring in
+    let to = g.R.FromTable.to_number in
+    let N = g.R.Field.number in
+    let T : g.row.R.Denot → ℕ = λ x. to (N x) in
+    let t = c.args.prover.rounds in
+    let p = t.poly in
+    let q = c.new_unpacked.result in
+    let tables = c.into_tables-order.ensures in
+    let same = same_images r e ring_r ring_e to represents.back N N in
+    let size : variables_in q ≡ variables_in p = c.new_unpacked.ensures.variables ∙ c.in_ok-evals.ensures.variables ∙ tables.variables in
+    let evals = same_numbers g.EF.Field.number T p.evals q.evals size (same _ _ c.new_unpacked.ensures.evals ∙ c.in_ok-evals.ensures.images ∙ tables.evals) in
+    let weights = same_numbers g.EF.Field.number T p.weights q.weights (sym q.same ∙ size ∙ p.same) (same _ _ c.new_unpacked.ensures.weights ∙ c.in_ok-weights.ensures.images ∙ tables.weights) in
+    let shown = image_held r e ring_r ring_e to represents.back N g.EF.Field.number g.met.R.Field.number_below q p c.image_if_some.result t.held c.from_element.result t.sum
+    (c.new_unpacked.ensures.order ∙ tables.order) size (map-map to N q.evals.evals.items ∙ evals) (map-map to N q.weights.evals.items ∙ weights) c.image_if_some.ensures
+    (ap to c.from_element.ensures ∙ represents.back_forth _ (g.met.EF.Field.number_below t.sum)) in
     record {
-      variables = tables.variables ∙ sym (c.in_ok-weights.ensures.variables ∙ tables.same);
-      true_sum = c.args.prover.true_sum ∙ ap (λ n. inner o n (table_of N poly.evals) (table_of N poly.weights)) (sym tables.variables)
-          ∙ ap (λ f. inner o (variables_of v) f (table_of N poly.weights)) (sym tables.evals)
-          ∙ ap (inner o (variables_of v) (table_of N v)) (sym (c.in_ok-weights.ensures.images ∙ tables.weights));
+      left = left_for_image g.EF.Field.number T _ _ t.held c.image_if_some.result c.image_if_some.ensures size t.left;
+      true_sum = true_back e r ring_e ring_r g.R.FromTable.from_number to represents (held_shown r N q c.image_if_some.result c.from_element.result)
+          (held_below r ring_r to e ring_e represents.back N g.met.R.Field.number_below q c.from_element.result c.image_if_some.result)
+          (subst (IsTrueClaim e) (sym shown) t.true_sum);
     }
 
 -- a refusal tells nothing of an answer
-pub returns-in_err-weights : goal.returns-in_err-weights
-returns-in_err-weights g c = IfOk-from_err c.from_residual.result _ c.from_residual.ensures.0
+pub returns-in_err-evals-clause-shown : goal.returns-in_err-evals-clause-shown
+returns-in_err-evals-clause-shown g c = IfOk-from_err c.from_residual.result _ c.from_residual.ensures.0
+
+pub returns-in_err-evals-clause-stored : goal.returns-in_err-evals-clause-stored
+returns-in_err-evals-clause-stored g c = IfOk-from_err c.from_residual.result _ c.from_residual.ensures.0
+
+pub returns-in_err-weights-clause-shown : goal.returns-in_err-weights-clause-shown
+returns-in_err-weights-clause-shown g c = IfOk-from_err c.from_residual-in_err-weights.result _ c.from_residual-in_err-weights.ensures.0
+
+pub returns-in_err-weights-clause-stored : goal.returns-in_err-weights-clause-stored
+returns-in_err-weights-clause-stored g c = IfOk-from_err c.from_residual-in_err-weights.result _ c.from_residual-in_err-weights.ensures.0

@@ -1,29 +1,29 @@
-use Rattle.std.proofs.Common.{ℕ, ◌+◌, ◌^◌, length, map, ap, sym, refl, ◌∙◌, arith}
-use Rattle.std.proofs.lemmas.List.{map-append}
+use Rattle.std.proofs.Common.{◌+◌, length, map, ap, sym, refl, inl, inr, ◌∙◌, arith}
+use Rattle.std.proofs.lemmas.List.{map-append, length-map}
 use Rattle.sc_definitions.proofs.StandingLaws.{played_none}
 use Rattle.sc_transcript.proofs.ReplayedLaws.{same_channel}
 use Rattle.sc_transcript.specs.declared.transcript.SumcheckShape.{SumcheckShape}
-use Rattle.sc_rounds.specs.Products.{variables_in}
-use Rattle.sc_rounds.proofs.PairRounds.{sized}
+use Rattle.sc_rounds.specs.Provers.{Shown}
+use Rattle.sc_rounds.specs.HeldProducts.{image_in, standing_over}
 use Rattle.sc_rounds.proofs.BatchLaws.{fits, less_by_one, some_left, less_at, room_at, all_played, sum_at, same_setting, one_round_more, stops, as_none}
-use Rattle.sc_rounds.proofs.product_polynomial.ProductPolynomial.play.Goals as goal
+use Rattle.sc_rounds.proofs.HeldLaws.{held_sized}
+use Rattle.sc_rounds.proofs.held_product.HeldProduct.play.Goals as goal
 
 pub loop-round-init : goal.loop-round-init
 loop-round-init g c =
-    let T : g.row.EF.Denot → ℕ = λ x. g.EF.FromTable.to_number (g.EF.Field.number x) in
-    let p = c.args.self.now in
+    let to = g.EF.FromTable.to_number in
+    let t = c.args.self.now in
+    let size = held_sized g.EF.Field.ops g.EF.Field.number t.poly t.sum t.held in
+    let none = ap (map g.EG.Field.number) c.requires.empty in
     record {
       continues = record { lender = refl; rules = refl; values = refl; shape = refl };
       played = c.requires.none_played;
       left = omega arith;
       order = refl;
-      true_sum = c.requires.sum;
       len = c.args.challenges.now.ok.0 ∙ ap length c.requires.empty;
       room = c.requires.room;
-      batch = as_none _ _ _ (ap (map g.EG.Field.number) c.requires.empty) (played_none _ _ (record {
-        evals = sized T p.evals.evals.items _ _ p.evals.evals.ok.0 p.evals.sized;
-        weights = sized T p.weights.evals.items _ _ p.weights.evals.ok.0 (p.weights.sized ∙ ap (λ n. 2 ^ n) (sym p.same));
-      }));
+      batch = as_none _ _ _ none (played_none _ _ (record { evals = length-map _ to ∙ size.0; weights = length-map _ to ∙ size.1 }));
+      holds = inl none;
     }
 
 pub loop-round-preserved : goal.loop-round-preserved
@@ -31,6 +31,7 @@ loop-round-preserved g c =
     let M = g.EG.Field.number in
     let inv = c.loop-round.invariant in
     let round = c.in-Ok.ensures in
+    let drawn = ap (map M) c.push_reserved.ensures.items ∙ map-append M _ _ in
     record {
       continues = record {
         lender = round.continues.lender ∙ inv.continues.lender;
@@ -41,22 +42,31 @@ loop-round-preserved g c =
       played = round.counts ∙ ap (λ n. n + 1) inv.played;
       left = less_by_one _ _ _ _ round.round.fewer inv.left;
       order = round.order ∙ inv.order;
-      true_sum = round.sum;
       len = c.push_reserved.ensures.len ∙ ap (λ n. n + 1) inv.len;
       room = fits _ _ _ _ (ap (λ (s : SumcheckShape). s.num_rounds) round.continues.shape) c.push_reserved.ensures.capacity inv.room;
       batch = one_round_more _ _ g.met.EG.Field.is_field.ring tt _ _ _ _ _ _
           (same_setting _ _ _ _ _ (same_channel _ _ _ g.G.Field.ops.size _ _ inv.continues.rules (ap (λ (s : SumcheckShape). s.pow_bits) inv.continues.shape)) inv.order)
-          (ap (map M) c.push_reserved.ensures.items ∙ map-append M _ _) inv.batch round.round;
+          drawn inv.batch round.round;
+      holds = inr (record {
+        others = _;
+        last = _;
+        are = drawn;
+        held = round.holds.held;
+        before = standing_over M (image_in g.EF.FromTable.to_number c.loop-round.self) c.loop-round.transcript c.loop-round.sumcheck_data;
+        played = inv.batch;
+        evals = round.holds.evals;
+        weights = round.holds.weights;
+      });
     }
 
 -- a round is left, and so is a variable
-pub round_in-requires-clause-variables : goal.round_in-requires-clause-variables
-round_in-requires-clause-variables g c =
+pub round-requires-clause-variables : goal.round-requires-clause-variables
+round-requires-clause-variables g c =
     some_left _ _ _ _ c.loop-round.invariant.left c.requires.variables (less_at _ _ _ _ refl c.loop-round-test.true (ap (λ (s : SumcheckShape). s.num_rounds) c.shape-round-end.ensures))
 
 -- the round of the loop is the transcript's
-pub round_in-requires-clause-left : goal.round_in-requires-clause-left
-round_in-requires-clause-left g c =
+pub round-requires-clause-left : goal.round-requires-clause-left
+round-requires-clause-left g c =
     let inv = c.loop-round.invariant in
     less_at _ _ _ _ inv.played c.loop-round-test.true (ap (λ (s : SumcheckShape). s.num_rounds) (c.shape-round-end.ensures ∙ sym inv.continues.shape))
 
@@ -73,9 +83,9 @@ returns g c =
     record {
       continues = inv.continues;
       order = inv.order;
-      sum = inv.true_sum;
       left = sum_at _ _ _ _ inv.played inv.left;
       rounds = (all_played _ _ _ _ inv.played (ap (λ (s : SumcheckShape). s.num_rounds) (inv.continues.shape ∙ sym c.shape-round-end.ensures)) c.loop-round-test.false c.loop-round.auto._round-end, inv.batch);
+      holds = inv.holds;
     }
 
 -- a refused round leaves what the invariant says
@@ -91,12 +101,12 @@ returns-in-Err g c =
         shape = round.continues.shape ∙ inv.continues.shape;
       };
       order = round.order ∙ inv.order;
-      sum = round.sum;
-      left = sum_at _ _ _ _ (round.counts ∙ inv.played) (ap (λ p. variables_in p + c.loop-round._round) round.kept.0 ∙ inv.left);
+      left = sum_at _ _ _ _ (round.counts ∙ inv.played) (ap (λ (s : Shown). s.variables + c.loop-round._round) round.kept ∙ inv.left);
       rounds = (
         less_at _ _ _ _ (round.counts ∙ inv.played) c.loop-round-test.true (ap (λ (s : SumcheckShape). s.num_rounds) (c.shape-round-end.ensures ∙ sym inv.continues.shape ∙ sym round.continues.shape)),
         stops _ _ _ _ _ _ _ _ c.in-Err.error
             (same_setting _ _ _ _ _ (same_channel _ _ _ g.G.Field.ops.size _ _ inv.continues.rules (ap (λ (s : SumcheckShape). s.pow_bits) inv.continues.shape)) inv.order)
             (sym round.counts) inv.batch round.round,
       );
+      holds = tt;
     }

@@ -1,0 +1,55 @@
+-- What clauses see of a pair under a claim, of which a challenge may be held.
+use Rattle.std.specs.Prelude.{◌≡◌, ℕ, List, Option, Some}
+use Rattle.std.specs.declared.cmp.PartialEq.{Ghosts as PartialEqOf}
+use Rattle.sc_definitions.specs.Ring.{Ops}
+use Rattle.sc_definitions.specs.Events.{Extension}
+use Rattle.sc_definitions.specs.Standings.{Setting, Standing}
+use Rattle.sc_field.specs.declared.field.Field.{Ghosts as FieldOf}
+use Rattle.sc_challenger.specs.declared.challenger.Challenger.{Ghosts as ChallengerOf}
+use Rattle.sc_transcript.specs.declared.transcript.ProverTranscript.{ProverTranscript}
+use Rattle.sc_transcript.specs.declared.data.SumcheckData.{SumcheckData}
+use Rattle.sc_transcript.specs.Drivers.{driver_in, channel_of}
+use Rattle.sc_transcript.specs.Data.{wire_in}
+use Rattle.sc_rounds.specs.declared.held_product.HeldProduct.{HeldProduct}
+use Rattle.sc_rounds.specs.declared.product_polynomial.ProductPolynomial.{ProductPolynomial}
+use Rattle.sc_rounds.specs.Standings.{Batch}
+use Rattle.sc_rounds.specs.Provers.{Shown, Stored, held_shown, stored_of, imaged, HoldsIfAny, setting_at, standing_at}
+
+module _ {F EF : Type 0} {e : FieldOf EF} {q : PartialEqOf EF} where
+  -- its pair, and the challenge that this is not bound at yet
+  abbrev pub pair_in : HeldProduct F EF e q → ProductPolynomial F EF
+  pair_in t = t.poly
+
+  abbrev pub held_in : HeldProduct F EF e q → Option EF
+  held_in t = t.held
+
+  -- what it shows
+  abbrev pub shown_in : HeldProduct F EF e q → Shown
+  shown_in t = held_shown e.ops e.number t.poly t.held t.sum
+
+  -- what it shows, by the images of its numbers
+  abbrev pub image_in : (ℕ → ℕ) → HeldProduct F EF e q → Shown
+  image_in h t = imaged h (shown_in t)
+
+  -- what is kept of it, by the images of its numbers
+  abbrev pub image_stored_in : (ℕ → ℕ) → HeldProduct F EF e q → Stored
+  image_stored_in h t = stored_of (λ x. h (e.number x)) t.poly t.held
+
+module _ {C F EG : Type 0} {c : ChallengerOf C F} {f : FieldOf F} {q : PartialEqOf F} where
+  -- what stays where it is played in a transcript
+  abbrev pub setting_over : Extension → Ops → Shown → ProverTranscript C F EG c f q → Setting
+  setting_over E o s t = setting_at (channel_of E (driver_in t)) o s
+
+  -- where its rounds stand in a transcript, with data
+  abbrev pub standing_over : (EG → ℕ) → Shown → ProverTranscript C F EG c f q → SumcheckData F EG → Standing
+  standing_over sent s t d = standing_at s (driver_in t).history (wire_in f.number sent d)
+
+-- A round has drawn r: its tables are kept as they were before it, and r is held.
+pub record Holds (before : Shown) (r : ℕ) (stored : Stored) : Type 0 where
+  pub evals : stored.evals ≡ before.evals
+  pub weights : stored.weights ≡ before.weights
+  pub held : stored.held ≡ Some r
+
+-- What is kept after a batch was played whole with the challenges rs: the last one is held, if there is one.
+abbrev pub HoldsBatch : Batch → List ℕ → Stored → Type 0
+HoldsBatch b rs stored = HoldsIfAny b.setting b.start rs stored
