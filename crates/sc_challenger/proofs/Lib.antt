@@ -1,2 +1,3 @@
 pub mod ListReads
+pub mod SortedLists
 pub mod StateLemmas

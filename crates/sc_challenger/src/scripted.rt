@@ -1,5 +1,9 @@
 //! A challenger whose answers are handed in.
-ghost use Rattle.std.specs.Prelude.{◌≡◌, ◌-◌, [], map, IfOk, vec_len, vec_capacity};
+ghost use Rattle.std.specs.Prelude.{◌≡◌, ℕ, ◌-◌, ◌==◌, List, [], map, All, IfOk};
+ghost use Rattle.std.specs.Prelude.{vec_len, vec_capacity};
+ghost use Rattle.std.specs.List.{list_any};
+ghost use Rattle.std.specs.List.Sorted.{IsNonDecreasing, IsPermutation};
+ghost use Rattle.std.proofs.Props.{props};
 ghost use Rattle.sc_definitions.specs.Scripted.{scripted_rules, draws_in, tests_in};
 
 use crate::challenger::Challenger;
@@ -10,11 +14,14 @@ use std::alloc::Global;
 // The greatest difficulty.
 const MAX_BITS: usize = 16;
 
-/// A challenger whose draws are handed in: draw number d, counted from 0, is entry number d of the list,
-/// and zero past the list's end.
+/// A challenger whose draws are handed in: draw number d, counted from 0, is entry number d of the
+/// list, and zero past the list's end.
 ///
-/// The elements that pass test number t, counted from 0, stand in list number t of `good`; past the end of the
-/// lists nothing passes. The difficulty does not matter, but for its bound, which is 16 bits.
+/// The elements that pass test number t, counted from 0, stand in list number t of `good`; past the
+/// end of the lists nothing passes. The difficulty does not matter, but for its bound, 16 bits.
+///
+/// The lists may be unsorted, and name an element twice. [`ScriptedChallenger::new`] sorts each of
+/// them once, in its place, so that a search by halving tells whether an element passes.
 #[derive(Drop)]
 pub struct ScriptedChallenger<F: Field> {
     events: Vec<Event>,
@@ -23,18 +30,23 @@ pub struct ScriptedChallenger<F: Field> {
     // how many of them are tests
     tested: usize,
     draws: Vec<F>,
+    // each list is sorted by the numbers
     good: Vec<Vec<F>>,
+    ghost sorted: { All IsNonDecreasing
+        (map (λ list. map F.number list.items) good.items) } by { Prim.hlevel props },
     ghost drawn_is: { drawn ≡ draws_in events.items },
     ghost tested_is: { tested ≡ tests_in events.items },
 }
 
 impl<F: Field> ScriptedChallenger<F> {
     /// A challenger with an empty history.
-    pub fn new(alloc: Global, draws: Vec<F>, good: Vec<Vec<F>>) -> Self
+    pub fn new(alloc: Global, draws: Vec<F>, mut good: Vec<Vec<F>>) -> Self
         ensures history { ⟦<ScriptedChallenger<F> as Challenger<F>>⟧.history result ≡ [] }
         ensures rules { ⟦<ScriptedChallenger<F> as Challenger<F>>⟧.rules result
-            ≡ scripted_rules (map F.number draws.items) (map (λ list. map F.number list.items) good.items) }
+            ≡ scripted_rules (map F.number draws.items)
+            (map (λ list. map F.number list.items) good.items) }
     {
+        sort_each(&mut good);
         ScriptedChallenger {
             events: Vec::new(alloc),
             drawn: 0,
@@ -54,7 +66,8 @@ impl<F: Field> ScriptedChallenger<F> {
     // The draw that comes next.
     #[tactic(auto, using(crate::proofs::ListReads::reads))]
     fn next_draw(&self) -> F
-        ensures { F.number result ≡ (⟦<ScriptedChallenger<F> as Challenger<F>>⟧.rules self.now).draw self.now.events.items }
+        ensures { F.number result
+            ≡ (⟦<ScriptedChallenger<F> as Challenger<F>>⟧.rules self.now).draw self.now.events.items }
     {
         match self.draws.get(self.drawn) {
             Some(draw) => *draw,
@@ -66,7 +79,8 @@ impl<F: Field> ScriptedChallenger<F> {
 impl<F: Field> Challenger<F> for ScriptedChallenger<F> {
     ghost history = { λ s. s.events.items };
 
-    ghost rules = { λ s. scripted_rules (map F.number s.draws.items) (map (λ list. map F.number list.items) s.good.items) };
+    ghost rules = { λ s. scripted_rules (map F.number s.draws.items)
+        (map (λ list. map F.number list.items) s.good.items) };
 
     ghost spare = { λ s. vec_capacity s.events - vec_len s.events };
 
@@ -85,7 +99,7 @@ impl<F: Field> Challenger<F> for ScriptedChallenger<F> {
     #[tactic(auto, using(crate::proofs::ListReads::reads))]
     fn would_pass(&self, _bits: usize, witness: F) -> bool {
         match self.good.get(self.tested) {
-            Some(list) => list.contains(&witness),
+            Some(list) => has(list, witness),
             None => false,
         }
     }
@@ -122,9 +136,38 @@ impl<F: Field> Challenger<F> for ScriptedChallenger<F> {
     }
 }
 
+// Sorts each list by the numbers. It has the elements that it had, so that the same witnesses pass.
+fn sort_each<F: Field>(lists: &mut [Vec<F>])
+    ensures sorted { All IsNonDecreasing (map (λ list. map F.number list.items) lists.new) }
+    ensures same { (draws : List ℕ) →
+        scripted_rules draws (map (λ list. map F.number list.items) lists.new)
+        ≡ scripted_rules draws (map (λ list. map F.number list.items) lists.old) }
+{
+    for list in lists.iter_mut() {
+        sort(list);
+    }
+}
+
+// Sorts a list by the numbers.
+fn sort<F: Field>(list: &mut Vec<F>)
+    ensures sorted { IsNonDecreasing (map F.number list.new.items) }
+    ensures moved { IsPermutation list.old.items list.new.items }
+{
+    list.sort_unstable_by_key(|x| x.index());
+}
+
+// Whether an element stands in a list that is sorted by the numbers.
+fn has<F: Field>(list: &[F], x: F) -> bool
+    requires { IsNonDecreasing (map F.number list.now) }
+    ensures { result ≡ list_any (λ n. n == F.number x) (map F.number list.now) }
+{
+    list.binary_search_by_key(&x.index(), |y| y.index()).is_ok()
+}
+
 // Copies of these lists.
 fn copied<F: Field>(alloc: Global, lists: &[Vec<F>]) -> Result<Vec<Vec<F>>, NoMemory>
-    ensures { IfOk result (λ copies. map (λ list. map F.number list.items) copies.items ≡ map (λ list. map F.number list.items) lists.now) }
+    ensures { IfOk result (λ copies. map (λ list. map F.number list.items) copies.items
+        ≡ map (λ list. map F.number list.items) lists.now) }
 {
     let mut copies = Vec::with_capacity(alloc, lists.len())?;
     for list in lists {

@@ -78,7 +78,7 @@ struct Play {
     events: &'static [Event],
 }
 
-static PLAYS: [Play; 3] = [
+static PLAYS: [Play; 4] = [
     // draws past the end of the script
     Play {
         draws: &[3, 4],
@@ -129,6 +129,53 @@ static PLAYS: [Play; 3] = [
             Event::Test(3),
         ],
     },
+    // lists that are unsorted, with members that stand there twice; and of none, one and two;
+    // below, between and above the members nothing passes
+    Play {
+        draws: &[],
+        good: &[&[40000, 7, 65536, 7, 300, 40000, 12], &[], &[9], &[20, 10]],
+        steps: &[
+            Look(1, 0, false),
+            Look(1, 6, false),
+            Look(1, 7, true),
+            Look(1, 8, false),
+            Look(1, 12, true),
+            Look(1, 300, true),
+            Look(1, 39999, false),
+            Look(1, 40000, true),
+            Look(1, 40001, false),
+            Look(1, 65535, false),
+            Look(1, 65536, true),
+            Grind(1, Ok(7)),
+            Look(1, 0, false),
+            Look(1, 7, false),
+            Look(1, 65536, false),
+            Grind(1, Err(GrindError::NoWitness)),
+            Test(1, 7, false),
+            Look(1, 8, false),
+            Look(1, 9, true),
+            Look(1, 10, false),
+            Test(1, 9, true),
+            Look(1, 9, false),
+            Look(1, 10, true),
+            Look(1, 15, false),
+            Look(1, 20, true),
+            Look(1, 21, false),
+            Test(1, 20, true),
+            Look(1, 0, false),
+            Look(1, 20, false),
+        ],
+        events: &[
+            Event::Word(7),
+            Event::Test(1),
+            Event::Word(7),
+            Event::Test(1),
+            Event::Word(9),
+            Event::Test(1),
+            Event::Word(20),
+            Event::Test(1),
+        ],
+    },
     // the first witness of each list, until none passes
     Play {
         draws: &[],
@@ -173,11 +220,18 @@ fn needs_no_memory_in_room(rt: HostRuntime) {
 }
 
 // What is played on a copy, and then on the challenger itself.
-static ON_EITHER: [Step; 3] = [Observe(9), Observe(9), Draw(4)];
+static ON_EITHER: [Step; 6] = [
+    Observe(9),
+    Observe(9),
+    Draw(4),
+    Look(1, 3, true),
+    Look(1, 5, false),
+    Look(1, 7, true),
+];
 
 #[test]
 fn copies_play_apart(rt: HostRuntime) {
-    let mut challenger = scripted(&rt, rt.alloc(), &[3, 4, 5], &[&[7]]);
+    let mut challenger = scripted(&rt, rt.alloc(), &[3, 4, 5], &[&[7, 3]]);
     play(&rt, &mut challenger, &[Draw(3)]);
     let mut copied = challenger.copy(rt.alloc()).expect(&rt, "room for a copy");
     play(&rt, &mut copied, &ON_EITHER);
