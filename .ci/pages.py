@@ -1,7 +1,7 @@
 """Checks of the documents, for .ci/repository.
 
 usage: .ci/pages.py commands PAGE..     each command behind a '$ ' writes what stands below it
-       .ci/pages.py lines PAGE FILE     the page's lines of Rust stand in the file
+       .ci/pages.py lines PAGE FILE..   each block of Rust or of specs on the page stands in one of the files
        .ci/pages.py job PAGE FILE       the page's JSON is that of the file
        .ci/pages.py narrow COUNT PAGE   at most so many lines, each of at most 120 characters (COUNT 0: of any number)
        .ci/pages.py wide COUNT FILE..   at most so many lines of the files have more than 100 characters
@@ -23,9 +23,9 @@ def commands(*pages):
     wrong = [line for line, wanted in runs if subprocess.run(["bash", "-c", line], capture_output=True, text=True).stdout != wanted]
     return runs and not wrong
 
-def lines(page, file):
-    found = blocks(page, "rust")
-    return found and all(it in text_of(file) for it in found)
+def lines(page, *files):
+    found, texts = blocks(page, "rust") + blocks(page, "antt"), [text_of(file) for file in files]
+    return found and all(any(it in text for text in texts) for it in found)
 
 def job(page, file):
     found = blocks(page, "json")
