@@ -18,7 +18,8 @@ pub struct Counting {
 impl Counting {
     /// A challenger with an empty history.
     pub fn new(alloc: Global) -> Self
-        ensures { ⟦<Counting as Challenger<F31>>⟧.history result ≡ [] }
+        ensures history { ⟦<Counting as Challenger<F31>>⟧.history result ≡ [] }
+        ensures rules { ⟦<Counting as Challenger<F31>>⟧.rules result ≡ counting_rules }
     {
         Counting {
             events: Vec::new(alloc),
