@@ -13,7 +13,7 @@ use Rattle.sc_table.specs.declared.strategy.Strategy.{Strategy}
 use Rattle.sc_audit.specs.declared.error.AuditError.{AuditError}
 use Rattle.sc_audit.specs.Cases.{build, Asked, start_of}
 use Rattle.sc_audit.specs.Refusals.{or_later, mode_refusal, shape_refusal, refusal_for, false_refusal, refusal_of}
-use Rattle.sc_audit.specs.Figures.{holds, finding_by, false_claim_of, is_matched, figures_of}
+use Rattle.sc_audit.specs.Figures.{Figures, holds, finding_by, false_claim_of, is_matched, figures_of}
 use Rattle.sc_audit.specs.Audits.{figures_from}
 use Rattle.sc_field.specs.ResiduesLaws.{residues_field}
 use Rattle.sc_field.specs.F257x2Laws.{f257x2_field}
@@ -58,27 +58,31 @@ module _ (q : Asked) (ring : IsRing q.ops) (offered : IsOffered q.case.problem.b
       ap (λ b. finding_by b (false_claim_of o p)) matched ∙ ap (finding_by true) none
 
   -- so that is the outcome, unless a round has no witness
-  built-outcome : (r : Result (List Round) ℕ) →
+  built-outcome : (lines : Figures → List ℕ) (r : Result (List Round) ℕ) →
       IsBuiltOr q.channel.rules q.channel.extension q.channel.base_size (honest_of q.ops q.case.problem) q.channel.bits (start_of q).history [] q.case.problem.variables r →
-      ((rounds_reply q (or_no_witness r)).outcome ≡ Holds) ⊎ ((0 < q.channel.bits) × ((rounds_reply q (or_no_witness r)).outcome ≡ NoWitness))
+      ((rounds_reply lines q (or_no_witness r)).outcome ≡ Holds) ⊎ ((0 < q.channel.bits) × ((rounds_reply lines q (or_no_witness r)).outcome ≡ NoWitness))
   unfolding no_witness
-  built-outcome (Ok rounds) built =
-      inl (ap (λ finding. (finding_reply finding (figure_lines (figures_from q rounds))).outcome) (built-finding rounds built.0 built.1))
-  built-outcome (Err i) positive = inr (positive, refl)
+  built-outcome lines (Ok rounds) built =
+      inl (ap (λ finding. (finding_reply finding (lines (figures_from q rounds))).outcome) (built-finding rounds built.0 built.1))
+  built-outcome lines (Err i) positive = inr (positive, refl)
 
 -- a build that is not refused holds, unless a round at a difficulty has no witness
-pub built_holds : (k : Fields) → IsRing k.ops → (job : Job) (strategy : Strategy) → job.mode ≡ Build strategy → refusal_of (asked_by k job) ≡ None →
-    ((judge_over k job).outcome ≡ Holds) ⊎ ((0 < job.bits) × ((judge_over k job).outcome ≡ NoWitness))
-unfolding judge_over case_reply
-built_holds k ring job strategy mode none =
-    let q = asked_by k job in
+pub case_holds : (lines : Figures → List ℕ) (q : Asked) → IsRing q.ops → IsOffered q.case.problem.basis q.case.problem.order → (strategy : Strategy) → q.case.task ≡ build strategy →
+    refusal_of q ≡ None → ((case_reply lines q).outcome ≡ Holds) ⊎ ((0 < q.channel.bits) × ((case_reply lines q).outcome ≡ NoWitness))
+unfolding case_reply
+case_holds lines q ring offered strategy task none =
     let built = honest_rounds (honest_of q.ops q.case.problem) q.channel.rules q.channel.extension q.channel.base_size q.channel.bits (start_of q).history [] q.case.problem.variables in
-    let is : (judge_over k job).outcome ≡ (rounds_reply q (or_no_witness built)).outcome =
-    ap (λ first. (reply_by first (rounds_reply q (rounds_of q q.case.task))).outcome) none
-    ∙ ap (λ task. (rounds_reply q (rounds_of q task)).outcome) (ap task_of mode) in
-    let out = built-outcome q ring tt (all-true q strategy (ap task_of mode) none) built
+    let is : (case_reply lines q).outcome ≡ (rounds_reply lines q (or_no_witness built)).outcome =
+    ap (λ first. (reply_by first (rounds_reply lines q (rounds_of q q.case.task))).outcome) none
+    ∙ ap (λ t. (rounds_reply lines q (rounds_of q t)).outcome) task in
+    let out = built-outcome q ring offered (all-true q strategy task none) lines built
     (honest_rounds-built q.channel.rules q.channel.extension q.channel.base_size (honest_of q.ops q.case.problem) q.channel.bits (start_of q).history [] q.case.problem.variables) in
     elim out [ inl holding ↦ inl (is ∙ holding) | inr lacking ↦ inr (lacking.0, is ∙ lacking.1) ]
+
+pub built_holds : (k : Fields) → IsRing k.ops → (job : Job) (strategy : Strategy) → job.mode ≡ Build strategy → refusal_of (asked_by k job) ≡ None →
+    ((judge_over k job).outcome ≡ Holds) ⊎ ((0 < job.bits) × ((judge_over k job).outcome ≡ NoWitness))
+unfolding judge_over
+built_holds k ring job strategy mode none = case_holds figure_lines (asked_by k job) ring tt strategy (ap task_of mode) none
 
 -- the fields of each name are lawful
 fields_ring : (name : FieldName) → IsRing (fields_of name).ops

@@ -5,3 +5,6 @@ pub mod BuildReplies
 pub mod ReportLaws
 pub mod Outcomes
 pub mod RunLaws
+pub mod WordLaws
+pub mod MadeLaws
+pub mod MadeJobs

@@ -4,7 +4,7 @@ use Rattle.std.specs.Prelude.{if◌then◌else◌, nat_lt, Result, Ok, Err}
 use Rattle.serde_json.specs.Data.{Data}
 use Rattle.sc_forms.specs.Values.{value_of}
 use Rattle.sumcheck_run.specs.declared.command.Command.{Command}
-use Rattle.sumcheck_run.specs.declared.command.Command.TheVariants.{Audit}
+use Rattle.sumcheck_run.specs.declared.command.Command.TheVariants.{Audit, Make}
 use Rattle.sumcheck_jobs.specs.declared.job.Job.{Job}
 use Rattle.sumcheck_run.specs.Reply.{Reply, code_of, no_witness, proof_refused, refused, usage}
 use Rattle.sumcheck_jobs.specs.Job.{job_of}
@@ -12,11 +12,12 @@ use Rattle.sumcheck_jobs.specs.declared.member.Misfit.{Misfit}
 use Rattle.sc_audit.specs.declared.error.AuditError.{AuditError}
 use Rattle.sc_audit.specs.declared.error.AuditError.TheVariants.{Unbuilt, JobShape, StrategyUnfit, FalseClaim, MissingSumcheckData, RoundCountMismatch, PowWitnessCountMismatch, InvalidPowWitness, NoWitness, NoMemory}
 use Rattle.sc_audit.specs.Refusals.{refusal_of}
-use Rattle.sc_audit.specs.Figures.{Finding, holds, refuted, lucky}
+use Rattle.sc_audit.specs.Figures.{Figures, Finding, holds, refuted, lucky}
 use Rattle.sc_definitions.specs.Transcript.{Round}
 use Rattle.sc_audit.specs.Cases.{Asked}
 use Rattle.sc_audit.specs.Audits.{figures_from}
 use Rattle.sumcheck_run.specs.Report.{Fields, fields_of, asked_by, figure_lines, refusal_reply, finding_reply, rounds_of, rounds_reply, reply_by, case_reply, judge_over}
+use Rattle.sumcheck_run.specs.Made.{made_asked}
 use Rattle.sumcheck_run.specs.Program.{max_input, too_long, bad_json, job_reply, audit_reply, value_reply, json_reply, reply_of}
 
 -- it is no usage
@@ -52,20 +53,23 @@ finding-answer holds lines = λ e. cc
 finding-answer refuted lines = λ e. cc
 finding-answer lucky lines = refused-answer _
 
-rounds-answer : (q : Asked) (r : Result (List Round) AuditError) → IsAnswer (rounds_reply q r)
-rounds-answer q (Err e) = refusal-answer e
-rounds-answer q (Ok rounds) = let report = figures_from q rounds in finding-answer report.finding (figure_lines report)
+rounds-answer : (lines : Figures → List ℕ) (q : Asked) (r : Result (List Round) AuditError) → IsAnswer (rounds_reply lines q r)
+rounds-answer lines q (Err e) = refusal-answer e
+rounds-answer lines q (Ok rounds) = let report = figures_from q rounds in finding-answer report.finding (lines report)
 
 reply-answer : (first : Option AuditError) (reply : Reply) → IsAnswer reply → IsAnswer (reply_by first reply)
 reply-answer (Some e) reply answer = refusal-answer e
 reply-answer None reply answer = answer
 
-judge-answer : (k : Fields) (job : Job) → IsAnswer (judge_over k job)
-unfolding judge_over case_reply
-judge-answer k job =
-    let q = asked_by k job in
+case-answer : (lines : Figures → List ℕ) (q : Asked) → IsAnswer (case_reply lines q)
+unfolding case_reply
+case-answer lines q =
     let rounds = rounds_of q q.case.task in
-    reply-answer (refusal_of q) (rounds_reply q rounds) (rounds-answer q rounds)
+    reply-answer (refusal_of q) (rounds_reply lines q rounds) (rounds-answer lines q rounds)
+
+judge-answer : (k : Fields) (job : Job) → IsAnswer (judge_over k job)
+unfolding judge_over
+judge-answer k job = case-answer figure_lines (asked_by k job)
 
 job-answer : (r : Result Job Misfit) → IsAnswer (job_reply r)
 job-answer (Err fault) = refused-answer _
@@ -88,6 +92,7 @@ json-answer input = either (nat_lt max_input (length input)) too_long (value_rep
 pub usage-only : (command : Option Command) (input : List ℕ) → code_of (reply_of command input).outcome ≡ 2 → command ≡ None
 usage-only None input e = refl
 usage-only (Some Audit) input e = absurd (json-answer input e)
+usage-only (Some (Make recipe)) input e = absurd (case-answer _ (made_asked recipe) e)
 
 -- where there is no command the status is that of usage
 pub usage-code : (input : List ℕ) → code_of (reply_of None input).outcome ≡ 2

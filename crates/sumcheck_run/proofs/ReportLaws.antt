@@ -47,16 +47,16 @@ asked-same k number xs bits n ss c i t job R h is eb en es ec ei et =
     let rows : length xs ≡ length job.table = sym (length-map xs number) ∙ ap length is in
     rw (rows, eb, entries-numbers number xs job.table is, en, es, ec, ei, et) refl
 
-module _ (q : Asked) where
+module _ (lines : Figures → List ℕ) (q : Asked) where
   -- a refusal before a round is the answer
-  refused-reply : (e : AuditError) → refusal_of q ≡ Some e → refusal_reply e ≡ case_reply q
+  refused-reply : (e : AuditError) → refusal_of q ≡ Some e → refusal_reply e ≡ case_reply lines q
   unfolding case_reply
-  refused-reply e is = sym (ap (λ first. reply_by first (rounds_reply q (rounds_of q q.case.task))) is)
+  refused-reply e is = sym (ap (λ first. reply_by first (rounds_reply lines q (rounds_of q q.case.task))) is)
 
   -- else the reply to the rounds is
-  played-reply : (r : Result (List Round) AuditError) → refusal_of q ≡ None → rounds_of q q.case.task ≡ r → rounds_reply q r ≡ case_reply q
+  played-reply : (r : Result (List Round) AuditError) → refusal_of q ≡ None → rounds_of q q.case.task ≡ r → rounds_reply lines q r ≡ case_reply lines q
   unfolding case_reply
-  played-reply r none is = sym (ap (λ first. reply_by first (rounds_reply q (rounds_of q q.case.task))) none ∙ ap (rounds_reply q) is)
+  played-reply r none is = sym (ap (λ first. reply_by first (rounds_reply lines q (rounds_of q q.case.task))) none ∙ ap (rounds_reply lines q) is)
 
   -- the witnesses of rounds that are built are numbers of elements
   abbrev AreLowIfBuilt : Task → List Round → Type 0
@@ -73,8 +73,8 @@ module _ (q : Asked) where
       ap (passing_rounds q.channel.rules q.channel.extension q.channel.bits (start_of q).history) (sym are)
       ∙ ap (λ failing. unless_failing failing q.channel.bits rounds) (first_failing-none q.channel.rules q.channel.extension q.channel.bits (start_of q).history rounds passes)
 
-  played-whole : (figures : Figures) (h' : List Event) → refusal_of q ≡ None → (a : IsPlayed q figures h') → AreLowIfBuilt q.case.task a.rounds → figures_reply figures ≡ case_reply q
-  played-whole figures h' none a low = ap figures_reply a.is ∙ played-reply (Ok a.rounds) none (rounds-whole q.case.task a.rounds low a.count a.passes a.are)
+  played-whole : (figures : Figures) (h' : List Event) → refusal_of q ≡ None → (a : IsPlayed q figures h') → AreLowIfBuilt q.case.task a.rounds → figures_reply lines figures ≡ case_reply lines q
+  played-whole figures h' none a low = ap (figures_reply lines) a.is ∙ played-reply (Ok a.rounds) none (rounds-whole q.case.task a.rounds low a.count a.passes a.are)
 
   -- the witnesses of figures are those of their rounds
   low-if_built : (task : Task) (figures : Figures) (rounds : List Round) → figures ≡ figures_from q rounds → All (λ w. w < q.channel.base_size) figures.witnesses → AreLowIfBuilt task rounds
@@ -84,7 +84,7 @@ module _ (q : Asked) where
 
   -- a report whose witnesses are numbers of elements is the answer
   pub reported-reply : (report : Reported) (h' : List Event) → refusal_of q ≡ None → All (λ w. w < q.channel.base_size) report.figures.witnesses → IsAudited q report h' →
-      figures_reply report.figures ≡ case_reply q
+      figures_reply lines report.figures ≡ case_reply lines q
   reported-reply report h' none low a = played-whole report.figures h' none a.played (low-if_built q.case.task report.figures a.played.rounds a.played.is low)
 
   module _ (ring : IsRing q.ops) (offered : IsOffered q.case.problem.basis q.case.problem.order) where
@@ -97,9 +97,9 @@ module _ (q : Asked) where
     unlucky (check proof) h' is none l are = tt
 
     -- where a report has no verdict yet, that is refused
-    lucky-reply : (h' : List Event) → refusal_of q ≡ None → IsLucky q h' → refusal_reply (Unbuilt Verdict) ≡ case_reply q
+    lucky-reply : (h' : List Event) → refusal_of q ≡ None → IsLucky q h' → refusal_reply (Unbuilt Verdict) ≡ case_reply lines q
     lucky-reply h' none l =
-        sym (ap (λ finding. finding_reply finding (figure_lines l.figures)) l.lucky) ∙ played-whole l.figures h' none l.played (unlucky q.case.task h' refl none l l.played.are)
+        sym (ap (λ finding. finding_reply finding (lines l.figures)) l.lucky) ∙ played-whole l.figures h' none l.played (unlucky q.case.task h' refl none l l.played.are)
 
   -- the rounds of a proof whose witness fails are refused for the first that does
   rounds-failing : (task : Task) (i : ℕ) (h' : List Event) → WitnessFails q task i h' → rounds_of q task ≡ Err (InvalidPowWitness i q.channel.bits)
@@ -132,7 +132,7 @@ module _ (q : Asked) where
 
   module _ (ring : IsRing q.ops) (offered : IsOffered q.case.problem.basis q.case.problem.order) where
     -- an answer without a report
-    caused-reply : (e : AuditError) (h' : List Event) → e ≢ NoMemory → refusal_of q ≡ None → IsCaused (refusal_of q) q h' e → refusal_reply e ≡ case_reply q
+    caused-reply : (e : AuditError) (h' : List Event) → e ≢ NoMemory → refusal_of q ≡ None → IsCaused (refusal_of q) q h' e → refusal_reply e ≡ case_reply lines q
     caused-reply (Unbuilt Mode) h' some none cause = refused-reply (Unbuilt Mode) cause.0
     caused-reply (Unbuilt Groups) h' some none cause = absurd cause
     caused-reply (Unbuilt Verdict) h' some none cause = lucky-reply ring offered h' none cause
@@ -144,7 +144,7 @@ module _ (q : Asked) where
 
     -- the same of a result that is refused wherever there is a refusal
     told-by : {T : Type 0} (result : Result T AuditError) (first : Option AuditError) (e : AuditError) (h' : List Event) → refusal_of q ≡ first →
-        e ≢ NoMemory → result ≡ Err e → IsRefusedBy first result → IsCaused (refusal_of q) q h' e → refusal_reply e ≡ case_reply q
+        e ≢ NoMemory → result ≡ Err e → IsRefusedBy first result → IsCaused (refusal_of q) q h' e → refusal_reply e ≡ case_reply lines q
     told-by result None e h' first some is told cause = caused-reply e h' some first cause
     told-by result (Some e') e h' first some is told cause = elim told [
       | inl t ↦ (let same : e ≡ e' = cc (is, t) in ap refusal_reply same ∙ refused-reply e' first)
@@ -152,7 +152,7 @@ module _ (q : Asked) where
     ]
 
     pub told-reply : {T : Type 0} (result : Result T AuditError) (e : AuditError) (h' : List Event) → e ≢ NoMemory → result ≡ Err e → IsRefusedBy (refusal_of q) result →
-        IsCaused (refusal_of q) q h' e → refusal_reply e ≡ case_reply q
+        IsCaused (refusal_of q) q h' e → refusal_reply e ≡ case_reply lines q
     told-reply result e h' some is told cause = told-by result (refusal_of q) e h' refl some is told cause
 
 -- where there is a report there was no refusal
@@ -161,6 +161,6 @@ unrefused x result None is told = refl
 unrefused x result (Some e) is told = elim told [ inl t ↦ cc (is, t) | inr t ↦ cc (is, t) ]
 
 -- the answer to what a job asks of its challenger is the job's
-pub judged : (k : Fields) (job : Job) (R : Rules) (h : List Event) (q : Asked) → R ≡ rules_of k job → h ≡ [] → q ≡ asked_with k job R h → case_reply q ≡ judge_over k job
+pub judged : (k : Fields) (job : Job) (R : Rules) (h : List Event) (q : Asked) → R ≡ rules_of k job → h ≡ [] → q ≡ asked_with k job R h → case_reply figure_lines q ≡ judge_over k job
 unfolding judge_over
-judged k job R h q rules start is = ap case_reply (is ∙ ap (λ r. asked_with k job r h) rules ∙ ap (asked_with k job (rules_of k job)) start)
+judged k job R h q rules start is = ap (case_reply figure_lines) (is ∙ ap (λ r. asked_with k job r h) rules ∙ ap (asked_with k job (rules_of k job)) start)

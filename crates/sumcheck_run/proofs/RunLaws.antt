@@ -5,12 +5,12 @@ use Rattle.std.proofs.lemmas.List.{append-nil}
 use Rattle.std.specs.Io.KnownBytes.{Appends}
 use Rattle.sc_streams.specs.Faults.{HasRisen}
 use Rattle.sumcheck_run.specs.declared.command.Command.{Command}
-use Rattle.sumcheck_run.specs.declared.command.Command.TheVariants.{Audit}
+use Rattle.sumcheck_run.specs.declared.command.Command.TheVariants.{Audit, Make}
 use Rattle.sumcheck_run.specs.declared.reply.Outcome.{Outcome}
 use Rattle.sumcheck_run.specs.declared.reply.Outcome.TheVariants.{Holds, Refuted, Usage, JobRefused, ProofRefused, NoWitness}
 use Rattle.sumcheck_run.specs.Reply.{Reply, code_of}
 use Rattle.sumcheck_run.specs.Program.{max_input, too_long, audit_reply, json_reply, reads_input, reply_of}
-use Rattle.sumcheck_run.specs.Run.{IsRead, IsAnswered, IsCutShort, WritesReply, Responds}
+use Rattle.sumcheck_run.specs.Run.{IsRead, IsAnswered, IsCutShort, IsInput, TellsUsage, WritesReply, Responds}
 use Rattle.sumcheck_run.proofs.Outcomes.{usage-only, usage-code}
 
 -- ---- what is replied to what was read
@@ -33,13 +33,17 @@ by_size a b = elim (cases_Bool (ltb a b)) [
 ]
 
 -- The reply to what was read is the reply to all that the source had.
-same_reply : (command : Option Command) (left' : Option (List ℕ)) (xs input : List ℕ) → IsRead (reads_input command) (Some input) left' xs → reply_of command xs ≡ reply_of command input
-same_reply None left' xs input read = refl
-same_reply (Some Audit) None xs input read = absurd read.taken
-same_reply (Some Audit) (Some ys) xs input read = elim (by_size max_input (length xs)) [
-  | inl over ↦ past xs ys input read.taken over
-  | inr fits ↦ ap (json_reply audit_reply) (whole xs ys input read.taken (read.whole refl fits))
-]
+same_reply : (command : Option Command) (left left' : Option (List ℕ)) (old new : ℕ) (xs input : List ℕ) → IsRead (reads_input command) left left' xs →
+    IsInput (reads_input command) left old new input → reply_of command xs ≡ reply_of command input
+same_reply None left left' old new xs input read is = refl
+same_reply (Some (Make recipe)) left left' old new xs input read is = refl
+same_reply (Some Audit) left None old new xs input read is = let taken = rw is.0 at read.taken in absurd taken
+same_reply (Some Audit) left (Some ys) old new xs input read is =
+    let taken = rw is.0 at read.taken in
+    elim (by_size max_input (length xs)) [
+      | inl over ↦ past xs ys input taken over
+      | inr fits ↦ ap (json_reply audit_reply) (whole xs ys input taken (read.whole refl fits))
+    ]
 
 -- ---- a reply that is written
 
@@ -134,8 +138,8 @@ module _ {K : Type 0} {taken : K → Option (List ℕ)} {faults : K → ℕ} {co
     ]
   ]
 
-  pub ran_usage : code ≡ 2 → command ≡ None
-  ran_usage two = elim r.reply [
+  usage_only : code ≡ 2 → command ≡ None
+  usage_only two = elim r.reply [
     | inl whole ↦ usage-only command r.input (sym whole.0 ∙ two)
     | inr rest ↦ elim rest [
       | inl part ↦ differ 2 7 refl (sym two ∙ part.0)
@@ -143,8 +147,8 @@ module _ {K : Type 0} {taken : K → Option (List ℕ)} {faults : K → ℕ} {co
     ]
   ]
 
-  pub ran_no_command : command ≡ None → (code ≡ 2) ⊎ ((code ≡ 7) ⊎ (code ≡ 8))
-  ran_no_command is = elim r.reply [
+  usage_told : command ≡ None → (code ≡ 2) ⊎ (code ≡ 7) ⊎ (code ≡ 8)
+  usage_told is = elim r.reply [
     | inl whole ↦ inl (whole.0 ∙ ap (λ k. code_of (reply_of k r.input).outcome) is ∙ usage-code r.input)
     | inr rest ↦ elim rest [
       | inl part ↦ inr (inl part.0)
@@ -152,12 +156,14 @@ module _ {K : Type 0} {taken : K → Option (List ℕ)} {faults : K → ℕ} {co
     ]
   ]
 
-  pub ran_headline : (input : List ℕ) → left ≡ Some input → (HasRisen (faults sink) (faults sink') → ⊥) →
+  pub ran_usage : TellsUsage command code
+  ran_usage = record { only = usage_only; told = usage_told }
+
+  pub ran_headline : (old new : ℕ) (input : List ℕ) → IsInput (reads_input command) left old new input → (HasRisen (faults sink) (faults sink') → ⊥) →
       WritesReply (reply_of command input) (taken sink) (taken sink') code
-  ran_headline input is calm = elim r.reply [
+  ran_headline old new input is calm = elim r.reply [
     | inl whole ↦
-        let read : IsRead (reads_input command) (Some input) left' r.input = rw is at r.read in
-        let same : reply_of command r.input ≡ reply_of command input = same_reply command left' r.input input read in
+        let same : reply_of command r.input ≡ reply_of command input = same_reply command left left' old new r.input input r.read is in
         inr (whole.0 ∙ ap (λ (a : Reply). code_of a.outcome) same, rw (ap (λ (a : Reply). a.text) same) at whole.1)
     | inr rest ↦ elim rest [
       | inl part ↦ absurd (calm part.2)
@@ -195,6 +201,16 @@ at_most_eight code which = omega (arith, which)
 -- An error tells a fault.
 pub told : {T E P : Type 0} (e e' : E) → e ≡ e' → (◌≡◌ {A = Result T E} (Err e) (Err e') → P) → P
 told e e' is says = says (ap Err is)
+
+-- A source that was read and failed tells no input.
+no_input : {Z : Type 0} (reads : Bool) (left : Option (List ℕ)) (old new : ℕ) (input : List ℕ) → (reads ≡ false → ⊥) → HasRisen old new → IsInput reads left old new input → Z
+no_input true left old new input reading risen is = absurd (is.1 risen)
+no_input false left old new input reading risen is = absurd (reading refl)
+
+pub untold : {Z : Type 0} (command command' : Option Command) (reads : Bool) (left : Option (List ℕ)) (old new : ℕ) (input : List ℕ) → command ≡ command' → reads ≡ reads_input command →
+    (reads ≡ false → false ≡ true) → HasRisen old new → IsInput (reads_input command') left old new input → Z
+untold command command' reads left old new input is needs reading risen given =
+    no_input (reads_input command') left old new input (λ none. false≢true (reading (needs ∙ ap reads_input is ∙ none))) risen given
 
 -- Nothing was read, so the command reads.
 pub must_read : {Z : Type 0} (command command' : Option Command) (reads : Bool) → command ≡ command' → reads ≡ reads_input command → (reads ≡ false → false ≡ true) → command' ≡ None → Z

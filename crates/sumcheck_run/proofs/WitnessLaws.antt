@@ -19,7 +19,7 @@ use Rattle.sumcheck_run.specs.Witnesses.{least_below, witness_at, with_witness, 
 abbrev IsFirst : (ℕ → Bool) → ℕ → Type 0
 IsFirst test w = (test w ≡ true) × ((k : ℕ) → k < w → test k ≡ false)
 
-least_below-first : (n : ℕ) (test : ℕ → Bool) (w : ℕ) → w < n → test w ≡ true → ((k : ℕ) → k < w → test k ≡ false) → least_below n test ≡ Some w
+pub least_below-first : (n : ℕ) (test : ℕ → Bool) (w : ℕ) → w < n → test w ≡ true → ((k : ℕ) → k < w → test k ≡ false) → least_below n test ≡ Some w
 unfolding least_below
 least_below-first zero test w low passes least = absurd (omega (arith, low))
 least_below-first (suc n) test zero low passes least = ap (λ b. if b then Some 0 else option_map suc (least_below n (λ k. test (suc k)))) passes
@@ -27,7 +27,7 @@ least_below-first (suc n) test (suc w) low passes least =
     ap (λ b. if b then Some 0 else option_map suc (least_below n (λ k. test (suc k)))) (least 0 (omega arith))
     ∙ ap (option_map suc) (least_below-first n (λ k. test (suc k)) w (omega (arith, low)) passes (λ k less. least (suc k) (omega (arith, less))))
 
-least_below-none : (n : ℕ) (test : ℕ → Bool) → ((k : ℕ) → k < n → test k ≡ false) → least_below n test ≡ None
+pub least_below-none : (n : ℕ) (test : ℕ → Bool) → ((k : ℕ) → k < n → test k ≡ false) → least_below n test ≡ None
 unfolding least_below
 least_below-none zero test fail = refl
 least_below-none (suc n) test fail =

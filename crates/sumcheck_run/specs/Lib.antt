@@ -2,5 +2,8 @@ pub mod Reply
 pub mod Lines
 pub mod Witnesses
 pub mod Report
+pub mod Words
+pub mod Made
+pub mod Values
 pub mod Program
 pub mod Run

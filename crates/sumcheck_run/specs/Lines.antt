@@ -12,6 +12,10 @@ unfoldable pub spaced : List ℕ → List ℕ
 spaced [] = []
 spaced (x ∷ xs) = codes " " ++ decimal x ++ spaced xs
 
+-- how many rows and how many statements there are
+unfoldable pub counts_lines : ℕ → ℕ → List ℕ
+counts_lines rows statements = codes "rows " ++ decimal rows ++ codes "\nstatements " ++ decimal statements ++ codes "\n"
+
 unfoldable pub claim_line : ℕ → List ℕ
 claim_line claim = codes "claim " ++ decimal claim ++ codes "\n"
 
@@ -31,6 +35,10 @@ round_lines i [] witnesses challenges = []
 round_lines i (values ∷ messages) witnesses [] = []
 round_lines i (values ∷ messages) [] (r ∷ challenges) = round_line i values None r ++ round_lines (suc i) messages [] challenges
 round_lines i (values ∷ messages) (w ∷ witnesses) (r ∷ challenges) = round_line i values (Some w) r ++ round_lines (suc i) messages witnesses challenges
+
+-- the sum of all values that the rounds sent
+unfoldable pub pairs_line : ℕ → List ℕ
+pairs_line sum = codes "pairs " ++ decimal sum ++ codes "\n"
 
 unfoldable pub residual_line : ℕ → List ℕ
 residual_line x = codes "residual " ++ decimal x ++ codes "\n"

@@ -1,5 +1,6 @@
 -- The reply to a command line and an input.
 use Rattle.std.specs.Prelude.{ℕ, List, [], ◌∷◌, length, codes, Bool, true, false, Option, Some, None, Result, Ok, Err, bytes_eq, nat_lt, if◌then◌else◌}
+use Rattle.std.specs.Option.{option_map}
 use Rattle.serde_json.specs.Data.{Data}
 use Rattle.sc_forms.specs.Values.{value_of}
 use Rattle.sumcheck_run.specs.Reply.{Reply, refused, usage}
@@ -7,9 +8,11 @@ use Rattle.sumcheck_jobs.specs.Job.{job_of}
 use Rattle.sumcheck_jobs.specs.Members.{misfit_text}
 use Rattle.sumcheck_jobs.specs.declared.member.Misfit.{Misfit}
 use Rattle.sumcheck_run.specs.Report.{judge}
+use Rattle.sumcheck_run.specs.Words.{recipe_of}
+use Rattle.sumcheck_run.specs.Made.{made_reply}
 use Rattle.sumcheck_jobs.specs.declared.job.Job.{Job}
 use Rattle.sumcheck_run.specs.declared.command.Command.{Command}
-use Rattle.sumcheck_run.specs.declared.command.Command.TheVariants.{Audit}
+use Rattle.sumcheck_run.specs.declared.command.Command.TheVariants.{Audit, Make}
 
 -- the greatest number of bytes of an input
 abbrev pub max_input : ℕ
@@ -41,13 +44,16 @@ json_reply reply input = if nat_lt max_input (length input) then too_long else v
 abbrev pub command_of : List (List ℕ) → Option Command
 command_of [] = None
 command_of (w ∷ []) = if bytes_eq w (codes "audit") then Some Audit else None
-command_of (w ∷ x ∷ more) = None
+command_of (w ∷ n ∷ number ∷ strategy ∷ []) = if bytes_eq w (codes "make") then option_map Make (recipe_of n number strategy) else None
+command_of words = None
 
 abbrev pub reads_input : Option Command → Bool
 reads_input None = false
 reads_input (Some Audit) = true
+reads_input (Some (Make recipe)) = false
 
 -- what a command and an input are answered
 abbrev pub reply_of : Option Command → List ℕ → Reply
 reply_of None input = usage
 reply_of (Some Audit) input = json_reply audit_reply input
+reply_of (Some (Make recipe)) input = made_reply recipe

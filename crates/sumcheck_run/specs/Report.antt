@@ -132,8 +132,9 @@ finding_reply holds lines = record { outcome = Holds; text = lines ++ holds_line
 finding_reply refuted lines = record { outcome = Refuted; text = lines ++ refuted_line }
 finding_reply lucky lines = refusal_reply (Unbuilt Verdict)
 
-abbrev pub figures_reply : Figures → Reply
-figures_reply r = finding_reply r.finding (figure_lines r)
+-- what is replied to figures that are shown by these lines
+abbrev pub figures_reply : (Figures → List ℕ) → Figures → Reply
+figures_reply lines r = finding_reply r.finding (lines r)
 
 -- rounds that are built, or the refusal of the one for which no witness is found
 abbrev pub or_no_witness : Result (List Round) ℕ → Result (List Round) AuditError
@@ -158,21 +159,21 @@ rounds_of q (check (Some given)) =
     passing_rounds q.channel.rules q.channel.extension q.channel.bits (start_of q).history (given_rounds given.messages given.witnesses)
 
 -- the reply to rounds: their report, or why they cannot be played
-abbrev pub rounds_reply : Asked → Result (List Round) AuditError → Reply
-rounds_reply q (Ok rounds) = figures_reply (figures_from q rounds)
-rounds_reply q (Err e) = refusal_reply e
+abbrev pub rounds_reply : (Figures → List ℕ) → Asked → Result (List Round) AuditError → Reply
+rounds_reply lines q (Ok rounds) = figures_reply lines (figures_from q rounds)
+rounds_reply lines q (Err e) = refusal_reply e
 
 abbrev pub reply_by : Option AuditError → Reply → Reply
 reply_by (Some e) reply = refusal_reply e
 reply_by None reply = reply
 
 -- what is answered: the first refusal before a round is played, or else the reply to the rounds
-unfoldable pub case_reply : Asked → Reply
-case_reply q = reply_by (refusal_of q) (rounds_reply q (rounds_of q q.case.task))
+unfoldable pub case_reply : (Figures → List ℕ) → Asked → Reply
+case_reply lines q = reply_by (refusal_of q) (rounds_reply lines q (rounds_of q q.case.task))
 
 -- what a job is answered over these fields and under its own challenger
 unfoldable pub judge_over : Fields → Job → Reply
-judge_over k job = case_reply (asked_by k job)
+judge_over k job = case_reply figure_lines (asked_by k job)
 
 -- what a job is answered, over the fields that it names
 abbrev pub judge : Job → Reply

@@ -1,7 +1,8 @@
 -- How a run ends.
-use Rattle.std.specs.Prelude.{◌≡◌, ◌⊎◌, ℕ, ◌<◌, ◌≤◌, ◌+◌, List, [], length, take, Bool, true, false, Option}
+use Rattle.std.specs.Prelude.{◌≡◌, ◌⊎◌, ℕ, ◌<◌, ◌≤◌, ◌+◌, List, [], length, take, Bool, true, false, Option, Some, None}
 use Rattle.std.specs.Io.KnownBytes.{Consumes, Appends, IsAtEnd}
 use Rattle.sc_streams.specs.Faults.{HasRisen}
+use Rattle.sumcheck_run.specs.declared.command.Command.{Command}
 use Rattle.sumcheck_run.specs.Reply.{Reply, code_of}
 use Rattle.sumcheck_run.specs.Program.{max_input}
 
@@ -48,6 +49,11 @@ pub record IsCutShort (reads : Bool) (reply : List ℕ → Reply) (left left' wr
   pub proper : count < length (reply input).text
   pub text : Appends written written' (take count (reply input).text)
 
+-- What a command replies to: all the bytes that the source tells, where it has no fault. A command that reads nothing has one reply, whatever they are.
+abbrev pub IsInput : Bool → Option (List ℕ) → ℕ → ℕ → List ℕ → Type 0
+IsInput true left faults faults' input = (left ≡ Some input) × ¬ HasRisen faults faults'
+IsInput false left faults faults' input = Unit {0}
+
 -- This reply's status and whole text, or want of memory.
 abbrev pub WritesReply : Reply → Option (List ℕ) → Option (List ℕ) → ℕ → Type 0
 WritesReply reply written written' code = (code ≡ want_of_memory) ⊎ ((code ≡ code_of reply.outcome) × Appends written written' reply.text)
@@ -58,3 +64,20 @@ Responds taken faults reply sink sink' code =
     ((code ≡ code_of reply.outcome) × Appends (taken sink) (taken sink') reply.text × (faults sink' ≡ faults sink))
     ⊎ ((code ≡ writing_failed) × ((count : ℕ) × (count < length reply.text) × Appends (taken sink) (taken sink') (take count reply.text)) × HasRisen (faults sink) (faults sink'))
     ⊎ ((code ≡ want_of_memory) × (sink' ≡ sink))
+
+-- The status of usage comes only where there is no command; and there comes nothing else, a failed write and want of memory aside.
+pub record TellsUsage (command : Option Command) (code : ℕ) : Type 0 where
+  pub only : code ≡ told_usage → command ≡ None
+  pub told : command ≡ None → (code ≡ told_usage) ⊎ (code ≡ writing_failed) ⊎ (code ≡ want_of_memory)
+
+-- At most one byte past the limit was given, and at most one read gave none.
+pub record ReadsLittle {S : Type 0} (given dry : S → ℕ) (source source' : S) : Type 0 where
+  pub given_few : given source' ≤ given source + (max_input + 1)
+  pub dry_once : dry source' ≤ dry source + 1
+
+-- This status tells a stream's faults: it comes only where their count rose, and where the count rose nothing else comes. The run stops at the first
+-- fault: no call finds a count above the one that it began with.
+pub record TellsFaults {X : Type 0} (faults : X → ℕ) (late : X → ℕ → ℕ) (stream stream' : X) (status code : ℕ) : Type 0 where
+  pub only : code ≡ status → HasRisen (faults stream) (faults stream')
+  pub told : faults stream < faults stream' → code ≡ status
+  pub stops : late stream' (faults stream) ≤ late stream (faults stream)

@@ -1,23 +1,103 @@
 //! The command line.
-ghost use Rattle.std.specs.Prelude.{◌≡◌, map, string_bytes};
+ghost use Rattle.std.specs.Prelude.{◌≡◌, ◌≢◌, ℕ, ◌<◌, ◌^◌, MatchOption, decimal, map, string_bytes};
 ghost use Rattle.sumcheck_run.specs.Program.{command_of, reads_input};
+ghost use Rattle.sumcheck_run.specs.Words.{CommandFits, recipe_of, strategy_of, written_below};
+
+use itoa::Buffer;
+use sc_table::Strategy;
+
+// The greatest number of variables of a job that is made, and how many numbers begin one.
+const MOST_VARIABLES: u64 = 24;
+
+const NUMBERS: u64 = 65537;
+
+/// What a job is made of, how its rounds are built aside.
+#[derive(Clone, Copy, Debug, PartialEq, Eq)]
+pub struct Recipe {
+    /// How many variables its table has, from 1 to 24.
+    pub variables: usize,
+    /// The number that its values begin with, from 0 to 65536.
+    pub number: u64,
+    /// How its rounds are built: plain or represented.
+    pub strategy: Strategy,
+}
 
 /// What the program is asked for.
 #[derive(Clone, Copy, Debug, PartialEq, Eq)]
 pub enum Command {
     /// Builds the rounds of the job that the input describes, or checks those of the proof that came with it, and reports on them.
     Audit,
+    /// Makes a job, builds its rounds, and reports on them in short.
+    Make(Recipe),
 }
 
 /// The command that the words after the program's name are, if they are one.
 pub fn read_command(words: &[String]) -> Option<Command>
-    ensures { result ≡ command_of (map string_bytes words.now) }
+    ensures command { result ≡ command_of (map string_bytes words.now) }
+    ensures fits { CommandFits result }
 {
-    if words.len() != 1 {
+    match words {
+        [name] if name.as_str() == "audit" => Some(Command::Audit),
+        [name, variables, number, strategy] if name.as_str() == "make" => {
+            match read_recipe(variables.as_str(), number.as_str(), strategy.as_str()) {
+                Some(recipe) => Some(Command::Make(recipe)),
+                None => None,
+            }
+        }
+        _ => None,
+    }
+}
+
+// The recipe that three words write, if they do.
+fn read_recipe(variables: &str, number: &str, strategy: &str) -> Option<Recipe>
+    ensures { result ≡ recipe_of variables.now number.now strategy.now }
+{
+    let variables = read_number(variables, MOST_VARIABLES + 1)?;
+    let number = read_number(number, NUMBERS)?;
+    let strategy = read_strategy(strategy)?;
+    if variables == 0 {
         return None;
     }
-    if words[0].as_str() == "audit" {
-        Some(Command::Audit)
+    Some(Recipe {
+        variables: variables as usize,
+        number,
+        strategy,
+    })
+}
+
+// The number below a bound that a word writes in decimal digits, without a sign or a leading zero, if it does.
+fn read_number(word: &str, bound: u64) -> Option<u64>
+    ensures { result ≡ written_below bound word.now }
+{
+    let number = read_decimal(word)?;
+    if number < bound { Some(number) } else { None }
+}
+
+// The number whose own spelling the word is, if it is one below 2^64.
+fn read_decimal(word: &str) -> Option<u64>
+    ensures { MatchOption result ((n : ℕ) → n < 2 ^ 64 → word.now ≢ decimal n) (λ n. word.now ≡ decimal n) }
+{
+    match word.parse::<u64>() {
+        Ok(number) => {
+            // any other spelling that can be parsed has a sign or a leading zero
+            if Buffer::new().format(number) == word {
+                Some(number)
+            } else {
+                None
+            }
+        }
+        Err(_) => None,
+    }
+}
+
+// The strategy that a word names, if it is built.
+fn read_strategy(word: &str) -> Option<Strategy>
+    ensures { result ≡ strategy_of word.now }
+{
+    if word == "plain" {
+        Some(Strategy::Plain)
+    } else if word == "represented" {
+        Some(Strategy::Represented)
     } else {
         None
     }

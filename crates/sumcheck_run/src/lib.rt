@@ -8,13 +8,15 @@ mod asked;
 mod command;
 mod elements;
 mod lines;
+mod made;
 mod program;
 mod refusals;
 mod reply;
 mod report;
 mod statements;
+mod values;
 
-pub use command::{Command, needs_input, read_command};
+pub use command::{Command, Recipe, needs_input, read_command};
 pub use program::{Status, run};
 pub use reply::{Answer, Outcome};
 pub use report::judge_job;

@@ -1,11 +1,22 @@
 //! The lines of a report, and the texts of refusals, of the numbers in them.
 ghost use Rattle.std.specs.Prelude.{◌≡◌, ◌++◌, [], ◌∷◌, OnOk, IfOk, string_bytes};
-ghost use Rattle.sumcheck_run.specs.Lines.{claim_line, eval_line, false_claim_text, fit_fault_text, holds_line, missing_text, refuted_line, residual_line, round_line, rounds_text, shape_fault_text, spaced, unbuilt_text, weight_line, witness_text, witnesses_text};
+ghost use Rattle.sumcheck_run.specs.Lines.{claim_line, counts_lines, eval_line, false_claim_text, fit_fault_text, holds_line, missing_text, pairs_line, refuted_line, residual_line, round_line, rounds_text, shape_fault_text, spaced, unbuilt_text, weight_line, witness_text, witnesses_text};
 ghost use Rattle.sumcheck_jobs.specs.Members.{misfit_text};
 
 use sc_audit::{FitFault, Form, ShapeFault};
 use std::alloc::{AllocError, Global};
 use sumcheck_jobs::Misfit;
+
+#[tactic(auto, unfolding(crate::specs::Lines::counts_lines))]
+pub(crate) fn push_counts(
+    text: &mut String,
+    rows: usize,
+    statements: usize,
+) -> Result<(), AllocError>
+    ensures { OnOk result (string_bytes text.new ≡ string_bytes text.old ++ counts_lines rows statements) }
+{
+    write!(text, "rows {rows}\nstatements {statements}\n")
+}
 
 #[tactic(auto, unfolding(crate::specs::Lines::claim_line))]
 pub(crate) fn push_claim(text: &mut String, claim: u64) -> Result<(), AllocError>
@@ -33,6 +44,13 @@ pub(crate) fn push_round(
             "round {i}: {c_a} {c_inf} witness {witness} challenge {challenge}\n"
         ),
     }
+}
+
+#[tactic(auto, unfolding(crate::specs::Lines::pairs_line))]
+pub(crate) fn push_pairs(text: &mut String, sum: u64) -> Result<(), AllocError>
+    ensures { OnOk result (string_bytes text.new ≡ string_bytes text.old ++ pairs_line sum) }
+{
+    write!(text, "pairs {sum}\n")
 }
 
 #[tactic(auto, unfolding(crate::specs::Lines::residual_line))]

@@ -4,11 +4,14 @@ ghost use Rattle.sc_streams.specs.Faults.{HasRisen};
 ghost use Rattle.sumcheck_run.specs.Program.{audit_reply, bad_json, command_of, json_reply, max_input, reads_input, reply_of, too_long};
 ghost use Rattle.sumcheck_run.specs.Reply.{refused};
 ghost use Rattle.sumcheck_jobs.specs.Members.{misfit_text};
-ghost use Rattle.sumcheck_run.specs.Run.{IsAnswered, IsCutShort, IsRead, Responds, WritesReply, IsOfReply, told_usage, reading_failed, writing_failed, want_of_memory};
+ghost use Rattle.sumcheck_run.specs.Run.{IsAnswered, IsCutShort, IsInput, IsOfReply, IsRead, ReadsLittle, Responds, TellsFaults, TellsUsage, WritesReply, reading_failed, want_of_memory, writing_failed};
+ghost use Rattle.sumcheck_run.specs.Made.{made_reply};
+ghost use Rattle.sumcheck_run.specs.Words.{CommandFits};
 
-use crate::command::{Command, needs_input, read_command};
+use crate::command::{Command, Recipe, needs_input, read_command};
 use crate::lines;
-use crate::reply::Answer;
+use crate::made::make;
+use crate::reply::{Answer, Outcome};
 use crate::report::judge_job;
 use sc_field::NoMemory;
 use sc_forms::{NoValue, read_value};
@@ -58,11 +61,13 @@ fn refuse_misfit(alloc: Global, fault: Misfit) -> Result<Answer, NoMemory>
 }
 
 fn answer(alloc: Global, command: Option<Command>, input: Vec<u8>) -> Result<Answer, NoMemory>
+    requires { CommandFits command }
     ensures { IfOk result (λ a. a ≡ reply_of command input.items) }
 {
     match command {
         None => Answer::usage(alloc),
         Some(Command::Audit) => audit(alloc, input),
+        Some(Command::Make(recipe)) => make(alloc, recipe),
     }
 }
 
@@ -88,6 +93,7 @@ fn read_input<S: Source>(alloc: Global, reads: bool, source: &mut S) -> Result<V
 
 // Makes the reply to an input that was read, and writes it. Nothing is written before the reply is whole.
 fn respond<K: Sink>(alloc: Global, command: Option<Command>, input: Vec<u8>, sink: &mut K) -> Status
+    requires { CommandFits command }
     ensures responds { Responds K.taken K.faults (reply_of command input.items)
         sink.old sink.new result.code }
     ensures late { K.late sink.new (K.faults sink.old) ≤ K.late sink.old (K.faults sink.old) }
@@ -132,34 +138,25 @@ pub fn run<S: Source, K: Sink>(
         → source.new ≡ source.old }
 
     // Usage exactly where the words are no command, write faults and want of memory aside.
-    ensures usage { result.code ≡ told_usage → command_of (map string_bytes words.now) ≡ None }
-    ensures no_command { command_of (map string_bytes words.now) ≡ None
-        → (result.code ≡ told_usage) ⊎ (result.code ≡ writing_failed) ⊎ (result.code ≡ want_of_memory) }
+    ensures usage { TellsUsage (command_of (map string_bytes words.now)) result.code }
 
-    // Where the source tells its bytes and neither has a fault: the reply to all of them, memory aside.
-    ensures headline { (input : List ℕ) → S.left source.old ≡ Some input
-        → ¬ HasRisen (S.faults source.old) (S.faults source.new)
+    // Where the source, if it is read, tells its bytes and neither has a fault: the reply to all of them, memory aside.
+    ensures headline { (input : List ℕ) → let command = command_of (map string_bytes words.now) in
+        IsInput (reads_input command) (S.left source.old) (S.faults source.old) (S.faults source.new) input
         → ¬ HasRisen (K.faults sink.old) (K.faults sink.new)
-        → WritesReply (reply_of (command_of (map string_bytes words.now)) input)
-        (K.taken sink.old) (K.taken sink.new) result.code }
+        → WritesReply (reply_of command input) (K.taken sink.old) (K.taken sink.new) result.code }
+
+    // The reply to a job that is made says that it holds.
+    ensures made { (recipe : Recipe)
+        → command_of (map string_bytes words.now) ≡ Some (Command.Make recipe)
+        → (made_reply recipe).outcome ≡ Outcome.Holds }
 
     // It reads at most one byte past the limit, and at most one read gives no byte.
-    ensures given { S.given source.new ≤ S.given source.old + (max_input + 1) }
-    ensures dry { S.dry source.new ≤ S.dry source.old + 1 }
+    ensures sparing { ReadsLittle S.given S.dry source.old source.new }
 
-    // A fault is told only where the count rose, and a count that rose is told.
-    ensures read_fault { result.code ≡ reading_failed
-        → HasRisen (S.faults source.old) (S.faults source.new) }
-    ensures write_fault { result.code ≡ writing_failed
-        → HasRisen (K.faults sink.old) (K.faults sink.new) }
-    ensures read_told { S.faults source.old < S.faults source.new → result.code ≡ reading_failed }
-    ensures write_told { K.faults sink.old < K.faults sink.new → result.code ≡ writing_failed }
-
-    // It stops at the first fault: no call finds a count above the one that it began with.
-    ensures no_late_read { S.late source.new (S.faults source.old)
-        ≤ S.late source.old (S.faults source.old) }
-    ensures no_late_write { K.late sink.new (K.faults sink.old)
-        ≤ K.late sink.old (K.faults sink.old) }
+    // Each fault is told, by 6 and by 7 and by nothing else, and nothing is tried behind it.
+    ensures reading { TellsFaults S.faults S.late source.old source.new reading_failed result.code }
+    ensures writing { TellsFaults K.faults K.late sink.old sink.new writing_failed result.code }
 {
     let command = read_command(words);
     let input = match read_input(alloc, needs_input(command), source) {

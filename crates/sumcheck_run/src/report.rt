@@ -88,7 +88,7 @@ fn answer_of<F: Field, EF: ExtensionField<F>, R: IntoTranscriptField<EF>, C: Cha
     asked: &AuditJob<F, EF>,
     challenger: &mut C,
 ) -> Result<Answer, NoMemory>
-    ensures { IfOk result (λ a. a ≡ case_reply (asked_of asked.now (C.rules challenger.old) (C.history challenger.old))) }
+    ensures { IfOk result (λ a. a ≡ case_reply figure_lines (asked_of asked.now (C.rules challenger.old) (C.history challenger.old))) }
 {
     match audit::<F, EF, R, C>(alloc, asked, challenger) {
         Ok(report) => show(alloc, &report),
@@ -101,14 +101,14 @@ fn show<F: Field, EF: ExtensionField<F>>(
     alloc: Global,
     report: &Report<F, EF>,
 ) -> Result<Answer, NoMemory>
-    ensures { IfOk result (λ a. a ≡ figures_reply (report_in F.number EF.number report.now).figures) }
+    ensures { IfOk result (λ a. a ≡ figures_reply figure_lines (report_in F.number EF.number report.now).figures) }
 {
     let text = report_text(alloc, report)?;
     say_verdict(alloc, text, &report.verdict)
 }
 
 // The verdict behind a report's lines. What is said of lucky rounds comes later.
-fn say_verdict<F: Field>(
+pub(crate) fn say_verdict<F: Field>(
     alloc: Global,
     report: String,
     verdict: &Verdict<F>,

@@ -1,0 +1,45 @@
+-- What the words of a command line write.
+use Rattle.std.specs.Prelude.{ℕ, ◌+◌, ◌<◌, ◌≤◌, ◌==◌, List, codes, decimal, bytes_eq, if◌then◌else◌, Option, Some, None}
+use Rattle.sc_table.specs.declared.strategy.Strategy.{Strategy}
+use Rattle.sc_table.specs.declared.strategy.Strategy.TheVariants.{Plain, Represented, SmallValue}
+use Rattle.sc_audit.specs.Refusals.{most_variables}
+use Rattle.sumcheck_run.specs.declared.command.Command.{Command}
+use Rattle.sumcheck_run.specs.declared.command.Command.TheVariants.{Audit, Make}
+use Rattle.sumcheck_run.specs.declared.command.Recipe.{Recipe}
+use Rattle.sumcheck_run.specs.Witnesses.{least_below}
+
+-- the number below a bound that a word writes in decimal digits, without a sign or a leading zero, if it writes one
+unfoldable pub written_below : ℕ → List ℕ → Option ℕ
+written_below bound word = least_below bound (λ n. bytes_eq word (decimal n))
+
+-- the strategy that a word names, if it is built
+abbrev pub strategy_of : List ℕ → Option Strategy
+strategy_of word = if bytes_eq word (codes "plain") then Some Plain else (if bytes_eq word (codes "represented") then Some Represented else None)
+
+-- a recipe, of one variable or more
+abbrev pub recipe_by : Option ℕ → Option ℕ → Option Strategy → Option Recipe
+recipe_by (Some n) (Some number) (Some strategy) = if n == 0 then None else Some (record { variables = n; number = number; strategy = strategy })
+recipe_by variables number strategy = None
+
+-- the recipe that three words write: from 1 to 24 variables, a number from 0 to 65536, and a strategy
+abbrev pub recipe_of : List ℕ → List ℕ → List ℕ → Option Recipe
+recipe_of variables number strategy = recipe_by (written_below (most_variables + 1) variables) (written_below 65537 number) (strategy_of strategy)
+
+-- the strategy is built
+abbrev pub IsBuiltBy : Strategy → Type 0
+IsBuiltBy Plain = Unit {0}
+IsBuiltBy Represented = Unit {0}
+IsBuiltBy (SmallValue variables) = ⊥
+
+-- a job is made by it
+pub record IsMade (r : Recipe) : Type 0 where
+  pub some : 0 < r.variables
+  pub few : r.variables ≤ most_variables
+  pub number : r.number < 65537
+  pub strategy : IsBuiltBy r.strategy
+
+-- a recipe that a command has is one by which a job is made
+abbrev pub CommandFits : Option Command → Type 0
+CommandFits None = Unit {0}
+CommandFits (Some Audit) = Unit {0}
+CommandFits (Some (Make recipe)) = IsMade recipe

@@ -1,0 +1,47 @@
+//! The values that a number begins.
+ghost use Rattle.std.specs.Prelude.{◌≡◌, ℕ, suc, ◌+◌, ◌<◌, map, IfOk};
+ghost use Rattle.sumcheck_run.specs.Made.{value_at, values_behind};
+
+use sc_field::{F65537, Field, NoMemory};
+use std::alloc::Global;
+
+/// The values that a number begins: each is 75 times the one before it, and 74, modulo 65537.
+#[derive(Drop)]
+pub(crate) struct Values {
+    last: u64,
+    ghost below: { last < 65537 },
+}
+
+impl Values {
+    ghost use Rattle.sumcheck_run.specs.Values.{last_of, number_of};
+
+    /// Those of a number below 65537, of which none was taken.
+    pub(crate) fn new(number: u64) -> Self
+        requires { number < 65537 }
+        ensures { last_of result ≡ number }
+    {
+        Values { last: number }
+    }
+
+    /// The value behind the last one.
+    #[tactic(auto, unfolding(crate::specs::Made::value_at))]
+    pub(crate) fn advance(&mut self) -> F65537
+        ensures value { number_of result ≡ last_of self.new }
+        ensures next { (number i : ℕ) → last_of self.old ≡ value_at number i → last_of self.new ≡ value_at number (suc i) }
+    {
+        self.last = (75 * self.last + 74) % 65537;
+        F65537::element(self.last)
+    }
+
+    /// So many values behind the last one.
+    pub(crate) fn take(&mut self, alloc: Global, count: usize) -> Result<Vec<F65537>, NoMemory>
+        ensures { IfOk result (λ v. (number i : ℕ) → last_of self.old ≡ value_at number i →
+            (map number_of v.items ≡ values_behind number i count) × (last_of self.new ≡ value_at number (i + count))) }
+    {
+        let mut taken = Vec::with_capacity(alloc, count)?;
+        for _i in 0..count {
+            taken.push(self.advance())?;
+        }
+        Ok(taken)
+    }
+}
