@@ -25,7 +25,8 @@ pub struct Recipe {
 /// What the program is asked for.
 #[derive(Clone, Copy, Debug, PartialEq, Eq)]
 pub enum Command {
-    /// Builds the rounds of the job that the input describes, or checks those of the proof that came with it, and reports on them.
+    /// Builds the rounds of the job that the input describes, or checks those of the proof that
+    /// came with it, and reports on them.
     Audit,
     /// Makes a job, builds its rounds, and reports on them in short.
     Make(Recipe),
@@ -65,7 +66,8 @@ fn read_recipe(variables: &str, number: &str, strategy: &str) -> Option<Recipe>
     })
 }
 
-// The number below a bound that a word writes in decimal digits, without a sign or a leading zero, if it does.
+// The number below a bound that a word writes in decimal digits, without a sign or a leading zero,
+// if it does.
 fn read_number(word: &str, bound: u64) -> Option<u64>
     ensures { result ≡ written_below bound word.now }
 {
@@ -75,7 +77,8 @@ fn read_number(word: &str, bound: u64) -> Option<u64>
 
 // The number whose own spelling the word is, if it is one below 2^64.
 fn read_decimal(word: &str) -> Option<u64>
-    ensures { MatchOption result ((n : ℕ) → n < 2 ^ 64 → word.now ≢ decimal n) (λ n. word.now ≡ decimal n) }
+    ensures { MatchOption result ((n : ℕ) → n < 2 ^ 64 → word.now ≢ decimal n)
+        (λ n. word.now ≡ decimal n) }
 {
     match word.parse::<u64>() {
         Ok(number) => {

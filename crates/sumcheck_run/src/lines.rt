@@ -1,6 +1,10 @@
 //! The lines of a report, and the texts of refusals, of the numbers in them.
 ghost use Rattle.std.specs.Prelude.{◌≡◌, ◌++◌, [], ◌∷◌, OnOk, IfOk, string_bytes};
-ghost use Rattle.sumcheck_run.specs.Lines.{claim_line, counts_lines, eval_line, false_claim_text, fit_fault_text, holds_line, missing_text, pairs_line, refuted_line, residual_line, round_line, rounds_text, shape_fault_text, spaced, unbuilt_text, weight_line, witness_text, witnesses_text};
+ghost use Rattle.sumcheck_run.specs.Lines.{claim_line, counts_lines, eval_line, false_claim_text};
+ghost use Rattle.sumcheck_run.specs.Lines.{fit_fault_text, holds_line, missing_text, pairs_line};
+ghost use Rattle.sumcheck_run.specs.Lines.{refuted_line, residual_line, round_line, rounds_text};
+ghost use Rattle.sumcheck_run.specs.Lines.{shape_fault_text, spaced, unbuilt_text, weight_line};
+ghost use Rattle.sumcheck_run.specs.Lines.{witness_text, witnesses_text};
 ghost use Rattle.sumcheck_jobs.specs.Members.{misfit_text};
 
 use sc_audit::{FitFault, Form, ShapeFault};
@@ -13,7 +17,8 @@ pub(crate) fn push_counts(
     rows: usize,
     statements: usize,
 ) -> Result<(), AllocError>
-    ensures { OnOk result (string_bytes text.new ≡ string_bytes text.old ++ counts_lines rows statements) }
+    ensures { OnOk result (string_bytes text.new
+        ≡ string_bytes text.old ++ counts_lines rows statements) }
 {
     write!(text, "rows {rows}\nstatements {statements}\n")
 }

@@ -10,7 +10,9 @@ ghost use Rattle.sc_statements.specs.EqStatements.{eq_arity, eq_statements};
 ghost use Rattle.sc_statements.specs.NextStatements.{next_arity, next_statements};
 ghost use Rattle.sc_table.specs.Polys.{variables_of, table_of};
 ghost use Rattle.sc_transcript.specs.Data.{pair_of};
-ghost use Rattle.sumcheck_run.specs.Made.{PartsFit, asked_about, made_reply, parts_end, parts_in, parts_of, sum_of, summary_lines, true_statement, value_at};
+ghost use Rattle.sumcheck_run.specs.Made.{PartsFit, asked_about, made_reply, parts_end, parts_in};
+ghost use Rattle.sumcheck_run.specs.Made.{parts_of, sum_of, summary_lines, true_statement};
+ghost use Rattle.sumcheck_run.specs.Made.{value_at};
 ghost use Rattle.sumcheck_run.specs.Report.{case_reply, figures_reply};
 ghost use Rattle.sumcheck_run.specs.Values.{last_of, number_of};
 ghost use Rattle.sumcheck_run.specs.Words.{IsMade};
@@ -67,7 +69,8 @@ struct Parts<F> {
 fn take_parts(alloc: Global, values: &mut Values, n: usize) -> Result<Parts<F65537>, NoMemory>
     requires { n ≤ 24 }
     ensures { IfOk result (λ p. (number : ℕ) → last_of values.old ≡ number →
-        (parts_in number_of p ≡ parts_of number n) × (last_of values.new ≡ value_at number (parts_end n))) }
+        (parts_in number_of p ≡ parts_of number n)
+        × (last_of values.new ≡ value_at number (parts_end n))) }
 {
     let table = values.take(alloc, 1 << n)?;
     let point = values.take(alloc, n)?;
@@ -116,7 +119,8 @@ fn true_equality<F: Field>(
 ) -> Result<EqStatement<F>, NoMemory>
     requires { length coords.items ≡ variables_of table.now }
     ensures statements { IfOk result (λ s. eq_statements F.number s
-        ≡ true_statement F.ops (variables_of table.now) (table_of F.number table.now) (equality (map F.number coords.items)) ∷ []) }
+        ≡ true_statement F.ops (variables_of table.now) (table_of F.number table.now)
+        (equality (map F.number coords.items)) ∷ []) }
     ensures arity { IfOk result (λ s. eq_arity s ≡ variables_of table.now) }
 {
     let mut statement = EqStatement::initialize(alloc, table.num_variables());
@@ -134,7 +138,8 @@ fn true_successor<F: Field>(
 ) -> Result<NextStatement<F>, NoMemory>
     requires { length coords.items ≡ variables_of table.now }
     ensures statements { IfOk result (λ s. next_statements F.number s
-        ≡ true_statement F.ops (variables_of table.now) (table_of F.number table.now) (successor prefix [] (map F.number coords.items)) ∷ []) }
+        ≡ true_statement F.ops (variables_of table.now) (table_of F.number table.now)
+        (successor prefix [] (map F.number coords.items)) ∷ []) }
     ensures arity { IfOk result (λ s. next_arity s ≡ variables_of table.now) }
 {
     let order = VariableOrder::Prefix;
@@ -163,7 +168,8 @@ fn answer_in_short<F: Field, EF: ExtensionField<F>, R: IntoTranscriptField<EF>, 
     job: &Job<F, EF>,
     challenger: &mut C,
 ) -> Result<Answer, NoMemory>
-    ensures { IfOk result (λ a. a ≡ case_reply (summary_lines rows 2 EF.ops) (asked_of job.now (C.rules challenger.old) (C.history challenger.old))) }
+    ensures { IfOk result (λ a. a ≡ case_reply (summary_lines rows 2 EF.ops)
+        (asked_of job.now (C.rules challenger.old) (C.history challenger.old))) }
 {
     match audit::<F, EF, R, C>(alloc, job, challenger) {
         Ok(report) => show_in_short(alloc, rows, &report),
@@ -177,7 +183,8 @@ fn show_in_short<F: Field, EF: ExtensionField<F>>(
     rows: usize,
     report: &Report<F, EF>,
 ) -> Result<Answer, NoMemory>
-    ensures { IfOk result (λ a. a ≡ figures_reply (summary_lines rows 2 EF.ops) (report_in F.number EF.number report.now).figures) }
+    ensures { IfOk result (λ a. a ≡ figures_reply (summary_lines rows 2 EF.ops)
+        (report_in F.number EF.number report.now).figures) }
 {
     let text = summary(alloc, rows, report)?;
     say_verdict(alloc, text, &report.verdict)
@@ -190,7 +197,8 @@ fn summary<F: Field, EF: ExtensionField<F>>(
     rows: usize,
     report: &Report<F, EF>,
 ) -> Result<String, NoMemory>
-    ensures { IfOk result (λ s. string_bytes s ≡ summary_lines rows 2 EF.ops (report_in F.number EF.number report.now).figures) }
+    ensures { IfOk result (λ s. string_bytes s
+        ≡ summary_lines rows 2 EF.ops (report_in F.number EF.number report.now).figures) }
 {
     let sent = sent_sum(report.rounds.polynomial_evaluations());
     let mut text = String::new(alloc);
@@ -203,7 +211,8 @@ fn summary<F: Field, EF: ExtensionField<F>>(
 
 // The sum of all values that rounds sent.
 fn sent_sum<EF: Field>(messages: &[RoundMessage<EF>]) -> EF
-    ensures { EF.number result ≡ sum_of EF.ops (map (sum_of EF.ops) (map (pair_of EF.number) messages.now)) }
+    ensures { EF.number result
+        ≡ sum_of EF.ops (map (sum_of EF.ops) (map (pair_of EF.number) messages.now)) }
 {
     let mut sum = EF::ZERO;
     for message in messages {

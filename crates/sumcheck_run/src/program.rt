@@ -1,10 +1,15 @@
 //! From bytes to bytes.
-ghost use Rattle.std.specs.Prelude.{◌≡◌, ◌⊎◌, ◌<◌, ◌≤◌, ◌+◌, List, ℕ, Some, None, false, map, string_bytes, IfOk, IsOk, IsErrOf};
+ghost use Rattle.std.specs.Prelude.{◌≡◌, ◌⊎◌, ◌<◌, ◌≤◌, ◌+◌, List, ℕ, Some, None, false, map};
+ghost use Rattle.std.specs.Prelude.{string_bytes, IfOk, IsOk, IsErrOf};
 ghost use Rattle.sc_streams.specs.Faults.{HasRisen};
-ghost use Rattle.sumcheck_run.specs.Program.{audit_reply, bad_json, command_of, json_reply, max_input, reads_input, reply_of, too_long};
+ghost use Rattle.sumcheck_run.specs.Program.{audit_reply, bad_json, command_of, json_reply};
+ghost use Rattle.sumcheck_run.specs.Program.{max_input, reads_input, reply_of, too_long};
 ghost use Rattle.sumcheck_run.specs.Reply.{refused};
 ghost use Rattle.sumcheck_jobs.specs.Members.{misfit_text};
-ghost use Rattle.sumcheck_run.specs.Run.{IsAnswered, IsCutShort, IsInput, IsOfReply, IsRead, ReadsLittle, Responds, TellsFaults, TellsUsage, WritesReply, reading_failed, want_of_memory, writing_failed};
+ghost use Rattle.sumcheck_run.specs.Run.{IsAnswered, IsCutShort, IsInput, IsOfReply, IsRead};
+ghost use Rattle.sumcheck_run.specs.Run.{ReadsLittle, Responds, TellsFaults, TellsUsage};
+ghost use Rattle.sumcheck_run.specs.Run.{WritesReply, reading_failed, want_of_memory};
+ghost use Rattle.sumcheck_run.specs.Run.{writing_failed};
 ghost use Rattle.sumcheck_run.specs.Made.{made_reply};
 ghost use Rattle.sumcheck_run.specs.Words.{CommandFits};
 
@@ -119,16 +124,18 @@ pub fn run<S: Source, K: Sink>(
     sink: &mut K,
 ) -> Status
     // Statuses 0 to 5, of the outcomes: the status and the whole text of the reply to the input.
-    ensures answered { IsOfReply result.code → let command = command_of (map string_bytes words.now) in
+    ensures answered { IsOfReply result.code
+        → let command = command_of (map string_bytes words.now) in
         IsAnswered (reads_input command) (reply_of command) (S.left source.old) (S.left source.new)
         (K.taken sink.old) (K.taken sink.new) result.code }
 
     // Status 7, a write failed: a proper prefix of it.
-    ensures cut_short { result.code ≡ writing_failed → let command = command_of (map string_bytes words.now) in
+    ensures cut_short { result.code ≡ writing_failed
+        → let command = command_of (map string_bytes words.now) in
         IsCutShort (reads_input command) (reply_of command) (S.left source.old) (S.left source.new)
         (K.taken sink.old) (K.taken sink.new) }
 
-    // Statuses 6, a read failed, and 8, want of memory: nothing is written. There is no other status.
+    // Statuses 6, a read failed, and 8, want of memory: nothing is written. There is no other one.
     ensures silent { (result.code ≡ reading_failed) ⊎ (result.code ≡ want_of_memory)
         → sink.new ≡ sink.old }
     ensures no_other { result.code ≤ want_of_memory }
@@ -140,9 +147,11 @@ pub fn run<S: Source, K: Sink>(
     // Usage exactly where the words are no command, write faults and want of memory aside.
     ensures usage { TellsUsage (command_of (map string_bytes words.now)) result.code }
 
-    // Where the source, if it is read, tells its bytes and neither has a fault: the reply to all of them, memory aside.
+    // Where the source, if it is read, tells its bytes and neither has a fault: the reply to all of
+    // them, memory aside.
     ensures headline { (input : List ℕ) → let command = command_of (map string_bytes words.now) in
-        IsInput (reads_input command) (S.left source.old) (S.faults source.old) (S.faults source.new) input
+        IsInput (reads_input command) (S.left source.old) (S.faults source.old)
+        (S.faults source.new) input
         → ¬ HasRisen (K.faults sink.old) (K.faults sink.new)
         → WritesReply (reply_of command input) (K.taken sink.old) (K.taken sink.new) result.code }
 

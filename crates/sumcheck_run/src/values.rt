@@ -27,7 +27,8 @@ impl Values {
     #[tactic(auto, unfolding(crate::specs::Made::value_at))]
     pub(crate) fn advance(&mut self) -> F65537
         ensures value { number_of result ≡ last_of self.new }
-        ensures next { (number i : ℕ) → last_of self.old ≡ value_at number i → last_of self.new ≡ value_at number (suc i) }
+        ensures next { (number i : ℕ) → last_of self.old ≡ value_at number i
+            → last_of self.new ≡ value_at number (suc i) }
     {
         self.last = (75 * self.last + 74) % 65537;
         F65537::element(self.last)
@@ -36,7 +37,8 @@ impl Values {
     /// So many values behind the last one.
     pub(crate) fn take(&mut self, alloc: Global, count: usize) -> Result<Vec<F65537>, NoMemory>
         ensures { IfOk result (λ v. (number i : ℕ) → last_of self.old ≡ value_at number i →
-            (map number_of v.items ≡ values_behind number i count) × (last_of self.new ≡ value_at number (i + count))) }
+            (map number_of v.items ≡ values_behind number i count)
+            × (last_of self.new ≡ value_at number (i + count))) }
     {
         let mut taken = Vec::with_capacity(alloc, count)?;
         for _i in 0..count {
