@@ -4,6 +4,7 @@ mod challengers;
 mod fields;
 mod jobs;
 mod kinds;
+mod made;
 mod refusals;
 mod streams;
 

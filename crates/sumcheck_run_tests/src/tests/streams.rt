@@ -7,7 +7,7 @@ use std::process::Abort;
 use sumcheck_run::{Failed, MemSink, MemSource, PlainSource, Source, StdSink, StdSource};
 
 // Words, an input and the calls that fail of the reads of it; and the status, how often it is read, how often something is written, and what.
-type Reads = (
+pub(super) type Reads = (
     &'static [&'static str],
     &'static str,
     &'static [u64],
@@ -48,7 +48,7 @@ fn read_with<A: Abort>(
     (code, source.calls(), sink)
 }
 
-fn assert_reads<A: Abort>(rt: &A, alloc: Global, all: &[Reads]) {
+pub(super) fn assert_reads<A: Abort>(rt: &A, alloc: Global, all: &[Reads]) {
     for (words, input, fails, (status, reads, writes, text)) in all {
         let input = input.as_bytes().to_vec(alloc).expect(rt, "memory");
         let source = source_with(rt, alloc, input, *fails);
