@@ -38,9 +38,9 @@ module _ (o : Ops) (p : Problem) where
   unfolding figures_of
   finding-is ms ws rs = refl
 
-  pub matched-told : (b : Bool) (x y z : ℕ) (ms : List (List ℕ)) (rs : List ℕ) → x ≡ residual_of o p ms rs → y ≡ eval_of o p rs → z ≡ weight_value_of o p rs →
+  pub matched-by : (b : Bool) (x y z : ℕ) (ms : List (List ℕ)) (rs : List ℕ) → x ≡ residual_of o p ms rs → y ≡ eval_of o p rs → z ≡ weight_value_of o p rs →
       b ≡ (x == times o y z) → b ≡ is_matched o p ms rs
-  matched-told b x y z ms rs ex ey ez is = is ∙ cc (ex, ey, ez)
+  matched-by b x y z ms rs ex ey ez is = is ∙ cc (ex, ey, ez)
 
 -- the problem of a table with statements
 abbrev pub stated : Order → ℕ → (ℕ → ℕ) → List Statement → ℕ → ℕ → Problem

@@ -2,7 +2,7 @@
 use Rattle.std.specs.Prelude.{ℕ, zero, suc, ◌^◌, ◌==◌, length, nat_lt, if◌then◌else◌, Option, Some, None, Result, Ok, Err}
 use Rattle.sc_definitions.specs.declared.false_claim.FalseClaim.{FalseClaim as FalseStatement}
 use Rattle.sc_definitions.specs.Statements.{first_false_claim}
-use Rattle.sc_statements.specs.FalseClaims.{told}
+use Rattle.sc_statements.specs.FalseClaims.{capped}
 use Rattle.sc_transcript.specs.Data.{witness_count}
 use Rattle.sc_table.specs.declared.strategy.Strategy.TheVariants.{Plain, Represented, SmallValue}
 use Rattle.sc_audit.specs.declared.error.AuditError.{AuditError}
@@ -64,7 +64,7 @@ count_refusal n bits g =
 
 -- a build's first false statement; a proof's absence, or its counts
 abbrev pub refusal_for : Asked → Task → Option AuditError
-refusal_for q (build strategy) = false_refusal (told (first_false_claim q.ops q.case.problem.variables q.case.problem.table 0 q.case.problem.statements))
+refusal_for q (build strategy) = false_refusal (capped (first_false_claim q.ops q.case.problem.variables q.case.problem.table 0 q.case.problem.statements))
 refusal_for q (check None) = missing_refusal q.case.problem.variables
 refusal_for q (check (Some given)) = count_refusal q.case.problem.variables q.channel.bits given
 

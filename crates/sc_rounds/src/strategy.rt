@@ -173,7 +173,7 @@ impl<F: Field, EF: ExtensionField<F>> SumcheckProver<F, EF> {
         c: &Constraint<F, EF>,
     ) -> Result<bool, NoMemory>
         ensures kept { shown_by self.new ≡ shown_by self.old }
-        ensures told { IfOk result (λ told. IsTrue told ↔ IsTrueOf self.old c.now) }
+        ensures exact { IfOk result (λ is_true. IsTrue is_true ↔ IsTrueOf self.old c.now) }
     {
         self.rounds.settle();
         let poly = &self.rounds.poly;
@@ -201,7 +201,7 @@ impl<F: Field, EF: ExtensionField<F>> SumcheckProver<F, EF> {
     pub fn delta_is_true(&mut self, weights_delta: &[EF], sum_delta: EF) -> bool
         requires { length weights_delta.now ≡ 2 ^ (shown_by self.old).variables }
         ensures kept { shown_by self.new ≡ shown_by self.old }
-        ensures told { IsTrue result ↔ (EF.number sum_delta ≡ sum_with EF.ops (shown_by self.old) (entries EF.number weights_delta.now)) }
+        ensures exact { IsTrue result ↔ (EF.number sum_delta ≡ sum_with EF.ops (shown_by self.old) (entries EF.number weights_delta.now)) }
     {
         self.rounds.settle();
         self.rounds.poly.dot_with(weights_delta).index() == sum_delta.index()

@@ -1,4 +1,4 @@
--- The first false statement over several groups, and how its number is told.
+-- The first false statement over several groups, and its number, capped.
 use Rattle.std.proofs.Common.{◌≡◌, ℕ, suc, ◌+◌, ◌-◌, ◌^◌, min, if◌then◌else◌, ◌<◌, ◌≤◌, Bool, true, false, Option, Some, None, List, [], ◌∷◌, ◌++◌, length, All, get_or, take, drop, sym, ◌∙◌, ap, refl, arith}
 use Rattle.std.specs.List.{flat_map}
 use Rattle.std.specs.Option.{option_map}
@@ -6,7 +6,7 @@ use Rattle.std.proofs.lemmas.List.{length-append, drop_all}
 use Rattle.sc_definitions.specs.declared.false_claim.FalseClaim.{FalseClaim}
 use Rattle.sc_definitions.specs.Ring.{Ops}
 use Rattle.sc_definitions.specs.Statements.{Statement, true_value, is_true_of, first_false_claim}
-use Rattle.sc_statements.specs.FalseClaims.{told}
+use Rattle.sc_statements.specs.FalseClaims.{capped}
 use Rattle.sc_statements.proofs.FalseSteps.{first_false-end}
 use Rattle.sc_statements.proofs.GroupSteps.{groups-more, groups-split, arity-of}
 
@@ -67,22 +67,22 @@ module _ (o : Ops) (n : ℕ) (f : ℕ → ℕ) where
   first_false-below i (s ∷ ss) d some =
       below-step i ss (record { statement = i; claimed = s.claimed; actual = true_value o n f s.kind }) d (is_true_of o n f s) refl (first_false-below (suc i) ss d) some
 
--- ---- how it is told
+-- ---- its number, capped
 
-told-small : (r : Option FalseClaim) → ((d : FalseClaim) → r ≡ Some d → d.statement < 2 ^ 64) → told r ≡ r
-told-small None few = refl
-told-small (Some d) few =
+capped-small : (r : Option FalseClaim) → ((d : FalseClaim) → r ≡ Some d → d.statement < 2 ^ 64) → capped r ≡ r
+capped-small None few = refl
+capped-small (Some d) few =
     let small : min d.statement (2 ^ 64 - 1) ≡ d.statement = omega (arith, few d refl) in
     ap (λ k. Some (record { statement = k; claimed = d.claimed; actual = d.actual })) small
 
-told-moved : (p number : ℕ) (c : FalseClaim) (r : Option FalseClaim) → number ≡ min (p + c.statement) (2 ^ 64 - 1) → r ≡ Some (moved p c) →
-    Some (record { statement = number; claimed = c.claimed; actual = c.actual }) ≡ told r
-told-moved p number c r capped is =
-    ap (λ k. Some (record { statement = k; claimed = c.claimed; actual = c.actual })) capped ∙ ap told (sym is)
+capped-moved : (p number : ℕ) (c : FalseClaim) (r : Option FalseClaim) → number ≡ min (p + c.statement) (2 ^ 64 - 1) → r ≡ Some (moved p c) →
+    Some (record { statement = number; claimed = c.claimed; actual = c.actual }) ≡ capped r
+capped-moved p number c r number_is is =
+    ap (λ k. Some (record { statement = k; claimed = c.claimed; actual = c.actual })) number_is ∙ ap capped (sym is)
 
 -- the number of one of so few statements is exact
-pub told-exact : (o : Ops) (n : ℕ) (f : ℕ → ℕ) (ss : List Statement) → length ss < 2 ^ 64 → told (first_false_claim o n f 0 ss) ≡ first_false_claim o n f 0 ss
-told-exact o n f ss few = told-small (first_false_claim o n f 0 ss) (λ d some. omega (arith, few, first_false-below o n f 0 ss d some))
+pub capped-exact : (o : Ops) (n : ℕ) (f : ℕ → ℕ) (ss : List Statement) → length ss < 2 ^ 64 → capped (first_false_claim o n f 0 ss) ≡ first_false_claim o n f 0 ss
+capped-exact o n f ss few = capped-small (first_false_claim o n f 0 ss) (λ d some. omega (arith, few, first_false-below o n f 0 ss d some))
 
 -- ---- the loop over the groups
 
@@ -123,21 +123,21 @@ module _ {G : Type 0} (statements_of : G → List Statement) (arity : G → ℕ)
       }
 
   -- the group at a place has the first
-  pub told-found : (x : G) (found : Option FalseClaim) (c : FalseClaim) (number : ℕ) → IsSearched statements_of o n f groups i passed → All (λ y. arity y ≡ n) all → groups ≡ all → i < length groups → x ≡ get_or groups i x →
+  pub capped-found : (x : G) (found : Option FalseClaim) (c : FalseClaim) (number : ℕ) → IsSearched statements_of o n f groups i passed → All (λ y. arity y ≡ n) all → groups ≡ all → i < length groups → x ≡ get_or groups i x →
       found ≡ first_false_claim o (arity x) f 0 (statements_of x) → found ≡ Some c → number ≡ min (passed + c.statement) (2 ^ 64 - 1) →
-      Some (record { statement = number; claimed = c.claimed; actual = c.actual }) ≡ told (first_false_claim o n f 0 (flat_map statements_of all))
-  told-found x found c number so_far fits same low at is some number_is =
+      Some (record { statement = number; claimed = c.claimed; actual = c.actual }) ≡ capped (first_false_claim o n f 0 (flat_map statements_of all))
+  capped-found x found c number so_far fits same low at is some number_is =
       let p = length (flat_map statements_of (take i groups)) in
       let rest = flat_map statements_of (drop (i + 1) groups) in
       let first : first_false_claim o n f 0 (flat_map statements_of groups) ≡ Some (moved p c) =
       so_far.found ∙ ap (first_false_claim o n f p) (groups-split statements_of groups i x low at)
       ∙ first_false-within o n f p (statements_of x) rest (moved p c) (here x found fits same low at is p ∙ ap (option_map (moved p)) some) in
-      let capped : number ≡ min (p + c.statement) (2 ^ 64 - 1) = omega (arith, so_far.counted, number_is) in
-      told-moved p number c (first_false_claim o n f 0 (flat_map statements_of groups)) capped first
-      ∙ ap (λ l. told (first_false_claim o n f 0 (flat_map statements_of l))) same
+      let number_at : number ≡ min (p + c.statement) (2 ^ 64 - 1) = omega (arith, so_far.counted, number_is) in
+      capped-moved p number c (first_false_claim o n f 0 (flat_map statements_of groups)) number_at first
+      ∙ ap (λ l. capped (first_false_claim o n f 0 (flat_map statements_of l))) same
 
   -- no group is left
-  pub told-none : IsSearched statements_of o n f groups i passed → groups ≡ all → length groups ≤ i → None ≡ told (first_false_claim o n f 0 (flat_map statements_of all))
-  told-none so_far same past =
-      ap told (sym (so_far.found ∙ first_false-end o n f _ _ (ap (flat_map statements_of) (drop_all i groups past))))
-      ∙ ap (λ l. told (first_false_claim o n f 0 (flat_map statements_of l))) same
+  pub capped-none : IsSearched statements_of o n f groups i passed → groups ≡ all → length groups ≤ i → None ≡ capped (first_false_claim o n f 0 (flat_map statements_of all))
+  capped-none so_far same past =
+      ap capped (sym (so_far.found ∙ first_false-end o n f _ _ (ap (flat_map statements_of) (drop_all i groups past))))
+      ∙ ap (λ l. capped (first_false_claim o n f 0 (flat_map statements_of l))) same

@@ -8,7 +8,7 @@ ghost use Rattle.sc_field.specs.Powers.{base_of, start_of};
 ghost use Rattle.sc_table.specs.Polys.{most_table_variables, variables_of, table_of};
 ghost use Rattle.sc_statements.specs.Groups.{group_arity, group_statements};
 ghost use Rattle.sc_statements.specs.Batches.{gathered, AddsBatch};
-ghost use Rattle.sc_statements.specs.FalseClaims.{told};
+ghost use Rattle.sc_statements.specs.FalseClaims.{capped};
 
 use crate::statement::Statements;
 use sc_definitions::FalseClaim;
@@ -191,7 +191,7 @@ impl<F: Field, EF: ExtensionField<F>> Constraint<F, EF> {
     /// table has as many variables as the statements say. It takes no memory.
     pub fn first_false(&self, table: &Poly<F>) -> Option<FalseClaim>
         requires { variables_of table.now ≡ constraint_arity self.now }
-        ensures found { result ≡ told (first_false_claim EF.ops (constraint_arity self.now) (λ b. EF.embedding (table_of F.number table.now b)) 0
+        ensures found { result ≡ capped (first_false_claim EF.ops (constraint_arity self.now) (λ b. EF.embedding (table_of F.number table.now b)) 0
             (constraint_statements (λ x. EF.embedding (F.number x)) EF.number self.now)) }
 
         // Where the statements are fewer than 2^64, the number is exact.

@@ -77,7 +77,7 @@ fn is_true<F: Field, EF: ExtensionField<F>>(
     constraint: &Option<Constraint<F, EF>>,
 ) -> Result<bool, NoMemory>
     ensures kept { shown_by prover.new ≡ shown_by prover.old }
-    ensures told { IfOk result (λ told. IsTrue told → IsNoneOrTrueOf prover.old constraint.now) }
+    ensures exact { IfOk result (λ is_true. IsTrue is_true → IsNoneOrTrueOf prover.old constraint.now) }
 {
     match constraint {
         Some(constraint) => prover.constraint_is_true(alloc, constraint),

@@ -7,7 +7,7 @@ use Rattle.sc_table.specs.Strategy.{order_of}
 use Rattle.sc_transcript.specs.Data.{messages_in, witnesses_in}
 use Rattle.sc_audit.specs.Cases.{problem_in}
 use Rattle.sc_audit.specs.Figures.{finding_by, false_claim_of, is_matched, figures_of, grid_in}
-use Rattle.sc_audit.proofs.FigureLaws.{figures-are, finding-is, matched-told, eval-at, weight-at, report_passed}
+use Rattle.sc_audit.proofs.FigureLaws.{figures-are, finding-is, matched-by, eval-at, weight-at, report_passed}
 use Rattle.sc_audit.proofs.checking.report_on.Goals as goal
 
 -- no verdict
@@ -24,7 +24,7 @@ returns-in_err-verdict g c =
     let weight : N c.eval_at-weight.result ≡ weight_value_of o p rs =
     weight-at o (order_of job.order) _ p.table _ _ _ rs _ (c.eval_at-weight.ensures ∙ ap (value o (batched_weight o _ _ _)) c.in_ok-point.ensures) in
     let matched : (c.index.result == c.index-2.result) ≡ is_matched o p ms rs =
-    matched-told o p _ (N c.args.residual) (N c.eval-eval.result) (N c.eval_at-weight.result) ms rs c.requires.residual eval weight (cc (c.index.ensures, c.index-2.ensures, c.mul.ensures)) in
+    matched-by o p _ (N c.args.residual) (N c.eval-eval.result) (N c.eval_at-weight.result) ms rs c.requires.residual eval weight (cc (c.index.ensures, c.index-2.ensures, c.mul.ensures)) in
     report_passed g.row.EF.Denot g.F.Field.number N (figures_of o p ms (witnesses_in g.F.Field.number c.args.proof.now) rs) _ c.from_residual-in_err-verdict.result _ c.from_residual-in_err-verdict.ensures.1
     (finding-is o p ms (witnesses_in g.F.Field.number c.args.proof.now) rs ∙ ap (λ t. finding_by t (false_claim_of o p)) (sym matched)) c.in_err-verdict.ensures
 
@@ -41,7 +41,7 @@ returns g c =
     let weight : N c.eval_at-weight.result ≡ weight_value_of o p rs =
     weight-at o (order_of job.order) _ p.table _ _ _ rs _ (c.eval_at-weight.ensures ∙ ap (value o (batched_weight o _ _ _)) c.in_ok-point.ensures) in
     let matched : (c.index.result == c.index-2.result) ≡ is_matched o p ms rs =
-    matched-told o p _ (N c.args.residual) (N c.eval-eval.result) (N c.eval_at-weight.result) ms rs c.requires.residual eval weight (cc (c.index.ensures, c.index-2.ensures, c.mul.ensures)) in
+    matched-by o p _ (N c.args.residual) (N c.eval-eval.result) (N c.eval_at-weight.result) ms rs c.requires.residual eval weight (cc (c.index.ensures, c.index-2.ensures, c.mul.ensures)) in
     record {
       figures_are = figures-are o p _ ms _ (witnesses_in g.F.Field.number c.args.proof.now) _ rs _ _ _ _ _ (ap (λ (w : Wire). w.messages) c.in_ok-rounds.ensures) (ap (λ (w : Wire). w.witnesses) c.in_ok-rounds.ensures) refl
           c.requires.claim c.requires.residual eval weight (c.in_ok-verdict.ensures.0 ∙ ap (λ t. finding_by t (false_claim_of o p)) matched);

@@ -10,8 +10,8 @@ use Rattle.sc_rounds.proofs.TakenLaws.{sum_taken, claim_taken}
 use Rattle.sc_rounds.proofs.ShownLaws.{sum_shown, true_of}
 use Rattle.sc_rounds.proofs.strategy.SumcheckProver.constraint_is_true.Goals as goal
 
-pub returns-clause-told : goal.returns-clause-told
-returns-clause-told g c =
+pub returns-clause-exact : goal.returns-clause-exact
+returns-clause-exact g c =
     let o = g.EF.Field.ops in
     let ring = g.met.EF.Field.is_field.ring in
     let N = g.EF.Field.number in
@@ -43,11 +43,11 @@ returns-clause-told g c =
     )
 
 -- a refusal tells nothing of an answer
-pub returns-in_err-evals-clause-told : goal.returns-in_err-evals-clause-told
-returns-in_err-evals-clause-told g c = IfOk-from_err c.from_residual.result _ c.from_residual.ensures.0
+pub returns-in_err-evals-clause-exact : goal.returns-in_err-evals-clause-exact
+returns-in_err-evals-clause-exact g c = IfOk-from_err c.from_residual.result _ c.from_residual.ensures.0
 
-pub returns-in_err-weights-clause-told : goal.returns-in_err-weights-clause-told
-returns-in_err-weights-clause-told g c = IfOk-from_err c.from_residual-in_err-weights.result _ c.from_residual-in_err-weights.ensures.0
+pub returns-in_err-weights-clause-exact : goal.returns-in_err-weights-clause-exact
+returns-in_err-weights-clause-exact g c = IfOk-from_err c.from_residual-in_err-weights.result _ c.from_residual-in_err-weights.ensures.0
 
-pub returns-in_err-combine-clause-told : goal.returns-in_err-combine-clause-told
-returns-in_err-combine-clause-told g c = IfOk-from_err c.from_residual-in_err-combine.result _ c.from_residual-in_err-combine.ensures.0
+pub returns-in_err-combine-clause-exact : goal.returns-in_err-combine-clause-exact
+returns-in_err-combine-clause-exact g c = IfOk-from_err c.from_residual-in_err-combine.result _ c.from_residual-in_err-combine.ensures.0

@@ -11,8 +11,8 @@ dot_with-requires g c =
     let e = c.settle.ensures in
     c.requires ∙ ap (λ (s : Shown). 2 ^ s.variables) (sym (settled_pair g.EF.Field.ops g.EF.Field.number t.poly t.sum t.held _ e.settled e.kept))
 
-pub returns-clause-told : goal.returns-clause-told
-returns-clause-told g c =
+pub returns-clause-exact : goal.returns-clause-exact
+returns-clause-exact g c =
     let o = g.EF.Field.ops in
     let N = g.EF.Field.number in
     let t = c.settle.new.self in
