@@ -1,8 +1,32 @@
 //! A pair of tables under a true claim, on which rounds are played one behind the other.
-ghost use Rattle.std.specs.Prelude.{◌≡◌, ℕ, None, Some, ◌+◌, ◌<◌, ◌≤◌, ◌^◌, [], ◌∷◌, IfOk, IfErr, OnErr, length, map, vec_capacity};
+ghost use Rattle.std.specs.Prelude.{
+  ◌≡◌,
+  ℕ,
+  None,
+  Some,
+  ◌+◌,
+  ◌<◌,
+  ◌≤◌,
+  ◌^◌,
+  [],
+  ◌∷◌,
+  IfOk,
+  IfErr,
+  OnErr,
+  length,
+  map,
+  vec_capacity,
+};
 ghost use Rattle.sc_definitions.specs.Tables.{entries};
 ghost use Rattle.sc_rounds.specs.Products.{variables_in, sum_in};
-ghost use Rattle.sc_rounds.specs.Provers.{IsLeftFor, shown_of, held_shown, sum_with, IsTrueClaim, with_added};
+ghost use Rattle.sc_rounds.specs.Provers.{
+  IsLeftFor,
+  shown_of,
+  held_shown,
+  sum_with,
+  IsTrueClaim,
+  with_added,
+};
 
 use crate::product_polynomial::ProductPolynomial;
 use sc_challenger::Challenger;
@@ -12,11 +36,11 @@ use sc_table::{Basis, Point, RoundMessage};
 use sc_transcript::{ProverTranscript, SumcheckData, SumcheckError, SumcheckShape};
 use std::alloc::Global;
 
-/// A pair of tables, and the claim that the sum over all rows of evaluation times weight has a value,
-/// which is always true.
+/// A pair of tables, and the claim that the sum over all rows of evaluation times weight has a
+/// value, which is always true.
 ///
-/// The last challenge of the rounds is held: the next round binds the tables at it and measures them in
-/// one pass. All that ask what the tables are settle it first.
+/// The last challenge of the rounds is held: the next round binds the tables at it and measures
+/// them in one pass. All that ask what the tables are settle it first.
 #[derive(Drop)]
 pub(crate) struct HeldProduct<F, EF: Field> {
     pub(crate) poly: ProductPolynomial<F, EF>,
@@ -42,7 +66,17 @@ impl<F: Field, EF: ExtensionField<F>> HeldProduct<F, EF> {
       setting_at,
       standing_at,
     };
-    ghost use Rattle.sc_rounds.specs.HeldProducts.{pair_in, held_in, shown_in, image_in, image_stored_in, setting_over, standing_over, Holds, HoldsBatch};
+    ghost use Rattle.sc_rounds.specs.HeldProducts.{
+      pair_in,
+      held_in,
+      shown_in,
+      image_in,
+      image_stored_in,
+      setting_over,
+      standing_over,
+      Holds,
+      HoldsBatch,
+    };
 
     // No challenge is held yet.
     pub(crate) fn new(poly: ProductPolynomial<F, EF>, sum: EF) -> Self
@@ -84,7 +118,8 @@ impl<F: Field, EF: ExtensionField<F>> HeldProduct<F, EF> {
         requires { 0 < (shown_in self.old).variables }
         ensures kept { shown_in self.new ≡ shown_in self.old }
         ensures settled { held_in self.new ≡ None }
-        ensures message { EF.number result.c_a ∷ EF.number result.c_inf ∷ [] ≡ message_shown EF.ops (shown_in self.old) }
+        ensures message { EF.number result.c_a ∷ EF.number result.c_inf ∷ []
+            ≡ message_shown EF.ops (shown_in self.old) }
     {
         match self.held {
             Some(r) => {
@@ -95,12 +130,13 @@ impl<F: Field, EF: ExtensionField<F>> HeldProduct<F, EF> {
         }
     }
 
-    // Moves the claim to what the message sends at `r`, which is held. None is held before, a variable is left, and
-    // the message is that of the tables.
+    // Moves the claim to what the message sends at `r`, which is held. None is held before, a
+    // variable is left, and the message is that of the tables.
     pub(crate) fn bind(&mut self, message: RoundMessage<EF>, r: EF)
         requires left { 0 < (shown_in self.old).variables }
         requires settled { held_in self.old ≡ None }
-        requires message { EF.number message.c_a ∷ EF.number message.c_inf ∷ [] ≡ message_shown EF.ops (shown_in self.old) }
+        requires message { EF.number message.c_a ∷ EF.number message.c_inf ∷ []
+            ≡ message_shown EF.ops (shown_in self.old) }
         ensures bound { shown_in self.new ≡ with_bound EF.ops (shown_in self.old) (EF.number r) }
         ensures poly { pair_in self.new ≡ pair_in self.old }
         ensures held { held_in self.new ≡ Some r }
@@ -112,8 +148,11 @@ impl<F: Field, EF: ExtensionField<F>> HeldProduct<F, EF> {
     // Adds values to the weights, row by row, and to the claim their sum times the evaluations.
     pub(crate) fn add(&mut self, delta: &[EF], sum_delta: EF)
         requires rows { length delta.now ≡ 2 ^ (shown_in self.old).variables }
-        requires sum { EF.number sum_delta ≡ sum_with EF.ops (shown_in self.old) (entries EF.number delta.now) }
-        ensures { shown_in self.new ≡ with_added EF.ops (shown_in self.old) (entries EF.number delta.now) (EF.number sum_delta) }
+        requires sum { EF.number sum_delta
+            ≡ sum_with EF.ops (shown_in self.old) (entries EF.number delta.now) }
+        ensures { shown_in self.new
+            ≡ with_added EF.ops (shown_in self.old) (entries EF.number delta.now)
+            (EF.number sum_delta) }
     {
         self.settle();
         self.poly.add_weights(delta);
@@ -131,18 +170,22 @@ impl<F: Field, EF: ExtensionField<F>> HeldProduct<F, EF> {
 
     // Adds the batch of a true constraint to the weights and to the claim.
     pub(crate) fn take_in(&mut self, alloc: Global, constraint: &Constraint<F, EF>)
-        requires { IsTrueConstraint EF.ops (shown_in self.old) (stated (λ x. EF.embedding (F.number x)) EF.number constraint.now) }
+        requires { IsTrueConstraint EF.ops (shown_in self.old)
+            (stated (λ x. EF.embedding (F.number x)) EF.number constraint.now) }
         ensures { shown_in self.new
-            ≡ with_taken EF.ops (shown_in self.old) (Some (stated (λ x. EF.embedding (F.number x)) EF.number constraint.now)) }
+            ≡ with_taken EF.ops (shown_in self.old)
+            (Some (stated (λ x. EF.embedding (F.number x)) EF.number constraint.now)) }
     {
         self.settle();
         self.poly.combine(alloc, &mut self.sum, constraint).unwrap();
     }
 
-    // Plays a round: appends the message of the tables to the data, and holds the challenge that is drawn. Only the images of the two
-    // values and of the challenge are in the transcript, whose field the entries' field represents.
+    // Plays a round: appends the message of the tables to the data, and holds the challenge that is
+    // drawn. Only the images of the two values and of the challenge are in the transcript, whose
+    // field the entries' field represents.
     //
-    // The refusals are those of `SumcheckData::observe_and_sample`, and leave what is shown, and the data, as they were.
+    // The refusals are those of `SumcheckData::observe_and_sample`, and leave what is shown, and
+    // the data, as they were.
     pub(crate) fn round<G: Field, EG: ExtensionField<G>, C: Challenger<G>>(
         &mut self,
         sumcheck_data: &mut SumcheckData<G, EG>,
@@ -155,11 +198,17 @@ impl<F: Field, EF: ExtensionField<F>> HeldProduct<F, EF> {
         ensures continues { Continues (driver_in transcript.old) (driver_in transcript.new) }
         ensures order { (shown_in self.new).order ≡ (shown_in self.old).order }
         ensures counts { Counts (driver_in transcript.old) (driver_in transcript.new) result }
-        ensures round { Moves EG.number (setting_over EG.extension EG.ops (shown_in self.old) transcript.old)
-            (standing_over EG.number (image_in EF.to_number self.old) transcript.old sumcheck_data.old)
-            (standing_over EG.number (image_in EF.to_number self.new) transcript.new sumcheck_data.new) (driver_in transcript.old).played result }
+        ensures round { Moves EG.number
+            (setting_over EG.extension EG.ops (shown_in self.old) transcript.old)
+            (standing_over EG.number
+            (image_in EF.to_number self.old) transcript.old sumcheck_data.old)
+            (standing_over EG.number
+            (image_in EF.to_number self.new) transcript.new sumcheck_data.new)
+            (driver_in transcript.old).played result }
         ensures kept { OnErr result (shown_in self.new ≡ shown_in self.old) }
-        ensures holds { IfOk result (λ r. Holds (image_in EF.to_number self.old) (EG.number r) (image_stored_in EF.to_number self.new)) }
+        ensures holds { IfOk result
+            (λ r. Holds (image_in EF.to_number self.old) (EG.number r)
+            (image_stored_in EF.to_number self.new)) }
     {
         let message = self.measure();
         let c_a = message.c_a.into_transcript();
@@ -172,7 +221,8 @@ impl<F: Field, EF: ExtensionField<F>> HeldProduct<F, EF> {
         Ok(drawn)
     }
 
-    // Plays so many rounds of a transcript as it has left, and appends their challenges to a list that has room for them.
+    // Plays so many rounds of a transcript as it has left, and appends their challenges to a list
+    // that has room for them.
     pub(crate) fn play<G: Field, EG: ExtensionField<G>, C: Challenger<G>>(
         &mut self,
         sumcheck_data: &mut SumcheckData<G, EG>,
@@ -181,19 +231,26 @@ impl<F: Field, EF: ExtensionField<F>> HeldProduct<F, EF> {
     ) -> Result<(), SumcheckError>
     where
         EF: IntoTranscriptField<EG>,
-        requires variables { (driver_in transcript.old).shape.num_rounds ≤ (shown_in self.old).variables }
+        requires variables { (driver_in transcript.old).shape.num_rounds ≤
+            (shown_in self.old).variables }
         requires none_played { (driver_in transcript.old).played ≡ 0 }
         requires empty { challenges.old.items ≡ [] }
         requires room { (driver_in transcript.old).shape.num_rounds ≤ vec_capacity challenges.old }
         ensures continues { Continues (driver_in transcript.old) (driver_in transcript.new) }
         ensures order { (shown_in self.new).order ≡ (shown_in self.old).order }
-        ensures left { (shown_in self.new).variables + (driver_in transcript.new).played ≡ (shown_in self.old).variables }
-        ensures rounds { PlaysAll (setting_over EG.extension EG.ops (shown_in self.old) transcript.old)
-            (standing_over EG.number (image_in EF.to_number self.old) transcript.old sumcheck_data.old)
-            (standing_over EG.number (image_in EF.to_number self.new) transcript.new sumcheck_data.new)
+        ensures left { (shown_in self.new).variables + (driver_in transcript.new).played
+            ≡ (shown_in self.old).variables }
+        ensures rounds { PlaysAll
+            (setting_over EG.extension EG.ops (shown_in self.old) transcript.old)
+            (standing_over EG.number
+            (image_in EF.to_number self.old) transcript.old sumcheck_data.old)
+            (standing_over EG.number
+            (image_in EF.to_number self.new) transcript.new sumcheck_data.new)
             (map EG.number challenges.new.items) (driver_in transcript.new) result }
-        ensures holds { IfOk result (λ _. HoldsIfAny (setting_over EG.extension EG.ops (shown_in self.old) transcript.old)
-            (standing_over EG.number (image_in EF.to_number self.old) transcript.old sumcheck_data.old)
+        ensures holds { IfOk result
+            (λ _. HoldsIfAny (setting_over EG.extension EG.ops (shown_in self.old) transcript.old)
+            (standing_over EG.number
+            (image_in EF.to_number self.old) transcript.old sumcheck_data.old)
             (map EG.number challenges.new.items) (image_stored_in EF.to_number self.new)) }
     {
         for _round in 0..transcript.shape().num_rounds {
@@ -220,12 +277,19 @@ impl<F: Field, EF: ExtensionField<F>> HeldProduct<F, EF> {
         ensures rules { C.rules challenger.new ≡ C.rules challenger.old }
         ensures order { (shown_in self.new).order ≡ (shown_in self.old).order }
         ensures batch { LeavesBatch (map EG.number)
-            (batch_at (setting_at (channel (C.rules challenger.old) EG.extension G.ops.size shape.pow_bits) EG.ops (shown_in self.old))
-            (standing_at (image_in EF.to_number self.old) (C.history challenger.old) (wire_in G.number EG.number sumcheck_data.old)) EG.DEGREE shape)
-            (standing_at (image_in EF.to_number self.new) (C.history challenger.new) (wire_in G.number EG.number sumcheck_data.new)) result }
+            (batch_at (setting_at
+            (channel (C.rules challenger.old) EG.extension G.ops.size shape.pow_bits) EG.ops
+            (shown_in self.old))
+            (standing_at (image_in EF.to_number self.old) (C.history challenger.old)
+            (wire_in G.number EG.number sumcheck_data.old)) EG.DEGREE shape)
+            (standing_at (image_in EF.to_number self.new) (C.history challenger.new)
+            (wire_in G.number EG.number sumcheck_data.new)) result }
         ensures holds { IfOk result (λ rs. HoldsBatch
-            (batch_at (setting_at (channel (C.rules challenger.old) EG.extension G.ops.size shape.pow_bits) EG.ops (shown_in self.old))
-            (standing_at (image_in EF.to_number self.old) (C.history challenger.old) (wire_in G.number EG.number sumcheck_data.old)) EG.DEGREE shape)
+            (batch_at (setting_at
+            (channel (C.rules challenger.old) EG.extension G.ops.size shape.pow_bits) EG.ops
+            (shown_in self.old))
+            (standing_at (image_in EF.to_number self.old) (C.history challenger.old)
+            (wire_in G.number EG.number sumcheck_data.old)) EG.DEGREE shape)
             (map EG.number rs) (image_stored_in EF.to_number self.new)) }
     {
         let mut challenges = with_room(alloc, shape.num_rounds)?;

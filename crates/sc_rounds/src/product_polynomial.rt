@@ -28,7 +28,15 @@ pub struct ProductPolynomial<F, EF> {
 impl<F: Field, EF: ExtensionField<F>> ProductPolynomial<F, EF> {
     ghost use Rattle.sc_transcript.specs.Data.{wire_in, spare_in};
     ghost use Rattle.sc_transcript.specs.Drivers.{driver_in, Continues, HasRoundLeft, HasRoom};
-    ghost use Rattle.sc_rounds.specs.Products.{variables_in, order_in, evals_in, weights_in, sum_in, pair_message, BindsPair};
+    ghost use Rattle.sc_rounds.specs.Products.{
+      variables_in,
+      order_in,
+      evals_in,
+      weights_in,
+      sum_in,
+      pair_message,
+      BindsPair,
+    };
     ghost use Rattle.sc_rounds.specs.Standings.{setting_on, standing_on, Moves, MovesHonestly, Counts, TakesItsRoom};
 
     /// The pair of these tables, which have as many variables.
@@ -230,7 +238,8 @@ impl<F: Field, EF: ExtensionField<F>> ProductPolynomial<F, EF> {
     // The message of a round. A variable is left.
     pub(crate) fn measure(&self) -> RoundMessage<EF>
         requires { 0 < variables_in self.now }
-        ensures { EF.number result.c_a ∷ EF.number result.c_inf ∷ [] ≡ pair_message EF.ops EF.number self.now }
+        ensures { EF.number result.c_a ∷ EF.number result.c_inf ∷ []
+            ≡ pair_message EF.ops EF.number self.now }
     {
         let (evals, weights) = (self.evals.as_slice(), self.weights.as_slice());
         self.order.sumcheck_coefficients::<EF, EF>(evals, weights)
@@ -245,11 +254,13 @@ impl<F: Field, EF: ExtensionField<F>> ProductPolynomial<F, EF> {
         self.order.fix_var::<EF, EF>(&mut self.weights, r);
     }
 
-    // Binds the variable that comes next, and gives the message of the round that binds the one after it, in one pass.
+    // Binds the variable that comes next, and gives the message of the round that binds the one
+    // after it, in one pass.
     pub(crate) fn bind_and_measure(&mut self, r: EF) -> RoundMessage<EF>
         requires { 1 < variables_in self.old }
         ensures bound { BindsPair EF.ops EF.number (EF.number r) self.old self.new }
-        ensures message { EF.number result.c_a ∷ EF.number result.c_inf ∷ [] ≡ pair_message EF.ops EF.number self.new }
+        ensures message { EF.number result.c_a ∷ EF.number result.c_inf ∷ []
+            ≡ pair_message EF.ops EF.number self.new }
     {
         let ProductPolynomial {
             order,
@@ -266,7 +277,8 @@ impl<F: Field, EF: ExtensionField<F>> ProductPolynomial<F, EF> {
         ensures order { order_in self.new ≡ order_in self.old }
         ensures evals { evals_in EF.number self.new ≡ evals_in EF.number self.old }
         ensures weights { (b : ℕ) → b < 2 ^ variables_in self.old
-            → weights_in EF.number self.new b ≡ weights_in EF.number self.old b *⟨ EF.ops ⟩ EF.number scale }
+            → weights_in EF.number self.new b
+            ≡ weights_in EF.number self.old b *⟨ EF.ops ⟩ EF.number scale }
     {
         scale_entries(self.weights.as_mut_slice(), scale);
     }
@@ -298,7 +310,8 @@ fn add_entries<EF: Field>(totals: &mut [EF], values: &[EF])
 // Multiplies each entry by the scale.
 fn scale_entries<EF: Field>(values: &mut [EF], scale: EF)
     ensures { (b : ℕ) → b < length values.old
-        → entries EF.number values.new b ≡ entries EF.number values.old b *⟨ EF.ops ⟩ EF.number scale }
+        → entries EF.number values.new b
+        ≡ entries EF.number values.old b *⟨ EF.ops ⟩ EF.number scale }
 {
     for i in 0..values.len() {
         values[i] = values[i].mul(scale);

@@ -1,5 +1,23 @@
 //! The prover of a sumcheck.
-ghost use Rattle.std.specs.Prelude.{◌≡◌, ◌↔◌, ℕ, ◌<◌, ◌≤◌, ◌^◌, Err, IfOk, IfErr, OnErr, IsTrue, None, Some, [], ◌∷◌, length, map};
+ghost use Rattle.std.specs.Prelude.{
+  ◌≡◌,
+  ◌↔◌,
+  ℕ,
+  ◌<◌,
+  ◌≤◌,
+  ◌^◌,
+  Err,
+  IfOk,
+  IfErr,
+  OnErr,
+  IsTrue,
+  None,
+  Some,
+  [],
+  ◌∷◌,
+  length,
+  map,
+};
 ghost use Rattle.std.specs.Borrow.{sem};
 ghost use Rattle.std.specs.Io.BufRead.{Rests};
 ghost use Rattle.sc_definitions.specs.Tables.{entries, rows_of, value};
@@ -31,22 +49,31 @@ mod repr;
 
 pub use repr::ReprSumcheckProver;
 
-/// A prover: a pair of tables, and the claim that the sum over all rows of evaluation times weight has
-/// a value, which is always true.
+/// A prover: a pair of tables, and the claim that the sum over all rows of evaluation times weight
+/// has a value, which is always true.
 ///
-/// The last challenge of a batch is held: the tables are not bound at it before the next round measures
-/// them, which does both in one pass, or before somebody asks what they are.
+/// The last challenge of a batch is held: the tables are not bound at it before the next round
+/// measures them, which does both in one pass, or before somebody asks what they are.
 #[derive(Drop)]
 pub struct SumcheckProver<F: Field, EF: ExtensionField<F>> {
     rounds: HeldProduct<F, EF>,
-    ghost true_sum: { IsTrueClaim EF.ops (held_shown EF.ops EF.number rounds.poly rounds.held rounds.sum) },
+    ghost true_sum: { IsTrueClaim EF.ops
+        (held_shown EF.ops EF.number rounds.poly rounds.held rounds.sum) },
 }
 
 impl<F: Field, EF: ExtensionField<F>> SumcheckProver<F, EF> {
     ghost use Rattle.sc_transcript.specs.Shapes.{shape_of};
     ghost use Rattle.sc_rounds.specs.Standings.{LeavesBatch};
     ghost use Rattle.sc_rounds.specs.HeldProducts.{Holds, HoldsBatch};
-    ghost use Rattle.sc_rounds.specs.ProverViews.{shown_by, stored_by, IsTrueOf, IsNoneOrTrueOf, shown_with, standing_of, batch_of};
+    ghost use Rattle.sc_rounds.specs.ProverViews.{
+      shown_by,
+      stored_by,
+      IsTrueOf,
+      IsNoneOrTrueOf,
+      shown_with,
+      standing_of,
+      batch_of,
+    };
     ghost use Rattle.sc_rounds.specs.contracts.strategy.SumcheckProver.{the_row};
 
     /// A prover of a claim that is true, as [`SumcheckProver::sum_is_true`] tests.
@@ -111,17 +138,19 @@ impl<F: Field, EF: ExtensionField<F>> SumcheckProver<F, EF> {
         requires { 0 < (shown_by self.old).variables }
         ensures kept { shown_by self.new ≡ shown_by self.old }
         ensures settled { (stored_by self.new).held ≡ None }
-        ensures message { EF.number result.c_a ∷ EF.number result.c_inf ∷ [] ≡ honest_shown EF.ops (shown_by self.old) }
+        ensures message { EF.number result.c_a ∷ EF.number result.c_inf ∷ []
+            ≡ honest_shown EF.ops (shown_by self.old) }
     {
         self.rounds.measure()
     }
 
-    /// Moves the claim to what the message of [`SumcheckProver::measure_round`] sends at `r`, which is
-    /// held. A variable is left, and no challenge is held.
+    /// Moves the claim to what the message of [`SumcheckProver::measure_round`] sends at `r`, which
+    /// is held. A variable is left, and no challenge is held.
     pub fn bind_round(&mut self, m: RoundMessage<EF>, r: EF)
         requires left { 0 < (shown_by self.old).variables }
         requires settled { (stored_by self.old).held ≡ None }
-        requires message { EF.number m.c_a ∷ EF.number m.c_inf ∷ [] ≡ honest_shown EF.ops (shown_by self.old) }
+        requires message { EF.number m.c_a ∷ EF.number m.c_inf ∷ []
+            ≡ honest_shown EF.ops (shown_by self.old) }
         ensures bound { shown_by self.new ≡ with_bound EF.ops (shown_by self.old) (EF.number r) }
         ensures holds { Holds (shown_by self.old) (EF.number r) (stored_by self.new) }
     {
@@ -201,7 +230,9 @@ impl<F: Field, EF: ExtensionField<F>> SumcheckProver<F, EF> {
     pub fn delta_is_true(&mut self, weights_delta: &[EF], sum_delta: EF) -> bool
         requires { length weights_delta.now ≡ 2 ^ (shown_by self.old).variables }
         ensures kept { shown_by self.new ≡ shown_by self.old }
-        ensures exact { IsTrue result ↔ (EF.number sum_delta ≡ sum_with EF.ops (shown_by self.old) (entries EF.number weights_delta.now)) }
+        ensures exact { IsTrue result ↔
+            (EF.number sum_delta
+            ≡ sum_with EF.ops (shown_by self.old) (entries EF.number weights_delta.now)) }
     {
         self.rounds.settle();
         self.rounds.poly.dot_with(weights_delta).index() == sum_delta.index()
@@ -211,8 +242,11 @@ impl<F: Field, EF: ExtensionField<F>> SumcheckProver<F, EF> {
     /// [`SumcheckProver::delta_is_true`] tests. The evaluations stay.
     pub fn accumulate_claim(&mut self, weights_delta: &[EF], sum_delta: EF)
         requires rows { length weights_delta.now ≡ 2 ^ (shown_by self.old).variables }
-        requires sum { EF.number sum_delta ≡ sum_with EF.ops (shown_by self.old) (entries EF.number weights_delta.now) }
-        ensures { shown_by self.new ≡ with_added EF.ops (shown_by self.old) (entries EF.number weights_delta.now) (EF.number sum_delta) }
+        requires sum { EF.number sum_delta
+            ≡ sum_with EF.ops (shown_by self.old) (entries EF.number weights_delta.now) }
+        ensures { shown_by self.new
+            ≡ with_added EF.ops (shown_by self.old) (entries EF.number weights_delta.now)
+            (EF.number sum_delta) }
     {
         self.rounds.add(weights_delta, sum_delta);
     }
@@ -238,12 +272,14 @@ impl<F: Field, EF: ExtensionField<F>> SumcheckProver<F, EF> {
         ensures rules { C.rules challenger.new ≡ C.rules challenger.old }
         ensures order { (shown_by self.new).order ≡ (shown_by self.old).order }
         ensures batch { LeavesBatch (map EF.number)
-            (batch_of self.old constraint sumcheck_data.old (C.rules challenger.old) (C.history challenger.old) (shape_of folding_factor pow_bits Basis.Evaluation))
+            (batch_of self.old constraint sumcheck_data.old (C.rules challenger.old)
+            (C.history challenger.old) (shape_of folding_factor pow_bits Basis.Evaluation))
             (standing_of self.new sumcheck_data.new (C.history challenger.new)) result }
 
         // The last challenge is held, and the stored tables have all others bound.
         ensures holds { IfOk result (λ rs. HoldsBatch
-            (batch_of self.old constraint sumcheck_data.old (C.rules challenger.old) (C.history challenger.old) (shape_of folding_factor pow_bits Basis.Evaluation))
+            (batch_of self.old constraint sumcheck_data.old (C.rules challenger.old)
+            (C.history challenger.old) (shape_of folding_factor pow_bits Basis.Evaluation))
             (map EF.number rs) (stored_by self.new)) }
     {
         self.take_in_if_some(alloc, constraint);

@@ -23,7 +23,8 @@ use std::marker::PhantomData;
 pub struct ReprSumcheckProver<F: Field, EF: ExtensionField<F>, R: IntoTranscriptField<EF>> {
     rounds: HeldProduct<R, R>,
     of: PhantomData<(F, EF)>,
-    ghost true_sum: { IsTrueClaim R.ops (held_shown R.ops R.number rounds.poly rounds.held rounds.sum) },
+    ghost true_sum: { IsTrueClaim R.ops
+        (held_shown R.ops R.number rounds.poly rounds.held rounds.sum) },
 }
 
 impl<F: Field, EF: ExtensionField<F>, R: IntoTranscriptField<EF>> ReprSumcheckProver<F, EF, R> {
@@ -71,7 +72,8 @@ impl<F: Field, EF: ExtensionField<F>, R: IntoTranscriptField<EF>> ReprSumcheckPr
         weights: Poly<R>,
         sum: EF,
     ) -> Result<Self, NoMemory>
-        requires { TablesAgree EF.ops EF.number (λ x. R.to_number (R.number x)) evals weights (EF.number sum) }
+        requires { TablesAgree EF.ops EF.number (λ x. R.to_number (R.number x)) evals weights
+            (EF.number sum) }
         ensures { IfOk result (λ p. image_shown_by p ≡ tables_shown EF.number (λ x. R.to_number (R.number x)) order evals weights (EF.number sum)) }
     {
         let evals = represented(alloc, evals)?;
@@ -176,7 +178,8 @@ impl<F: Field, EF: ExtensionField<F>, R: IntoTranscriptField<EF>> ReprSumcheckPr
 
 // The image of a value, if there is one.
 fn image_if_some<EF: Field, R: IntoTranscriptField<EF>>(value: Option<EF>) -> Option<R>
-    ensures { number_if_some (λ x. R.to_number (R.number x)) result ≡ number_if_some EF.number value }
+    ensures { number_if_some (λ x. R.to_number (R.number x)) result
+        ≡ number_if_some EF.number value }
 {
     match value {
         Some(x) => Some(R::from_element(x)),

@@ -65,7 +65,8 @@ enum Reader {
     Value,
 }
 
-// Whether the reader, asked before all others, tells of the tables that are bound, and nothing is held behind it.
+// Whether the reader, asked before all others, tells of the tables that are bound, and nothing is
+// held behind it.
 fn reads_bound(
     alloc: Global,
     prover: &mut SumcheckProver<F65537, F65537>,
