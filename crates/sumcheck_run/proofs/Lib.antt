@@ -8,3 +8,4 @@ pub mod RunLaws
 pub mod WordLaws
 pub mod MadeLaws
 pub mod MadeJobs
+pub mod WorkedMade

@@ -20,7 +20,7 @@ use Rattle.sumcheck_run.specs.Report.{case_reply}
 
 -- ---- the values
 
--- value number i of those that a number begins, which is number 0 itself: each is 75 times the one before it, and 74, modulo 65537
+-- value number i of those that a number begins, itself number 0: each is 75 times the one before it plus 74, modulo 65537
 unfoldable pub value_at : ℕ → ℕ → ℕ
 value_at number zero = number
 value_at number (suc i) = (75 * value_at number i + 74) % 65537

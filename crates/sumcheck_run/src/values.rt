@@ -5,7 +5,7 @@ ghost use Rattle.sumcheck_run.specs.Made.{value_at, values_behind};
 use sc_field::{F65537, Field, NoMemory};
 use std::alloc::Global;
 
-/// The values that a number begins: each is 75 times the one before it, and 74, modulo 65537.
+/// The values that a number begins: each is 75 times the one before it plus 74, modulo 65537.
 #[derive(Drop)]
 pub(crate) struct Values {
     last: u64,
