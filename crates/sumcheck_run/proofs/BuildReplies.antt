@@ -8,7 +8,7 @@ use Rattle.sc_definitions.specs.Tables.{IsOffered}
 use Rattle.sc_definitions.specs.Transcript.{Round, messages_of, challenges, IsBuilt}
 use Rattle.sc_definitions.specs.Problem.{honest_of}
 use Rattle.sc_definitions.proofs.BuildLaws.{built-residual, first_false_claim-all}
-use Rattle.sc_statements.specs.FalseClaims.{told}
+use Rattle.sc_statements.specs.FalseClaims.{capped}
 use Rattle.sc_table.specs.declared.strategy.Strategy.{Strategy}
 use Rattle.sc_audit.specs.declared.error.AuditError.{AuditError}
 use Rattle.sc_audit.specs.Cases.{build, Asked, start_of}
@@ -28,9 +28,9 @@ use Rattle.sumcheck_run.specs.Witnesses.{honest_rounds}
 use Rattle.sumcheck_run.specs.Report.{Fields, fields_of, judge, task_of, asked_by, finding_reply, figure_lines, or_no_witness, rounds_of, rounds_reply, reply_by, case_reply, judge_over}
 use Rattle.sumcheck_run.proofs.WitnessLaws.{IsBuiltOr, honest_rounds-built}
 
-told-none : (found : Option FalseClaim) → false_refusal (told found) ≡ None → found ≡ None
-told-none None e = refl
-told-none (Some c) e = cc
+capped-none : (found : Option FalseClaim) → false_refusal (capped found) ≡ None → found ≡ None
+capped-none None e = refl
+capped-none (Some c) e = cc
 
 or_later-none : (first later : Option AuditError) → or_later first later ≡ None → later ≡ None
 or_later-none None later e = e
@@ -39,7 +39,7 @@ or_later-none (Some x) later e = cc
 -- the statements of a build that is not refused are true
 pub all-true : (q : Asked) (strategy : Strategy) → q.case.task ≡ build strategy → refusal_of q ≡ None → false_claim_of q.ops q.case.problem ≡ None
 all-true q strategy task none =
-    told-none _ (sym (ap (refusal_for q) task) ∙ or_later-none (shape_refusal q) _ (or_later-none (mode_refusal q.case.task) _ none))
+    capped-none _ (sym (ap (refusal_for q) task) ∙ or_later-none (shape_refusal q) _ (or_later-none (mode_refusal q.case.task) _ none))
 
 module _ (q : Asked) (ring : IsRing q.ops) (offered : IsOffered q.case.problem.basis q.case.problem.order) (none : false_claim_of q.ops q.case.problem ≡ None) where
   -- rounds that are built on true statements hold

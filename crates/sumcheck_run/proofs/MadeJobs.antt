@@ -23,7 +23,7 @@ use Rattle.sc_statements.specs.declared.statement.next.NextStatement.{NextStatem
 use Rattle.sc_statements.specs.EqStatements.{eq_statements}
 use Rattle.sc_statements.specs.NextStatements.{next_statements}
 use Rattle.sc_statements.specs.Groups.{all_statements}
-use Rattle.sc_statements.specs.FalseClaims.{told}
+use Rattle.sc_statements.specs.FalseClaims.{capped}
 use Rattle.sc_audit.specs.Cases.{build, Asked}
 use Rattle.sc_audit.specs.Refusals.{or_later, mode_refusal, exponent_from, arity_of, shape_by, false_refusal, refusal_of}
 use Rattle.sc_audit.proofs.ShapeLaws.{exponent-next, exponent-found}
@@ -135,10 +135,10 @@ made-unrefused r made =
     let count : n ≡ r.variables = values-count r.number (2 ^ r.variables) r.variables in
     let rows : length p.table ≡ 2 ^ n = (parts-fit r.number r.variables).rows in
     let low : n < 25 = omega (arith, made.few) in
-    ap (λ first. or_later first (or_later (shape_by (arity_of (length p.table)) 16 (length p.table) 0 n) (false_refusal (told (first_false_claim (residues 65537) n (rows_of p.table) 0 (true_statements (residues 65537) p))))))
+    ap (λ first. or_later first (or_later (shape_by (arity_of (length p.table)) 16 (length p.table) 0 n) (false_refusal (capped (first_false_claim (residues 65537) n (rows_of p.table) 0 (true_statements (residues 65537) p))))))
     (unrefused-mode r.strategy made.strategy)
-    ∙ ap (λ first. or_later first (false_refusal (told (first_false_claim (residues 65537) n (rows_of p.table) 0 (true_statements (residues 65537) p))))) (unrefused-shape (length p.table) n low rows)
-    ∙ ap (λ found. false_refusal (told found)) (all_true (residues 65537) n (rows_of p.table) 0 (equality p.point ∷ successor prefix [] p.successor ∷ []))
+    ∙ ap (λ first. or_later first (false_refusal (capped (first_false_claim (residues 65537) n (rows_of p.table) 0 (true_statements (residues 65537) p))))) (unrefused-shape (length p.table) n low rows)
+    ∙ ap (λ found. false_refusal (capped found)) (all_true (residues 65537) n (rows_of p.table) 0 (equality p.point ∷ successor prefix [] p.successor ∷ []))
 
 -- what is replied to a recipe holds
 pub made-holds : (r : Recipe) → IsMade r → (made_reply r).outcome ≡ Holds
