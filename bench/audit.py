@@ -14,7 +14,10 @@ one after the other in each repeat, and the medians of wall time, processor time
 ratio to the last program's. Status and output of all are compared byte for byte.
 The peak is what wait4 tells, at least this script's own size of some 15 MB.
 """
-import argparse, json, os, random, shlex, shutil, statistics, sys, tempfile, time
+import argparse, json, os, random, shlex, shutil, statistics, sys, tempfile
+
+from measured import run
+
 
 class Prime:
     """The integers modulo a prime."""
@@ -172,18 +175,6 @@ def proof(command, given, folder):
     return {"check": {"rounds": [[int(x) for x in words[2:4]] for words in lines], "witnesses": witnesses}}
 
 
-def run(command, path, out):
-    start = time.monotonic()
-    pid = os.fork()
-    if pid == 0:
-        os.dup2(os.open(path, os.O_RDONLY), 0)
-        os.dup2(os.open(out, os.O_WRONLY | os.O_CREAT | os.O_TRUNC, 0o600), 1)
-        os.execvp(command[0], command + ["audit"])
-    _, status, usage = os.wait4(pid, 0)
-    wall = time.monotonic() - start
-    return wall * 1e3, (usage.ru_utime + usage.ru_stime) * 1e3, usage.ru_maxrss / 1024, os.waitstatus_to_exitcode(status)
-
-
 def main():
     arguments = argparse.ArgumentParser(description=__doc__, formatter_class=argparse.RawDescriptionHelpFormatter)
     arguments.add_argument("--variables", type=int, default=20)
@@ -224,7 +215,7 @@ def main():
         print(f"{'program':40}{'wall ms':>10}{'cpu ms':>10}{'peak MB':>10}")
         for program, m in zip(given.programs, medians):
             ratios = "  ".join(f"{a / b:.2f}" for a, b in zip(m, medians[-1]))
-            print(f"{program[-39:]:40}{m[0]:>10.1f}{m[1]:>10.1f}{m[2]:>10.1f}   x {ratios}")
+            print(f"{program[-39:]:40}{m[0] * 1e3:>10.1f}{m[1] * 1e3:>10.1f}{m[2]:>10.1f}   x {ratios}")
         for status, text in answers:
             print(f"status {status}, {text.splitlines()[-1].decode() if text else 'nothing written'}")
         if len(answers) != 1:

@@ -7,7 +7,9 @@ usage: bench/worst.py write NAME                 writes the job of that name to 
 PROGRAM is a command line, to which the word `audit` is appended. Shown are the job's bytes, wall and processor time,
 the peak of memory, the status and the last line of the answer. No job is longer than an input may be, 64 MiB.
 """
-import os, random, shlex, sys, tempfile, time
+import os, random, shlex, sys, tempfile
+
+from measured import run
 
 LIMIT = 1 << 26
 SCRIPT = '{"draws":[3,4],"witnesses":[[0],[0]]}'
@@ -128,18 +130,6 @@ JOBS = {
     "claims-next-20-257x2": lambda: tabled(20, claims(20, 20, 64), field="257x2"),
     "claims-next-24": lambda: tabled(24, claims(24, 24, 16)),
 }
-
-
-def run(command, path, out):
-    start = time.monotonic()
-    pid = os.fork()
-    if pid == 0:
-        os.dup2(os.open(path, os.O_RDONLY), 0)
-        os.dup2(os.open(out, os.O_WRONLY | os.O_CREAT | os.O_TRUNC, 0o600), 1)
-        os.execvp(command[0], command + ["audit"])
-    _, status, usage = os.wait4(pid, 0)
-    wall = time.monotonic() - start
-    return wall, usage.ru_utime + usage.ru_stime, usage.ru_maxrss / 1024, os.waitstatus_to_exitcode(status)
 
 
 def measure(program, names):
