@@ -12,7 +12,7 @@ rounds have one each in 3 of 10,000; with 18 variables they do for --seed 3179.
 Each PROGRAM is a command line, to which the word `audit` is appended; the job comes on standard input. The programs run
 one after the other in each repeat, and the medians of wall time, processor time and peak memory are shown, with their
 ratio to the last program's. Status and output of all are compared byte for byte.
-The peak is what wait4 tells, at least this script's own size of some 15 MB.
+The peak is what the program `time` tells; without it, at least this script's own size of some 15 MB.
 """
 import argparse, json, os, random, shlex, shutil, statistics, sys, tempfile
 
@@ -166,7 +166,7 @@ def proof(command, given, folder):
     path, out = os.path.join(folder, "build.json"), os.path.join(folder, "built")
     with open(path, "w") as f:
         f.write(job(given, {"build": given.build}))
-    status = run(command, path, out)[3]
+    status = run(command + ["audit"], path, out)[3]
     with open(out) as f:
         lines = [line.split() for line in f if line.startswith("round ")]
     if status != 0 or len(lines) != given.variables:
@@ -207,7 +207,7 @@ def main():
         for _ in range(given.repeats):
             for i, program in enumerate(given.programs):
                 out = os.path.join(folder, f"out-{i}")
-                sample = run(shlex.split(program), path, out)
+                sample = run(shlex.split(program) + ["audit"], path, out)
                 samples[i].append(sample)
                 with open(out, "rb") as f:
                     answers.add((sample[3], f.read()))

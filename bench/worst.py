@@ -142,7 +142,7 @@ def measure(program, names):
             size = os.path.getsize(path)
             if size > LIMIT:
                 sys.exit(f"{name}: {size} bytes are too many")
-            wall, processor, peak, status = run(shlex.split(program), path, out)
+            wall, processor, peak, status = run(shlex.split(program) + ["audit"], path, out)
             with open(out) as f:
                 said = "".join(f.read().splitlines()[-1:])
             print(f"{name:22}{size:>10}{wall:>9.2f}{processor:>9.2f}{peak:>9.0f}  {status} {said[:60]}", flush=True)

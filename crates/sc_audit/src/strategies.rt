@@ -141,7 +141,7 @@ fn embedded<F: Field, EF: ExtensionField<F>>(
 {
     let mut images = Vec::with_capacity(alloc, table.len())?;
     for x in table {
-        images.push(EF::embed(*x))?;
+        images.push_reserved(EF::embed(*x));
     }
     Ok(images)
 }

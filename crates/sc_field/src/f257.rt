@@ -126,4 +126,6 @@ impl Field for F257 {
             })
         }
     }
+
+    fn blocks_fit() {}
 }

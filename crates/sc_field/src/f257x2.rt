@@ -190,6 +190,8 @@ impl Field for F257x2 {
             None => None,
         }
     }
+
+    fn blocks_fit() {}
 }
 
 impl Algebra<F257> for F257x2 {

@@ -149,6 +149,8 @@ impl Field for F65537 {
             })
         }
     }
+
+    fn blocks_fit() {}
 }
 
 // The element of any number.

@@ -3,6 +3,8 @@ ghost use Rattle.std.specs.Prelude.{◌≡◌, ℕ, ◌*◌, ◌<◌, ◌≤◌,
 ghost use Rattle.sc_definitions.specs.Ring.{Ops, IsField, opposite, power, ◌+⟨◌⟩◌, ◌-⟨◌⟩◌, ◌*⟨◌⟩◌};
 ghost use Rattle.sc_definitions.specs.Tables.{entries};
 ghost use Rattle.sc_field.specs.Products.{products, differences, even_rows, odd_rows};
+ghost use prog.Memory.{size as size_in_bytes};
+ghost use denote.Param.{layout};
 
 use crate::powers::Powers;
 
@@ -175,6 +177,11 @@ pub trait Field: Copy + Eq {
             base: self,
         }
     }
+
+    /// Elements are so small that 256 of them fit on the stack: a law, by which generic code may make an array of a block of them. Its
+    /// body is empty.
+    fn blocks_fit()
+        ensures { 256 * size_in_bytes (layout Self.row) < 2 ^ 63 };
 
     // The numbers below the size, with these operations, are a field: a commutative ring of 16 to
     // 2^32 numbers in which each but 0 has an inverse.

@@ -134,6 +134,8 @@ impl Field for Poly16 {
             })
         }
     }
+
+    fn blocks_fit() {}
 }
 
 // The numbers of the images of the elements of `Tower16`, in order.

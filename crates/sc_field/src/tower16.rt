@@ -130,4 +130,6 @@ impl Field for Tower16 {
             })
         }
     }
+
+    fn blocks_fit() {}
 }

@@ -90,7 +90,7 @@ fn read_items<F: Form>(alloc: Global, form: &F, items: &[Value]) -> Result<Vec<F
 {
     let mut found = Vec::with_capacity(alloc, items.len())?;
     for item in items {
-        found.push(form.read(alloc, item)?)?;
+        found.push_reserved(form.read(alloc, item)?);
     }
     Ok(found)
 }

@@ -5,6 +5,8 @@ pub mod SelectLaws
 pub mod PowerLaws
 pub mod FoldLaws
 pub mod EvalLaws
+pub mod EqualitySteps
+pub mod BlockWeights
 pub mod WeightLaws
 pub mod PointLaws
 pub mod HonestLaws

@@ -5,6 +5,7 @@
 //! and coordinate n to the lowest. Contracts speak of elements by their numbers, as `sc_field` gives them.
 #![tactic(auto)]
 
+mod blocks;
 mod fused;
 mod lagrange;
 mod laws;
@@ -12,11 +13,14 @@ mod point;
 mod poly;
 mod strategy;
 
+pub use blocks::{
+    BLOCK_COORDINATES, add_equality, block_weights, eval_slice, joined_block_weights,
+};
 pub use fused::{fold_and_round_coefficients_prefix, fold_and_round_coefficients_suffix};
 pub use lagrange::{extrapolate_01inf, lagrange_weights_01inf};
 pub use laws::strategy_laws;
 pub use point::Point;
-pub use poly::{Poly, eval_slice};
+pub use poly::Poly;
 pub use sc_memory::Row;
 pub use strategy::{
     Basis, RoundMessage, Strategy, VariableOrder, sumcheck_coefficients_prefix,

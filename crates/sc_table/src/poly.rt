@@ -8,7 +8,7 @@ ghost use Rattle.sc_definitions.specs.Statements.{successor_weight};
 ghost use Rattle.sc_definitions.specs.Shifts.{shifted, only_at};
 ghost use Rattle.sc_table.specs.Blocks.{HasWritten};
 
-use crate::Point;
+use crate::{Point, eval_slice};
 use sc_field::{Algebra, Field, NoMemory};
 use std::alloc::Global;
 
@@ -265,29 +265,5 @@ pub(crate) fn bind_pairs<A: Algebra<Ch>, Ch: Field>(
         let lo = evals[2 * (from + b)];
         let hi = evals[2 * (from + b) + 1];
         evals[from + b] = lo.add(hi.sub(lo).mul_base(r));
-    }
-}
-
-/// The value at `z` of the table that a slice holds: as many entries as a power of two, whose exponent is the number of coordinates.
-///
-/// It goes by halves, in time linear in the table's length, and takes no memory.
-pub fn eval_slice<A: Field, E: Algebra<A>>(evals: &[A], z: &[E]) -> E
-    requires { length evals.now ≡ 2 ^ length z.now }
-    ensures { E.number result ≡ value E.ops (entries (λ x. E.embedding (A.number x)) evals.now) (map E.number z.now) }
-{
-    match z {
-        [] => E::embed(evals[0]),
-
-        // The line through two values, whose slope is an element of A.
-        [only] => {
-            let (lo, hi) = (evals[0], evals[1]);
-            E::embed(lo).add(only.mul_base(hi.sub(lo)))
-        }
-        [first, rest @ ..] => {
-            let half = evals.len() / 2;
-            let lo = eval_slice(&evals[..half], rest);
-            let hi = eval_slice(&evals[half..], rest);
-            lo.add(hi.sub(lo).mul(*first))
-        }
     }
 }

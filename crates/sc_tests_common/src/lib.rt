@@ -1,9 +1,13 @@
-//! What the tests of many crates make of numbers: elements, points and challengers, and whether elements and messages have given numbers.
+//! What the tests of many crates make of numbers: elements, points, tables and challengers, and whether elements and messages have given numbers.
 //! Only crates of tests use it.
 #![tactic(auto)]
 
+mod counted;
 mod numbers;
 mod scripts;
+mod tables;
 
+pub use counted::{Counted, Image, Traced};
 pub use numbers::{are_pairs, elements, have_numbers, of, point};
 pub use scripts::scripted;
+pub use tables::{entry, table};

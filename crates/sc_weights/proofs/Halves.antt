@@ -1,11 +1,14 @@
 -- A list whose first half was replaced, and then its second half.
-use Rattle.std.proofs.Common.{◌≡◌, ℕ, zero, suc, ◌+◌, ◌-◌, ◌*◌, ◌/◌, ◌^◌, ◌<◌, ◌≤◌, List, [], ◌∷◌, ◌++◌, length, get_or, set, take, drop, sym, ◌∙◌, ap, subst, arith, ⊎_elim, pow-add}
+use Rattle.std.proofs.Common.{◌≡◌, ℕ, zero, suc, ◌+◌, ◌-◌, ◌*◌, ◌/◌, ◌^◌, ◌<◌, ◌≤◌, List, ◌++◌, length, set, take, drop, sym, ◌∙◌, ap, subst, arith, ⊎_elim, pow-add}
 use Rattle.std.proofs.lemmas.Bool.{cases_lt}
 use Rattle.std.proofs.lemmas.Nat.{mul-le, pow_pos}
+use Rattle.std.proofs.Math.Pow.{pow_mono}
 use Rattle.std.proofs.lemmas.List.{take_all, take_at, drop_at, length-append, length-take-le, length-drop}
 use Rattle.sc_definitions.specs.Ring.{Ops, plus}
 use Rattle.sc_definitions.specs.Tables.{entries}
 use Rattle.sc_definitions.proofs.TableLaws.{two_halves}
+pub use Rattle.sc_table.proofs.BlockWeights.{split-first}
+use Rattle.sc_table.proofs.BlockWeights.{two_blocks}
 use Rattle.sc_table.proofs.EntryLaws.{entry-set_same, entry-take, entry-drop, entry-append_left, entry-append_right}
 
 module _ {X : Type 0} (number : X → ℕ) (rows : List X) (p : ℕ) (size : length rows ≡ p + p) where
@@ -56,12 +59,6 @@ module _ {X : Type 0} (number : X → ℕ) (rows : List X) (p : ℕ) (size : len
           ∙ ap (entries number (low ++ (high ++ post))) at
           ∙ entry-append_right number low (high ++ post) c
           ∙ entry-append_left number high post c (omega (arith, high_size, high-length, inside))
-
--- ---- the coordinates behind the first
-
-pub split-first : {X : Type 0} (zs : List X) (z : X) → 1 ≤ length zs → z ≡ get_or zs 0 z → zs ≡ z ∷ take (length zs - 1) (drop 1 zs)
-split-first [] z some at = absurd (omega (arith, some))
-split-first (y ∷ ys) z some at = ap (λ l. y ∷ l) (sym (take_all (suc (length ys) - 1) ys (omega arith))) ∙ ap (λ k. k ∷ take (suc (length ys) - 1) ys) (sym at)
 
 -- ---- what the two halves gain
 
@@ -156,6 +153,25 @@ module _ {X Y : Type 0} (rows : List X) (zs ys : List Y) (size : length rows ≡
       let p = 2 ^ (length (take (length zs - 1) (drop 1 zs)) + length ys) in
       is ∙ omega (arith, two_parts, half_is (λ x. 0) rows p two_parts)
 
+-- ---- the same, of rows in blocks of n
+
+module _ {X Y : Type 0} (rows : List X) (zs : List Y) (n : ℕ) (size : length rows ≡ 2 ^ length zs * n) (some : 1 ≤ length zs) where
+  pub low_blocks : length (take (length rows / 2) rows) ≡ 2 ^ length (take (length zs - 1) (drop 1 zs)) * n
+  low_blocks = low-length (λ x. 0) rows _ (two_blocks rows zs n size some)
+
+  pub high_blocks : (low : List X) → length low ≡ length (take (length rows / 2) rows) →
+      length (take (length (low ++ drop (length rows / 2) rows) - length rows / 2) (drop (length rows / 2) (low ++ drop (length rows / 2) rows))) ≡ 2 ^ length (take (length zs - 1) (drop 1 zs)) * n
+  high_blocks low same = high-length (λ x. 0) rows _ (two_blocks rows zs n size some) low same
+
+  pub front_blocks : (front : List X) → length front ≡ length rows / 2 → length front ≡ 2 ^ length (take (length zs - 1) (drop 1 zs)) * n
+  front_blocks front is = is ∙ half_is (λ x. 0) rows _ (two_blocks rows zs n size some)
+
+  pub back_blocks : (back : List X) → length back ≡ length rows - length rows / 2 → length back ≡ 2 ^ length (take (length zs - 1) (drop 1 zs)) * n
+  back_blocks back is =
+      let p = 2 ^ length (take (length zs - 1) (drop 1 zs)) * n in
+      let two = two_blocks rows zs n size some in
+      is ∙ omega (arith, two, half_is (λ x. 0) rows p two)
+
 -- ---- a list whose end, from a place on, was replaced
 
 module _ {X : Type 0} (number : X → ℕ) (rows ending post : List X) (at : ℕ) (inside : at ≤ length rows) where
@@ -194,3 +210,18 @@ pub first-block : {X Y : Type 0} (rows back : List X) (zs ys : List Y) (block : 
 first-block rows back zs ys block size some is back_size =
     length-take-le block back
     (block-fits (length (take (length zs - 1) (drop 1 zs))) (length ys) (length back) block (back_rows rows zs ys size some back (omega (arith, back_size))) is)
+
+-- a table of a block or more
+pub eight-few : (rows n : ℕ) → 256 ≤ rows → rows ≡ 2 ^ n → 8 ≤ n
+eight-few rows n long size = ⊎_elim
+    (λ few.
+    let less : n ≤ 7 = omega (arith, few) in
+    let least : 2 ^ n ≤ 2 ^ 7 = pow_mono less in absurd (omega (arith, least, size, long)))
+    (λ enough. enough)
+    (cases_lt n 8)
+
+-- the rows that at most as many coordinates tell apart as those of a block
+pub rows-few : (k n rows : ℕ) → k ≤ 8 → n ≡ 256 → rows ≡ 2 ^ k → rows ≤ n
+rows-few k n rows few many is =
+    let least : 2 ^ k ≤ 2 ^ 8 = pow_mono few in
+    omega (arith, least, many, is)

@@ -1,6 +1,5 @@
 pub mod Halves
 pub mod PowerSteps
-pub mod EqualitySteps
 pub mod EqualityValues
 pub mod ProductSteps
 pub mod NextSteps

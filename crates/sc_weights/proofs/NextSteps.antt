@@ -1,13 +1,20 @@
 -- Successor weights that are added to rows, by halves and by blocks.
-use Rattle.std.proofs.Common.{◌≡◌, ℕ, zero, suc, ◌+◌, ◌-◌, ◌^◌, ◌<◌, List, [], ◌∷◌, length, sym, ◌∙◌, ap, refl, arith}
+use Rattle.std.proofs.Common.{◌≡◌, ℕ, zero, suc, ◌+◌, ◌-◌, ◌*◌, ◌^◌, ◌<◌, ◌≤◌, List, [], ◌∷◌, ◌++◌, length, take, drop, if◌then◌else◌, sym, ◌∙◌, ap, refl, subst, arith, ⊎_elim, lt-ltb, le-ltb, length-append}
+use Rattle.std.proofs.lemmas.List.{length-take-le, length-drop}
+use Rattle.std.proofs.lemmas.Bool.{cases_lt}
 use Rattle.std.proofs.lemmas.Nat.{pow_pos}
 use Rattle.sc_definitions.specs.Ring.{Ops, IsRing, plus, times, minus}
-use Rattle.sc_definitions.specs.Tables.{weight}
+use Rattle.sc_definitions.specs.Tables.{entries, weight}
 use Rattle.sc_definitions.specs.Shifts.{shifted}
 use Rattle.sc_definitions.specs.Statements.{successor_weight}
 use Rattle.sc_definitions.proofs.RingLaws.{element-small, times-one, times_assoc}
 use Rattle.sc_definitions.proofs.Identity.{atom, nought, unit, ◌⊕◌, ◌⊗◌, ◌⊖◌, Agree, identity}
-use Rattle.sc_definitions.proofs.TableLaws.{weight-low, weight-high, two_halves}
+use Rattle.sc_table.specs.Blocks.{block_weight}
+use Rattle.sc_table.proofs.BlockWeights.{IsSplit, split-weight, blocks-none}
+use Rattle.sc_table.proofs.EntryLaws.{entry-take, entry-drop, entry-append_left, entry-append_right}
+use Rattle.sc_definitions.proofs.BlockLaws.{weight-append}
+use Rattle.sc_weights.specs.Moved.{moved_up}
+use Rattle.sc_weights.proofs.Halves.{before-end, in-end, end-given, last-of}
 use Rattle.sc_definitions.proofs.SuccessorLaws.{only_at-here, only_at-elsewhere, successor-parts}
 
 -- ---- rows that are moved up
@@ -36,44 +43,36 @@ module _ (o : Ops) (ring : IsRing o) where
   shifted-times scale f zero = sym (identity o ring (scale ∷ []) (atom 0 ⊗ nought) nought tt tt refl)
   shifted-times scale f (suc b) = refl
 
-  module _ (z : ℕ) (zs all : List ℕ) (split : all ≡ z ∷ zs) (scale : ℕ) where
-    -- what a half of the rows weighs
-    pub share-low : (b : ℕ) → b < 2 ^ length zs → times o (minus o scale (times o scale z)) (weight o zs b) ≡ times o scale (weight o all b)
+  -- the weights w of each half of 2n rows, with what the first coordinate z leaves of a scale, and takes of it
+  module _ (z n : ℕ) (w all : ℕ → ℕ) (split : IsSplit o z n w all) (scale : ℕ) where
+    pub share-low : (b : ℕ) → b < n → times o (minus o scale (times o scale z)) (w b) ≡ times o scale (all b)
     unfolding Agree
     share-low b low =
         let S = atom 0 in let Z = atom 1 in let W = atom 2 in
-        identity o ring (scale ∷ z ∷ weight o zs b ∷ []) ((S ⊖ S ⊗ Z) ⊗ W) (S ⊗ ((unit ⊖ Z) ⊗ W)) tt tt refl
-        ∙ ap (times o scale) (sym (ap (λ l. weight o l b) split ∙ weight-low o ring z zs b low))
+        identity o ring (scale ∷ z ∷ w b ∷ []) ((S ⊖ S ⊗ Z) ⊗ W) (S ⊗ ((unit ⊖ Z) ⊗ W)) tt tt refl
+        ∙ ap (times o scale) (sym (split.low b low))
 
-    pub share-high : (b : ℕ) → b < 2 ^ length zs → times o (times o scale z) (weight o zs b) ≡ times o scale (weight o all (2 ^ length zs + b))
+    pub share-high : (b : ℕ) → b < n → times o (times o scale z) (w b) ≡ times o scale (all (n + b))
     unfolding Agree
     share-high b low =
-        identity o ring (scale ∷ z ∷ weight o zs b ∷ []) ((atom 0 ⊗ atom 1) ⊗ atom 2) (atom 0 ⊗ (atom 1 ⊗ atom 2)) tt tt refl
-        ∙ ap (times o scale) (sym (ap (λ l. weight o l (2 ^ length zs + b)) split ∙ weight-high o ring z zs b low))
-
-    all-rows : 2 ^ length all ≡ 2 ^ length zs + 2 ^ length zs
-    all-rows = ap (λ l. 2 ^ length l) split ∙ two_halves (length zs)
+        identity o ring (scale ∷ z ∷ w b ∷ []) ((atom 0 ⊗ atom 1) ⊗ atom 2) (atom 0 ⊗ (atom 1 ⊗ atom 2)) tt tt refl
+        ∙ ap (times o scale) (sym (split.high b low))
 
     -- the last row of all is that of the second half
-    pub last-row : times o (times o scale z) (weight o zs (2 ^ length zs - 1)) ≡ times o scale (weight o all (2 ^ length all - 1))
-    last-row =
-        let P = 2 ^ length zs in
-        let pos : 0 < P = pow_pos (length zs) in
-        let at : P + (P - 1) ≡ 2 ^ length all - 1 = omega (arith, all-rows, pos) in
-        share-high (P - 1) (omega (arith, pos)) ∙ ap (λ k. times o scale (weight o all k)) at
+    pub last-row : (rows : ℕ) → 0 < n → rows ≡ n + n → times o (times o scale z) (w (n - 1)) ≡ times o scale (all (rows - 1))
+    last-row rows some size =
+        let at : n + (n - 1) ≡ rows - 1 = omega (arith, size, some) in
+        share-high (n - 1) (omega (arith, some)) ∙ ap (λ k. times o scale (all k)) at
 
     -- and what a half of the rows gains where they are moved up
-    pub moved-low : (before b : ℕ) → b < 2 ^ length zs →
-        shifted before (λ k. times o (minus o scale (times o scale z)) (weight o zs k)) b ≡ shifted before (λ k. times o scale (weight o all k)) b
-    moved-low before b low = shifted-same before before _ _ (2 ^ length zs) b refl share-low low
+    pub moved-low : (before b : ℕ) → b < n → shifted before (λ k. times o (minus o scale (times o scale z)) (w k)) b ≡ shifted before (λ k. times o scale (all k)) b
+    moved-low before b low = shifted-same before before _ _ n b refl share-low low
 
-    pub moved-high : (before between b : ℕ) → between ≡ times o (minus o scale (times o scale z)) (weight o zs (2 ^ length zs - 1)) → b < 2 ^ length zs →
-        shifted between (λ k. times o (times o scale z) (weight o zs k)) b ≡ shifted before (λ k. times o scale (weight o all k)) (2 ^ length zs + b)
+    pub moved-high : (before between b : ℕ) → between ≡ times o (minus o scale (times o scale z)) (w (n - 1)) → b < n →
+        shifted between (λ k. times o (times o scale z) (w k)) b ≡ shifted before (λ k. times o scale (all k)) (n + b)
     moved-high before between b is low =
-        let P = 2 ^ length zs in
-        let pos : 0 < P = pow_pos (length zs) in
-        shifted-same between (times o scale (weight o all (P - 1))) _ (λ k. times o scale (weight o all (P + k))) P b (is ∙ share-low (P - 1) (omega (arith, pos))) share-high low
-        ∙ sym (shifted-behind before (λ k. times o scale (weight o all k)) P b pos)
+        shifted-same between (times o scale (all (n - 1))) _ (λ k. times o scale (all (n + k))) n b (is ∙ share-low (n - 1) (omega (arith, low))) share-high low
+        ∙ sym (shifted-behind before (λ k. times o scale (all k)) n b (omega (arith, low)))
 
   -- of no coordinate
   pub last-none : (scale : ℕ) (zs : List ℕ) → length zs < 1 → scale < o.size → scale ≡ times o scale (weight o zs (2 ^ length zs - 1))
@@ -118,12 +117,125 @@ module _ (o : Ops) (ring : IsRing o) where
   slot-none scale u a (s ∷ ss) none = absurd (omega (arith, none))
 
   module _ (z : ℕ) (zs all : List ℕ) (split : all ≡ z ∷ zs) (scale u b : ℕ) (low : b < 2 ^ length zs) where
+    halves : IsSplit o z (2 ^ length zs) (weight o zs) (weight o all)
+    halves = split-weight o ring z zs all split
+
     pub slot-low : times o (minus o scale (times o scale z)) (times o (weight o zs b) u) ≡ times o scale (times o (weight o all b) u)
     slot-low =
-        sym (times_assoc o ring (minus o scale (times o scale z)) (weight o zs b) u) ∙ ap (λ k. times o k u) (share-low o ring z zs all split scale b low)
+        sym (times_assoc o ring (minus o scale (times o scale z)) (weight o zs b) u)
+        ∙ ap (λ k. times o k u) (share-low o ring z (2 ^ length zs) (weight o zs) (weight o all) halves scale b low)
         ∙ times_assoc o ring scale (weight o all b) u
 
     pub slot-high : times o (times o scale z) (times o (weight o zs b) u) ≡ times o scale (times o (weight o all (2 ^ length zs + b)) u)
     slot-high =
-        sym (times_assoc o ring (times o scale z) (weight o zs b) u) ∙ ap (λ k. times o k u) (share-high o ring z zs all split scale b low)
+        sym (times_assoc o ring (times o scale z) (weight o zs b) u)
+        ∙ ap (λ k. times o k u) (share-high o ring z (2 ^ length zs) (weight o zs) (weight o all) halves scale b low)
         ∙ times_assoc o ring scale (weight o all (2 ^ length zs + b)) u
+
+-- ---- the last row of blocks, and rows whose first one is written alone
+
+module _ (o : Ops) (ring : IsRing o) where
+  pub gain-alone : (scale : ℕ) (zs : List ℕ) (n : ℕ) (w : ℕ → ℕ) → 0 < n → length zs < 1 → (b : ℕ) → b < n → times o scale (w b) ≡ times o scale (block_weight o zs n w b)
+  unfolding Agree
+  gain-alone scale (z ∷ zs) n w some none b low = absurd (omega (arith, none))
+  gain-alone scale [] n w some none b low =
+      identity o ring (scale ∷ w b ∷ []) (atom 0 ⊗ atom 1) (atom 0 ⊗ (unit ⊗ atom 1)) tt tt refl ∙ ap (times o scale) (sym (blocks-none o ring n some w b low))
+
+-- ---- rows that are moved up by s rows
+
+module _ (s : ℕ) (first f : ℕ → ℕ) where
+  up-first : (b : ℕ) → b < s → moved_up s first f b ≡ first b
+  up-first b low = ap (λ t. if t then first b else f (b - s)) (lt-ltb b s low)
+
+  up-behind : (b : ℕ) → s ≤ b → moved_up s first f b ≡ f (b - s)
+  up-behind b high = ap (λ t. if t then first b else f (b - s)) (le-ltb b s high)
+
+pub up-same : (s : ℕ) (first first' f f' : ℕ → ℕ) (n b : ℕ) → ((j : ℕ) → j < s → first j ≡ first' j) → ((k : ℕ) → k < n → f k ≡ f' k) → b < n → moved_up s first f b ≡ moved_up s first' f' b
+up-same s first first' f f' n b firsts same low = ⊎_elim
+    (λ below. up-first s first f b below ∙ firsts b below ∙ sym (up-first s first' f' b below))
+    (λ above. up-behind s first f b above ∙ same (b - s) (omega (arith, low)) ∙ sym (up-behind s first' f' b above))
+    (cases_lt b s)
+
+-- the second half of p rows: behind it stands the first one
+pub up-high : (s p : ℕ) (first first' f high : ℕ → ℕ) → s ≤ p → ((j : ℕ) → j < s → first' j ≡ f (p - s + j)) → ((k : ℕ) → k < p → high k ≡ f (p + k)) → (b : ℕ) → b < p →
+    moved_up s first' high b ≡ moved_up s first f (p + b)
+up-high s p first first' f high fits firsts same b low =
+    let behind = up-behind s first f (p + b) (omega (arith, fits)) in
+    ⊎_elim
+    (λ below.
+    let at : p - s + b ≡ p + b - s = omega (arith, fits) in
+    up-first s first' high b below ∙ firsts b below ∙ ap f at ∙ sym behind)
+    (λ above.
+    let at : p + (b - s) ≡ p + b - s = omega (arith, above) in
+    up-behind s first' high b above ∙ same (b - s) (omega (arith, low)) ∙ ap f at ∙ sym behind)
+    (cases_lt b s)
+
+-- two parts of a list, of which the first has s rows, that were added to one after the other
+pub parts-added : (o : Ops) {X : Type 0} (number : X → ℕ) (rows low high post : List X) (s : ℕ) → s ≤ length rows → length low ≡ length (take s rows) →
+    length high ≡ length (take (length (low ++ drop s rows) - s) (drop s (low ++ drop s rows))) → (first second : ℕ → ℕ) →
+    ((b : ℕ) → b < s → entries number low b ≡ plus o (entries number (take s rows) b) (first b)) →
+    ((a : ℕ) → a < length rows - s → entries number high a ≡ plus o (entries number (take (length (low ++ drop s rows) - s) (drop s (low ++ drop s rows))) a) (second a)) →
+    (b : ℕ) → b < length rows → entries number (take s (low ++ drop s rows) ++ (high ++ post)) b ≡ plus o (entries number rows b) (moved_up s first second b)
+parts-added o number rows low high post s fits low_size high_size first second low_is high_is b inside =
+    let whole = low ++ drop s rows in
+    let lows : length low ≡ s = low_size ∙ length-take-le s rows fits in
+    let size : length whole ≡ length rows = length-append low (drop s rows) ∙ omega (arith, lows, length-drop s rows, fits) in
+    let within : s ≤ length whole = omega (arith, size, fits) in
+    ⊎_elim
+    (λ below.
+    before-end number whole high post s within b below
+    ∙ entry-append_left number low (drop s rows) b (omega (arith, lows, below)) ∙ low_is b below
+    ∙ ap (λ k. plus o k (first b)) (entry-take number rows s b below)
+    ∙ ap (plus o (entries number rows b)) (sym (up-first s first second b below)))
+    (λ above.
+    let a = b - s in
+    let back : s + a ≡ b = omega (arith, above) in
+    let highs : length high ≡ length rows - s = high_size ∙ length-take-le (length whole - s) (drop s whole) (omega (arith, length-drop s whole)) ∙ ap (λ k. k - s) size in
+    let within_rest : a < length rows - s = omega (arith, above, inside) in
+    let row : s + a ≡ length low + a = ap (λ k. k + a) (sym lows) in
+    in-end number whole high post s within b a back (omega (arith, highs, within_rest)) ∙ high_is a within_rest
+    ∙ ap (λ k. plus o k (second a)) (end-given number whole s (length whole - s) a (omega (arith, size, within_rest)) ∙ ap (entries number whole) row
+    ∙ entry-append_right number low (drop s rows) a ∙ entry-drop number rows s a ∙ ap (entries number rows) back)
+    ∙ ap (plus o (entries number rows b)) (sym (up-behind s first second b above)))
+    (cases_lt b s)
+
+module _ (o : Ops) (ring : IsRing o) where
+  -- the weights of all coordinates, moved up by the rows that the selector tells apart
+  pub moved-rows : (e scale : ℕ) (zs ss : List ℕ) (g : ℕ → ℕ) (a c : ℕ) → a < 2 ^ length zs → c < 2 ^ length ss →
+      plus o e (moved_up (2 ^ length ss) (λ j. times o 0 (g j)) (λ k. times o scale (weight o (zs ++ ss) k)) (a * 2 ^ length ss + c))
+      ≡ plus o e (times o (shifted 0 (λ k. times o scale (weight o zs k)) a) (weight o ss c))
+  unfolding Agree shifted
+  moved-rows e scale zs ss g zero c la lc =
+      let P = 2 ^ length ss in
+      let first : ℕ → ℕ = λ j. times o 0 (g j) in
+      let f : ℕ → ℕ = λ k. times o scale (weight o (zs ++ ss) k) in
+      let row : 0 * P + c ≡ c = omega arith in
+      ap (λ b. plus o e (moved_up P first f b)) row ∙ ap (plus o e) (up-first P first f c lc)
+      ∙ identity o ring (e ∷ g c ∷ weight o ss c ∷ []) (atom 0 ⊕ nought ⊗ atom 1) (atom 0 ⊕ nought ⊗ atom 2) tt tt refl
+  moved-rows e scale zs ss g (suc a) c la lc =
+      let P = 2 ^ length ss in
+      let first : ℕ → ℕ = λ j. times o 0 (g j) in
+      let f : ℕ → ℕ = λ k. times o scale (weight o (zs ++ ss) k) in
+      let row : suc a * P + c ≡ P + (a * P + c) = omega arith in
+      let back : P + (a * P + c) - P ≡ a * P + c = omega arith in
+      ap (λ b. plus o e (moved_up P first f b)) row ∙ ap (plus o e) (up-behind P first f (P + (a * P + c)) (omega arith) ∙ ap f back
+      ∙ ap (times o scale) (weight-append o ring zs ss a c (omega (arith, la)) lc) ∙ sym (times_assoc o ring scale (weight o zs a) (weight o ss c)))
+
+  -- the last rows of all, by those of the last block, whose scale is what the blocks' coordinates make of the whole one
+  pub last-rows : (scale stays n s : ℕ) (w : ℕ → ℕ) (outer inner zs ss : List ℕ) → 0 < n → n ≡ 2 ^ length inner → s ≡ 2 ^ length ss → s ≤ n → ((c : ℕ) → c < n → w c ≡ weight o inner c) → outer ++ inner ≡ zs ++ ss →
+      2 ^ length zs * s ≡ 2 ^ length outer * n → stays ≡ times o scale (weight o outer (2 ^ length outer - 1)) → (c : ℕ) → c < s →
+      times o stays (w (n - s + c)) ≡ times o (times o scale (weight o zs (2 ^ length zs - 1))) (weight o ss c)
+  last-rows scale stays n s w outer inner zs ss some width narrow fits inner_is joined size stays_is c low =
+      let Q = 2 ^ length outer in
+      let q = 2 ^ length zs in
+      let within : n - s + c < n = omega (arith, fits, low) in
+      let pos : 0 < Q = pow_pos (length outer) in
+      let pos' : 0 < q = pow_pos (length zs) in
+      let row : (Q - 1) * n + (n - s + c) ≡ (q - 1) * s + c = omega (arith, last-of Q n pos, last-of q s pos', size, fits) in
+      let row' : (Q - 1) * 2 ^ length inner + (n - s + c) ≡ (q - 1) * 2 ^ length ss + c = ap (λ k. (Q - 1) * k + (n - s + c)) (sym width) ∙ row ∙ ap (λ k. (q - 1) * k + c) narrow in
+      ap (λ k. times o k (w (n - s + c))) stays_is ∙ times_assoc o ring scale (weight o outer (Q - 1)) (w (n - s + c))
+      ∙ ap (λ k. times o scale (times o (weight o outer (Q - 1)) k)) (inner_is (n - s + c) within)
+      ∙ ap (times o scale) (sym (weight-append o ring outer inner (Q - 1) (n - s + c) (omega (arith, pos)) (subst (λ k. n - s + c < k) width within))
+      ∙ ap (λ l. weight o l ((Q - 1) * 2 ^ length inner + (n - s + c))) joined ∙ ap (weight o (zs ++ ss)) row'
+      ∙ weight-append o ring zs ss (q - 1) c (omega (arith, pos')) (subst (λ k. c < k) narrow low))
+      ∙ sym (times_assoc o ring scale (weight o zs (q - 1)) (weight o ss c))

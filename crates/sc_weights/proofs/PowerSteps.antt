@@ -1,14 +1,15 @@
 -- Powers that are added to rows, one row after the other, and sums of entries times powers.
-use Rattle.std.proofs.Common.{◌≡◌, ℕ, suc, ◌+◌, ◌<◌, ◌≤◌, List, [], ◌∷◌, ◌++◌, length, set, sym, ◌∙◌, ap, refl, arith, ⊎_elim, append_assoc}
+use Rattle.std.proofs.Common.{◌≡◌, ℕ, zero, suc, ◌+◌, ◌-◌, ◌*◌, ◌^◌, ◌<◌, ◌≤◌, List, [], ◌∷◌, ◌++◌, length, set, sym, ◌∙◌, ap, refl, arith, ⊎_elim, append_assoc, pow-add}
 use Rattle.std.proofs.lemmas.List.{append-nil}
 use Rattle.std.proofs.lemmas.Bool.{cases_eq}
 use Rattle.sc_definitions.specs.Ring.{Ops, IsRing, plus, times, power}
 use Rattle.sc_definitions.specs.Tables.{entries, sum_below}
-use Rattle.sc_definitions.proofs.RingLaws.{element-small, times-one}
-use Rattle.sc_definitions.proofs.Power.{power-zero}
+use Rattle.sc_definitions.proofs.RingLaws.{element-small, times-one, times_comm, times_assoc}
+use Rattle.sc_definitions.proofs.Power.{power-zero, power-plus}
 use Rattle.sc_definitions.proofs.Identity.{atom, unit, ◌⊕◌, ◌⊗◌, Agree, identity}
-use Rattle.sc_definitions.proofs.Sums.{sum-zero, sum-same, times-sum}
+use Rattle.sc_definitions.proofs.Sums.{sum-zero, sum-same, sum-split, times-sum}
 use Rattle.sc_definitions.proofs.SuccessorLaws.{sum-first}
+use Rattle.sc_definitions.proofs.TableLaws.{two_halves}
 use Rattle.sc_table.proofs.EntryLaws.{entry-set_same, entry-set_other}
 
 -- The first i rows have their powers added, the others are as they were, and `next` is what row i gains.
@@ -100,3 +101,47 @@ module _ (o : Ops) (ring : IsRing o) (z : ℕ) {X : Type 0} (number : X → ℕ)
   pub summed-all : (all rest : List X) (sum : ℕ) → length rest ≡ 0 → IsSummed number o z all rest sum → sum ≡ sum_below o (length all) (λ b. times o (entries number all b) (power o z b))
   summed-all all [] sum none so_far = so_far.sum_is ∙ ap (λ l. sum_below o (length l) (λ b. times o (entries number l b) (power o z b))) (sym so_far.parts)
   summed-all all (x ∷ rest) sum none so_far = absurd (omega (arith, none))
+
+-- ---- halves of rows
+
+module _ (o : Ops) (ring : IsRing o) (z : ℕ) where
+  -- the powers behind p rows
+  pub power-behind : (scale p k : ℕ) → times o (times o scale (power o z p)) (power o z k) ≡ times o scale (power o z (p + k))
+  power-behind scale p k = times_assoc o ring scale (power o z p) (power o z k) ∙ ap (times o scale) (sym (power-plus o ring z p k))
+
+  -- the power behind the last of n rows
+  pub power-after : (n : ℕ) → 0 < n → times o (power o z (n - 1)) z ≡ power o z n
+  unfolding power
+  power-after zero some = absurd (omega (arith, some))
+  power-after (suc n) some =
+      let back : suc n - 1 ≡ n = omega arith in
+      ap (λ k. times o (power o z k) z) back ∙ times_comm o ring (power o z n) z
+
+  -- the sum over both halves of p rows
+  pub powers-halves : (f low high : ℕ → ℕ) (p rows lo hi between : ℕ) → rows ≡ p + p → ((b : ℕ) → b < p → low b ≡ f b) → ((b : ℕ) → b < p → high b ≡ f (p + b)) →
+      lo ≡ sum_below o p (λ b. times o (low b) (power o z b)) → hi ≡ sum_below o p (λ b. times o (high b) (power o z b)) → between ≡ power o z p →
+      plus o lo (times o between hi) ≡ sum_below o rows (λ b. times o (f b) (power o z b))
+  unfolding Agree
+  powers-halves f low high p rows lo hi between size low_is high_is lo_is hi_is is =
+      let term : ℕ → ℕ = λ b. times o (f b) (power o z b) in
+      let lower : lo ≡ sum_below o p term = lo_is ∙ sum-same o p _ _ (λ b below. ap (λ k. times o k (power o z b)) (low_is b below)) in
+      let upper : times o between hi ≡ sum_below o p (λ b. term (p + b)) =
+      ap (λ k. times o k hi) is ∙ ap (times o (power o z p)) hi_is ∙ times-sum o ring (power o z p) p (λ b. times o (high b) (power o z b))
+      ∙ sum-same o p _ _ (λ b below.
+      ap (λ k. times o (power o z p) (times o k (power o z b))) (high_is b below)
+      ∙ identity o ring (power o z p ∷ f (p + b) ∷ power o z b ∷ []) (atom 0 ⊗ (atom 1 ⊗ atom 2)) (atom 1 ⊗ (atom 0 ⊗ atom 2)) tt tt refl
+      ∙ ap (times o (f (p + b))) (sym (power-plus o ring z p b))) in
+      ap (λ k. plus o k (times o between hi)) lower ∙ ap (plus o (sum_below o p term)) upper ∙ sym (sum-split o ring p p term) ∙ ap (λ k. sum_below o k term) (sym size)
+
+-- a table that is halved once more
+pub half-rows : (halvings n rows : ℕ) → 0 < halvings → rows ≡ 2 ^ halvings * n → rows ≡ 2 ^ (halvings - 1) * n + 2 ^ (halvings - 1) * n
+half-rows zero n rows some size = absurd (omega (arith, some))
+half-rows (suc h) n rows some size =
+    let back : suc h - 1 ≡ h = omega arith in
+    size ∙ ap (λ k. k * n) (two_halves h) ∙ omega arith ∙ ap (λ k. 2 ^ k * n + 2 ^ k * n) (sym back)
+
+-- blocks of 256 rows
+pub block-halvings : (variables n rows : ℕ) → 8 ≤ variables → n ≡ 256 → rows ≡ 2 ^ variables → rows ≡ 2 ^ (variables - 8) * n
+block-halvings variables n rows long many size =
+    let whole : variables ≡ variables - 8 + 8 = omega (arith, long) in
+    size ∙ ap (λ k. 2 ^ k) whole ∙ pow-add 2 (variables - 8) 8 ∙ ap (λ k. 2 ^ (variables - 8) * k) (sym many)

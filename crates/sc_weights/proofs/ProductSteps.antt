@@ -1,8 +1,9 @@
 -- Products of coordinates, by halves.
-use Rattle.std.proofs.Common.{◌≡◌, ℕ, suc, ◌+◌, ◌^◌, ◌<◌, List, [], ◌∷◌, length, map, sym, ◌∙◌, ap, refl, arith, ◌⊎◌, ⊎_elim}
+use Rattle.std.proofs.Common.{◌≡◌, ℕ, suc, ◌+◌, ◌-◌, ◌^◌, ◌<◌, ◌≤◌, List, [], ◌∷◌, length, map, take, drop, sym, ◌∙◌, ap, refl, arith, ◌⊎◌, ⊎_elim}
+use Rattle.std.proofs.lemmas.List.{take_all, length-take-le, length-drop}
 use Rattle.sc_definitions.specs.Ring.{Ops, IsRing, element, plus, times, minus}
 use Rattle.sc_definitions.specs.Tables.{sum_below, monomial, inner, value}
-use Rattle.sc_definitions.proofs.RingLaws.{element-small, times-one, times_comm, times_assoc}
+use Rattle.sc_definitions.proofs.RingLaws.{element-small, element-one, element-times, times-one, times_comm, times_assoc}
 use Rattle.sc_definitions.proofs.Sums.{sum-same, times-sum}
 use Rattle.sc_definitions.proofs.Identity.{atom, nought, unit, ◌⊕◌, ◌⊗◌, Agree, identity}
 use Rattle.sc_definitions.proofs.TableLaws.{inner-halves}
@@ -54,6 +55,34 @@ module _ (o : Ops) (ring : IsRing o) where
   unfolding inner sum_below monomial Agree
   inner-none f [] none low = sym (identity o ring (f 0 ∷ []) (nought ⊕ atom 0 ⊗ unit) (atom 0 ⊗ unit) tt tt refl ∙ times-one o ring (f 0) ∙ element-small o ring (f 0) low)
   inner-none f (z ∷ zs) none low = absurd (omega (arith, none))
+
+-- ---- the last coordinates, behind the first one too
+
+pub last-same : {X : Type 0} (z : List X) (k : ℕ) → k + 1 ≤ length z → drop (length (take (length z - 1) (drop 1 z)) - k) (take (length z - 1) (drop 1 z)) ≡ drop (length z - k) z
+last-same [] k fits = absurd (omega (arith, fits))
+last-same (y ∷ ys) k fits =
+    let rest : take (suc (length ys) - 1) ys ≡ ys = take_all (suc (length ys) - 1) ys (omega arith) in
+    let at : suc (length ys - k) ≡ suc (length ys) - k = omega (arith, fits) in
+    ap (λ l. drop (length l - k) l) rest ∙ ap (λ n. drop n (y ∷ ys)) at
+
+pub rest-size : {X : Type 0} (z : List X) → 1 ≤ length z → length (take (length z - 1) (drop 1 z)) + 1 ≡ length z
+rest-size z some =
+    let size : length (take (length z - 1) (drop 1 z)) ≡ length z - 1 = length-take-le (length z - 1) (drop 1 z) (omega (arith, length-drop 1 z)) in
+    omega (arith, size, some)
+
+-- ---- a product that is added to nothing
+
+module _ (o : Ops) (ring : IsRing o) where
+  element-monomial : (zs : List ℕ) (b : ℕ) → element o (monomial o zs b) ≡ monomial o zs b
+  unfolding monomial
+  element-monomial [] b = element-one o ring
+  element-monomial (z ∷ zs) b = element-times o ring _ _
+
+  pub monomial-alone : (zs : List ℕ) (b : ℕ) → plus o 0 (times o 1 (monomial o zs b)) ≡ monomial o zs b
+  unfolding Agree
+  monomial-alone zs b =
+      let w = monomial o zs b in
+      identity o ring (w ∷ []) (nought ⊕ unit ⊗ atom 0) (atom 0 ⊗ unit) tt tt refl ∙ times-one o ring w ∙ element-monomial zs b
 
 -- ---- the value at a point, one coordinate after the other, the first one first
 

@@ -1,12 +1,13 @@
 //! Equality weights: those of a point.
 
-ghost use Rattle.std.specs.Prelude.{◌≡◌, ℕ, ◌^◌, ◌<◌, length, map};
+ghost use Rattle.std.specs.Prelude.{◌≡◌, ℕ, ◌*◌, ◌^◌, ◌<◌, length, map};
 ghost use Rattle.sc_definitions.specs.Ring.{◌+⟨◌⟩◌, ◌*⟨◌⟩◌};
 ghost use Rattle.sc_definitions.specs.Tables.{entries, weight};
+ghost use Rattle.sc_table.specs.Blocks.{block_weight};
 
 use crate::row_weights::RowWeights;
 use sc_field::{Algebra, Field};
-use sc_table::{Point, Poly};
+use sc_table::{BLOCK_COORDINATES, Point, Poly, add_equality, block_weights};
 
 impl<EF: Field> RowWeights<EF> for Point<EF> {
     ghost use Rattle.sc_definitions.specs.Statements.{equality};
@@ -14,7 +15,7 @@ impl<EF: Field> RowWeights<EF> for Point<EF> {
     ghost kind = { λ point. equality (map EF.number point) };
 
     fn add_to(&self, table: &mut Poly<EF>, scale: EF) {
-        add_equality(table.as_mut_slice(), self.as_slice(), scale);
+        add_point(table.as_mut_slice(), self.as_slice(), scale);
     }
 
     fn true_value<A: Field>(&self, table: &Poly<A>) -> EF
@@ -29,27 +30,47 @@ impl<EF: Field> RowWeights<EF> for Point<EF> {
     }
 }
 
-/// Adds `scale` times the equality weights of `z` to the rows of a table of as many variables. It goes by halves.
-pub(crate) fn add_equality<EF: Field>(rows: &mut [EF], z: &[EF], scale: EF)
+/// Adds `scale` times the equality weights of `z` to the rows of a table of as many variables, by blocks.
+pub(crate) fn add_point<EF: Field>(rows: &mut [EF], z: &[EF], scale: EF)
     requires { length rows.old ≡ 2 ^ length z.now }
     ensures { (b : ℕ) → b < 2 ^ length z.now →
         entries EF.number rows.new b
         ≡ entries EF.number rows.old b +⟨ EF.ops ⟩ EF.number scale *⟨ EF.ops ⟩ weight EF.ops (map EF.number z.now) b }
 {
-    match z {
-        [] => rows[0] = rows[0].add(scale),
+    if z.len() < BLOCK_COORDINATES {
+        add_equality(rows, z, scale);
+        return;
+    }
+    EF::blocks_fit();
+    let (outer, inner) = z.split_at(z.len() - BLOCK_COORDINATES);
+    let weights = block_weights(inner);
+    add_blocks(rows, outer, &weights, scale);
+}
 
-        // The two rows of one variable.
-        [only] => {
-            let at_one = scale.mul(*only);
-            rows[0] = rows[0].add(scale.sub(at_one));
-            rows[1] = rows[1].add(at_one);
-        }
-        [first, rest @ ..] => {
-            let half = rows.len() / 2;
-            let at_one = scale.mul(*first);
-            add_equality(&mut rows[..half], rest, scale.sub(at_one));
-            add_equality(&mut rows[half..], rest, at_one);
-        }
+// Adds `scale` times the weights of rows in blocks: that of the row in its block, times the equality weight of the block at `outer`.
+fn add_blocks<EF: Field>(rows: &mut [EF], outer: &[EF], weights: &[EF], scale: EF)
+    requires size { length rows.old ≡ 2 ^ length outer.now * length weights.now }
+    requires some { 0 < length weights.now }
+    ensures { (b : ℕ) → b < length rows.old → entries EF.number rows.new b ≡ entries EF.number rows.old b
+        +⟨ EF.ops ⟩ EF.number scale *⟨ EF.ops ⟩ block_weight EF.ops (map EF.number outer.now) (length weights.now) (entries EF.number weights.now) b }
+{
+    let [first, rest @ ..] = outer else {
+        add_scaled(rows, weights, scale);
+        return;
+    };
+    let half = rows.len() / 2;
+    let at_one = scale.mul(*first);
+    add_blocks(&mut rows[..half], rest, weights, scale.sub(at_one));
+    add_blocks(&mut rows[half..], rest, weights, at_one);
+}
+
+/// Adds `scale` times a weight to each row.
+pub(crate) fn add_scaled<EF: Field>(rows: &mut [EF], weights: &[EF], scale: EF)
+    requires { length rows.old ≡ length weights.now }
+    ensures { (b : ℕ) → b < length rows.old →
+        entries EF.number rows.new b ≡ entries EF.number rows.old b +⟨ EF.ops ⟩ EF.number scale *⟨ EF.ops ⟩ entries EF.number weights.now b }
+{
+    for b in 0..rows.len() {
+        rows[b] = rows[b].add(scale.mul(weights[b]));
     }
 }

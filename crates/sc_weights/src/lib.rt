@@ -8,6 +8,7 @@ mod equality;
 mod next;
 mod row_weights;
 mod select;
+mod successor;
 
 pub use next::NextConstraint;
 pub use row_weights::RowWeights;

@@ -1,12 +1,13 @@
 //! Selecting weights: the powers of a scalar, or the products of a point's coordinates.
 
-ghost use Rattle.std.specs.Prelude.{◌≡◌, ℕ, ◌^◌, ◌<◌, length, map};
+ghost use Rattle.std.specs.Prelude.{◌≡◌, ℕ, ◌-◌, ◌*◌, ◌^◌, ◌<◌, ◌≤◌, length, map, drop};
 ghost use Rattle.sc_definitions.specs.Ring.{power, ◌+⟨◌⟩◌, ◌*⟨◌⟩◌};
 ghost use Rattle.sc_definitions.specs.Tables.{entries, monomial, sum_below, inner, value};
 
+use crate::equality::add_scaled;
 use crate::row_weights::RowWeights;
 use sc_field::{Algebra, ExtensionField, Field};
-use sc_table::{Point, Poly};
+use sc_table::{BLOCK_COORDINATES, Point, Poly};
 
 /// What selects in a table.
 #[derive(Drop)]
@@ -24,7 +25,10 @@ impl<'a, F: Field, EF: ExtensionField<F>> RowWeights<EF> for Selector<'a, F> {
 
     fn add_to(&self, table: &mut Poly<EF>, scale: EF) {
         match self {
-            Selector::Scalar(var) => add_powers(table.as_mut_slice(), *var, scale),
+            Selector::Scalar(var) => {
+                let variables = table.num_variables();
+                add_powers(table.as_mut_slice(), variables, *var, scale)
+            }
             Selector::Direct(point) => add_products(table.as_mut_slice(), point.as_slice(), scale),
         }
     }
@@ -34,7 +38,7 @@ impl<'a, F: Field, EF: ExtensionField<F>> RowWeights<EF> for Selector<'a, F> {
         EF: Algebra<A>,
     {
         match self {
-            Selector::Scalar(var) => powers_value(table.as_slice(), *var),
+            Selector::Scalar(var) => powers_value(table.as_slice(), table.num_variables(), *var),
             Selector::Direct(point) => products_value(table.as_slice(), point.as_slice()),
         }
     }
@@ -47,8 +51,25 @@ impl<'a, F: Field, EF: ExtensionField<F>> RowWeights<EF> for Selector<'a, F> {
     }
 }
 
+// ---- powers
+
+// Adds `scale` times the powers of `var`, by blocks.
+fn add_powers<F: Field, EF: Algebra<F>>(rows: &mut [EF], variables: usize, var: F, scale: EF)
+    requires { length rows.old ≡ 2 ^ variables }
+    ensures { (b : ℕ) → b < length rows.old → entries EF.number rows.new b
+        ≡ entries EF.number rows.old b +⟨ EF.ops ⟩ EF.number scale *⟨ EF.ops ⟩ power EF.ops (EF.embedding (F.number var)) b }
+{
+    if variables < BLOCK_COORDINATES {
+        add_powers_by_rows(rows, var, scale);
+        return;
+    }
+    EF::blocks_fit();
+    let weights: [EF; 256] = power_weights(var);
+    add_powers_by_blocks(rows, variables - BLOCK_COORDINATES, &weights, var, scale);
+}
+
 // Adds `scale` times the powers of `var`, row after row.
-fn add_powers<F: Field, EF: Algebra<F>>(rows: &mut [EF], var: F, scale: EF)
+fn add_powers_by_rows<F: Field, EF: Algebra<F>>(rows: &mut [EF], var: F, scale: EF)
     ensures { (b : ℕ) → b < length rows.old → entries EF.number rows.new b
         ≡ entries EF.number rows.old b +⟨ EF.ops ⟩ EF.number scale *⟨ EF.ops ⟩ power EF.ops (EF.embedding (F.number var)) b }
 {
@@ -59,23 +80,85 @@ fn add_powers<F: Field, EF: Algebra<F>>(rows: &mut [EF], var: F, scale: EF)
     }
 }
 
-// Adds `scale` times the products of the coordinates, by halves.
-fn add_products<F: Field, EF: Algebra<F>>(rows: &mut [EF], z: &[F], scale: EF)
-    requires { length rows.old ≡ 2 ^ length z.now }
-    ensures { (b : ℕ) → b < 2 ^ length z.now → entries EF.number rows.new b
-        ≡ entries EF.number rows.old b +⟨ EF.ops ⟩ EF.number scale *⟨ EF.ops ⟩ monomial EF.ops (map (λ x. EF.embedding (F.number x)) z.now) b }
+// The powers of `var` at the rows of the first block.
+fn power_weights<F: Field, EF: Algebra<F>>(var: F) -> [EF; 256]
+    ensures { (b : ℕ) → b < 256 → entries EF.number result b ≡ power EF.ops (EF.embedding (F.number var)) b }
 {
-    let [first, rest @ ..] = z else {
-        rows[0] = rows[0].add(scale);
-        return;
-    };
+    EF::blocks_fit();
+    let mut weights = [EF::ZERO; 256];
+    add_powers_by_rows(&mut weights, var, EF::ONE);
+    weights
+}
+
+// The table is halved so many times, to blocks of as many rows as there are weights. The answer is `scale` times the power behind the last row.
+fn add_powers_by_blocks<F: Field, EF: Algebra<F>>(
+    rows: &mut [EF],
+    halvings: usize,
+    weights: &[EF],
+    var: F,
+    scale: EF,
+) -> EF
+    requires size { length rows.old ≡ 2 ^ halvings * length weights.now }
+    requires some { 0 < length weights.now }
+    requires weights { (c : ℕ) → c < length weights.now → entries EF.number weights.now c ≡ power EF.ops (EF.embedding (F.number var)) c }
+    ensures rows { (b : ℕ) → b < length rows.old → entries EF.number rows.new b
+        ≡ entries EF.number rows.old b +⟨ EF.ops ⟩ EF.number scale *⟨ EF.ops ⟩ power EF.ops (EF.embedding (F.number var)) b }
+    ensures next { EF.number result ≡ EF.number scale *⟨ EF.ops ⟩ power EF.ops (EF.embedding (F.number var)) (length rows.old) }
+{
+    if halvings == 0 {
+        add_scaled(rows, weights, scale);
+        return scale.mul(weights[weights.len() - 1]).mul_base(var);
+    }
     let half = rows.len() / 2;
-    add_products(&mut rows[..half], rest, scale);
-    add_products(&mut rows[half..], rest, scale.mul_base(*first));
+    let between = add_powers_by_blocks(&mut rows[..half], halvings - 1, weights, var, scale);
+    add_powers_by_blocks(&mut rows[half..], halvings - 1, weights, var, between)
+}
+
+// The sum of the entries times the powers of `var`, by blocks.
+fn powers_value<F: Field, A: Field, EF: Algebra<F> + Algebra<A>>(
+    rows: &[A],
+    variables: usize,
+    var: F,
+) -> EF
+    requires { length rows.now ≡ 2 ^ variables }
+    ensures { EF.number result ≡ sum_below EF.ops (length rows.now) (λ b. ⟦<EF as Algebra<A>>⟧.embedding (entries A.number rows.now b) *⟨ EF.ops ⟩ power EF.ops (⟦<EF as Algebra<F>>⟧.embedding (F.number var)) b) }
+{
+    if variables < BLOCK_COORDINATES {
+        return powers_value_by_rows(rows, var);
+    }
+    EF::blocks_fit();
+    let weights: [EF; 256] = power_weights(var);
+    let halvings = variables - BLOCK_COORDINATES;
+    let (value, _next): (EF, EF) = powers_value_by_blocks(rows, halvings, &weights, var);
+    value
+}
+
+// The same, and the power behind the last row. The table is halved so many times, to blocks of as many rows as there are weights.
+fn powers_value_by_blocks<F: Field, A: Field, EF: Algebra<F> + Algebra<A>>(
+    rows: &[A],
+    halvings: usize,
+    weights: &[EF],
+    var: F,
+) -> (EF, EF)
+    requires size { length rows.now ≡ 2 ^ halvings * length weights.now }
+    requires some { 0 < length weights.now }
+    requires few { length weights.now ≤ 512 }
+    requires weights { (c : ℕ) → c < length weights.now → entries EF.number weights.now c ≡ power EF.ops (⟦<EF as Algebra<F>>⟧.embedding (F.number var)) c }
+    ensures sum { EF.number result.0 ≡ sum_below EF.ops (length rows.now) (λ b. ⟦<EF as Algebra<A>>⟧.embedding (entries A.number rows.now b) *⟨ EF.ops ⟩ power EF.ops (⟦<EF as Algebra<F>>⟧.embedding (F.number var)) b) }
+    ensures next { EF.number result.1 ≡ power EF.ops (⟦<EF as Algebra<F>>⟧.embedding (F.number var)) (length rows.now) }
+{
+    if halvings == 0 {
+        let sum: EF = EF::dot_base(rows, weights);
+        return (sum, weights[weights.len() - 1].mul_base(var));
+    }
+    let (low, high) = rows.split_at(rows.len() / 2);
+    let (lo, between): (EF, EF) = powers_value_by_blocks(low, halvings - 1, weights, var);
+    let (hi, next): (EF, EF) = powers_value_by_blocks(high, halvings - 1, weights, var);
+    (lo.add(between.mul(hi)), between.mul(next))
 }
 
 // The sum of the entries times the powers of `var`, the last entry first.
-fn powers_value<F: Field, A: Field, EF: Algebra<F> + Algebra<A>>(rows: &[A], var: F) -> EF
+fn powers_value_by_rows<F: Field, A: Field, EF: Algebra<F> + Algebra<A>>(rows: &[A], var: F) -> EF
     ensures { EF.number result ≡ sum_below EF.ops (length rows.now) (λ b. ⟦<EF as Algebra<A>>⟧.embedding (entries A.number rows.now b) *⟨ EF.ops ⟩ power EF.ops (⟦<EF as Algebra<F>>⟧.embedding (F.number var)) b) }
 {
     let mut sum = EF::ZERO;
@@ -85,8 +168,111 @@ fn powers_value<F: Field, A: Field, EF: Algebra<F> + Algebra<A>>(rows: &[A], var
     sum
 }
 
-// The sum of the entries times the products of the coordinates, by halves.
+// ---- products
+
+// Adds `scale` times the products of the coordinates, by blocks.
+fn add_products<F: Field, EF: Algebra<F>>(rows: &mut [EF], z: &[F], scale: EF)
+    requires { length rows.old ≡ 2 ^ length z.now }
+    ensures { (b : ℕ) → b < 2 ^ length z.now → entries EF.number rows.new b
+        ≡ entries EF.number rows.old b +⟨ EF.ops ⟩ EF.number scale *⟨ EF.ops ⟩ monomial EF.ops (map (λ x. EF.embedding (F.number x)) z.now) b }
+{
+    if z.len() < BLOCK_COORDINATES {
+        add_products_by_halves(rows, z, scale);
+        return;
+    }
+    EF::blocks_fit();
+    let weights: [EF; 256] = product_weights(&z[z.len() - BLOCK_COORDINATES..]);
+    add_products_by_blocks(rows, z, &weights, scale);
+}
+
+// The products of the coordinates that tell the rows of a block apart.
+fn product_weights<F: Field, EF: Algebra<F>>(z: &[F]) -> [EF; 256]
+    requires { length z.now ≡ 8 }
+    ensures { (b : ℕ) → b < 256 → entries EF.number result b ≡ monomial EF.ops (map (λ x. EF.embedding (F.number x)) z.now) b }
+{
+    EF::blocks_fit();
+    let mut weights = [EF::ZERO; 256];
+    add_products_by_halves(&mut weights, z, EF::ONE);
+    weights
+}
+
+// The weights are the products of the last coordinates.
+fn add_products_by_blocks<F: Field, EF: Algebra<F>>(
+    rows: &mut [EF],
+    z: &[F],
+    weights: &[EF],
+    scale: EF,
+)
+    requires size { length rows.old ≡ 2 ^ length z.now }
+    requires long { 8 ≤ length z.now }
+    requires block { length weights.now ≡ 256 }
+    requires weights { (c : ℕ) → c < 256 → entries EF.number weights.now c ≡ monomial EF.ops (map (λ x. EF.embedding (F.number x)) (drop (length z.now - 8) z.now)) c }
+    ensures { (b : ℕ) → b < 2 ^ length z.now → entries EF.number rows.new b
+        ≡ entries EF.number rows.old b +⟨ EF.ops ⟩ EF.number scale *⟨ EF.ops ⟩ monomial EF.ops (map (λ x. EF.embedding (F.number x)) z.now) b }
+{
+    if z.len() == BLOCK_COORDINATES {
+        add_scaled(rows, weights, scale);
+        return;
+    }
+    let half = rows.len() / 2;
+    add_products_by_blocks(&mut rows[..half], &z[1..], weights, scale);
+    add_products_by_blocks(&mut rows[half..], &z[1..], weights, scale.mul_base(z[0]));
+}
+
+// Adds `scale` times the products of the coordinates, by halves.
+fn add_products_by_halves<F: Field, EF: Algebra<F>>(rows: &mut [EF], z: &[F], scale: EF)
+    requires { length rows.old ≡ 2 ^ length z.now }
+    ensures { (b : ℕ) → b < 2 ^ length z.now → entries EF.number rows.new b
+        ≡ entries EF.number rows.old b +⟨ EF.ops ⟩ EF.number scale *⟨ EF.ops ⟩ monomial EF.ops (map (λ x. EF.embedding (F.number x)) z.now) b }
+{
+    let [first, rest @ ..] = z else {
+        rows[0] = rows[0].add(scale);
+        return;
+    };
+    let half = rows.len() / 2;
+    add_products_by_halves(&mut rows[..half], rest, scale);
+    add_products_by_halves(&mut rows[half..], rest, scale.mul_base(*first));
+}
+
+// The sum of the entries times the products of the coordinates, by blocks.
 fn products_value<F: Field, A: Field, EF: Algebra<F> + Algebra<A>>(rows: &[A], z: &[F]) -> EF
+    requires { length rows.now ≡ 2 ^ length z.now }
+    ensures { EF.number result ≡ inner EF.ops (length z.now) (λ b. ⟦<EF as Algebra<A>>⟧.embedding (entries A.number rows.now b)) (monomial EF.ops (map (λ x. ⟦<EF as Algebra<F>>⟧.embedding (F.number x)) z.now)) }
+{
+    if z.len() < BLOCK_COORDINATES {
+        return products_value_by_halves(rows, z);
+    }
+    EF::blocks_fit();
+    let weights: [EF; 256] = product_weights(&z[z.len() - BLOCK_COORDINATES..]);
+    products_value_by_blocks(rows, z, &weights)
+}
+
+// The weights are the products of the last coordinates.
+fn products_value_by_blocks<F: Field, A: Field, EF: Algebra<F> + Algebra<A>>(
+    rows: &[A],
+    z: &[F],
+    weights: &[EF],
+) -> EF
+    requires size { length rows.now ≡ 2 ^ length z.now }
+    requires long { 8 ≤ length z.now }
+    requires block { length weights.now ≡ 256 }
+    requires weights { (c : ℕ) → c < 256 → entries EF.number weights.now c ≡ monomial EF.ops (map (λ x. ⟦<EF as Algebra<F>>⟧.embedding (F.number x)) (drop (length z.now - 8) z.now)) c }
+    ensures { EF.number result ≡ inner EF.ops (length z.now) (λ b. ⟦<EF as Algebra<A>>⟧.embedding (entries A.number rows.now b)) (monomial EF.ops (map (λ x. ⟦<EF as Algebra<F>>⟧.embedding (F.number x)) z.now)) }
+{
+    if z.len() == BLOCK_COORDINATES {
+        return EF::dot_base(rows, weights);
+    }
+    let (low, high) = rows.split_at(rows.len() / 2);
+    let lo: EF = products_value_by_blocks(low, &z[1..], weights);
+    let hi: EF = products_value_by_blocks(high, &z[1..], weights);
+    lo.add(hi.mul_base(z[0]))
+}
+
+// The sum of the entries times the products of the coordinates, by halves.
+fn products_value_by_halves<F: Field, A: Field, EF: Algebra<F> + Algebra<A>>(
+    rows: &[A],
+    z: &[F],
+) -> EF
     requires { length rows.now ≡ 2 ^ length z.now }
     ensures { EF.number result ≡ inner EF.ops (length z.now) (λ b. ⟦<EF as Algebra<A>>⟧.embedding (entries A.number rows.now b)) (monomial EF.ops (map (λ x. ⟦<EF as Algebra<F>>⟧.embedding (F.number x)) z.now)) }
 {
@@ -94,8 +280,8 @@ fn products_value<F: Field, A: Field, EF: Algebra<F> + Algebra<A>>(rows: &[A], z
         return EF::embed(rows[0]);
     };
     let (low, high) = rows.split_at(rows.len() / 2);
-    let lo: EF = products_value(low, rest);
-    let hi: EF = products_value(high, rest);
+    let lo: EF = products_value_by_halves(low, rest);
+    let hi: EF = products_value_by_halves(high, rest);
     lo.add(hi.mul_base(*first))
 }
 

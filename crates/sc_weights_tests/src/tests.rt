@@ -2,6 +2,8 @@
 //! straight from its definition, the sum over all rows of entry times weight, and the sum of weight
 //! times the equality weight of a point.
 
+mod blocks;
+
 ghost use Rattle.std.specs.Prelude.{◌≡◌, ◌≤◌, IfOk};
 ghost use Rattle.sc_definitions.specs.Statements.{arity_of};
 ghost use Rattle.sc_table.specs.Polys.{variables_of};

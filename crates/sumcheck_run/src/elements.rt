@@ -15,7 +15,7 @@ pub(crate) fn elements<F: Field>(alloc: Global, numbers: &[u64]) -> Result<Vec<F
 {
     let mut found = Vec::with_capacity(alloc, numbers.len())?;
     for n in numbers {
-        found.push(F::element(*n))?;
+        found.push_reserved(F::element(*n));
     }
     Ok(found)
 }

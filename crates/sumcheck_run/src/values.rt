@@ -42,7 +42,7 @@ impl Values {
     {
         let mut taken = Vec::with_capacity(alloc, count)?;
         for _i in 0..count {
-            taken.push(self.advance())?;
+            taken.push_reserved(self.advance());
         }
         Ok(taken)
     }

@@ -96,4 +96,6 @@ impl Field for F17 {
             Some(self.exp_u64(15))
         }
     }
+
+    fn blocks_fit() {}
 }

@@ -1,26 +1,15 @@
 //! The kernels against plain loops, at lengths around the borders of their blocks.
 
 ghost use Rattle.std.specs.Prelude.{◌≡◌, ◌+◌, ◌*◌, ◌<◌, ◌≤◌, length, IfOk};
-ghost use Rattle.sc_table.specs.Polys.{variables_of};
 
 use VariableOrder::{Prefix, Suffix};
-use sc_field::laws::field_laws;
 use sc_field::{Algebra, F257, F257x2, F65537, Field, NoMemory, Tower16};
 use sc_table::{
-    Poly, RoundMessage, VariableOrder, fold_and_round_coefficients_prefix,
-    fold_and_round_coefficients_suffix,
+    Poly, RoundMessage, VariableOrder, eval_slice, fold_and_round_coefficients_prefix,
+    fold_and_round_coefficients_suffix, joined_block_weights,
 };
+use sc_tests_common::{Traced, entry, have_numbers, table};
 use std::alloc::Global;
-
-// Entry i of a table: each third is the element before zero.
-fn entry<F: Field>(i: usize, factor: u64) -> F {
-    field_laws::<F>();
-    if i % 3 == 0 {
-        F::ZERO.sub(F::ONE)
-    } else {
-        F::element((i as u64).wrapping_mul(factor) % F::size())
-    }
-}
 
 fn list<F: Field>(alloc: Global, len: usize, factor: u64) -> Result<Vec<F>, NoMemory>
     ensures { IfOk result (λ v. length v.items ≡ len) }
@@ -120,18 +109,6 @@ fn messages_around_a_block(rt: HostRuntime) {
     }
 }
 
-fn table<A: Field>(alloc: Global, n: usize, factor: u64) -> Result<Poly<A>, NoMemory>
-    requires { n ≤ 16 }
-    ensures { IfOk result (λ p. variables_of p ≡ n) }
-{
-    let mut table = Poly::zero(alloc, n)?;
-    let rows = table.as_mut_slice();
-    for i in 0..rows.len() {
-        rows[i] = entry(i, factor);
-    }
-    Ok(table)
-}
-
 // Whether the rows of a table of half the length are those of the longer one, with a variable at `r`.
 fn rows_are_bound<A: Field>(order: VariableOrder, old: &[A], new: &[A], r: A) -> bool {
     let half = new.len();
@@ -189,4 +166,101 @@ fn passes_of_each_power_of_two(rt: HostRuntime) {
             );
         }
     }
+}
+
+// The equality weight of a row, the last coordinate first.
+fn weight_at<F: Field>(z: &[F], row: usize) -> F {
+    let mut weight = F::ONE;
+    let mut digits = row;
+    for z_i in z.iter().rev() {
+        let factor = if digits % 2 == 1 {
+            *z_i
+        } else {
+            F::ONE.sub(*z_i)
+        };
+        weight = weight.mul(factor);
+        digits /= 2;
+    }
+    weight
+}
+
+// Whether the weights of a block at a point, in two parts of which the first has k coordinates, are those of a plain loop.
+fn block_agrees<F: Field>(alloc: Global, k: usize) -> Result<bool, NoMemory>
+    requires { k ≤ 8 }
+{
+    let z: Vec<F> = list(alloc, 8, 23456)?;
+    let (front, back) = z.split_at(k);
+    F::blocks_fit();
+    let weights = joined_block_weights(front, back);
+    Ok(
+        weights
+            .iter()
+            .enumerate()
+            .all(|(row, weight)| *weight == weight_at(&z, row)),
+    )
+}
+
+#[test]
+fn weights_of_a_block(rt: HostRuntime) {
+    for k in 0..9 {
+        assert_eq!(rt; block_agrees::<F65537>(rt.alloc(), k), Ok(true), "{k}");
+        assert_eq!(rt; block_agrees::<F257x2>(rt.alloc(), k), Ok(true), "{k}");
+    }
+}
+
+// Whether the value of a table of n variables is the sum over all rows of entry times weight.
+fn value_agrees<A: Field, E: Algebra<A>>(alloc: Global, n: usize) -> Result<bool, NoMemory>
+    requires { n ≤ 16 }
+{
+    let evals: Poly<A> = table(alloc, n, 12345)?;
+    let z: Vec<E> = list(alloc, n, 34567)?;
+    let mut sum = E::ZERO;
+    for (row, entry) in evals.as_slice().iter().enumerate() {
+        sum = sum.add(weight_at(&z, row).mul_base(*entry));
+    }
+    Ok(eval_slice(evals.as_slice(), &z) == sum)
+}
+
+#[test]
+fn values_around_a_block(rt: HostRuntime) {
+    for n in 0..12 {
+        assert_eq!(rt;
+            value_agrees::<F65537, F65537>(rt.alloc(), n),
+            Ok(true),
+            "{n}"
+        );
+        assert_eq!(rt;
+            value_agrees::<F257, F257x2>(rt.alloc(), n),
+            Ok(true),
+            "{n}"
+        );
+        assert_eq!(rt;
+            value_agrees::<Tower16, Tower16>(rt.alloc(), n),
+            Ok(true),
+            "{n}"
+        );
+    }
+}
+
+// A table is made by doubling: a row is made by the products of the rows that were doubled for it.
+#[test]
+fn weights_are_made_by_doubling(rt: HostRuntime) {
+    let marked = |number: u64| Traced {
+        value: F65537::element(number % 65537),
+        has_flag: true,
+        count: 0,
+    };
+    let table = Poly::new_from_point(rt.alloc(), &[marked(2), marked(3)], marked(1)).expect(
+        &rt, "a table",
+    );
+    let counts = [3, 3, 2, 2];
+    assert!(rt;
+        table
+            .as_slice()
+            .iter()
+            .zip(&counts)
+            .all(|(entry, count)| entry.count == *count)
+    );
+    let rows = [2, 65534, 65533, 6];
+    assert!(rt; have_numbers(table.as_slice(), &rows));
 }

@@ -4,6 +4,3 @@ use Rattle.sc_audit.proofs.strategies.embedded.Goals as goal
 -- a refusal tells nothing of an answer
 pub returns-in_err-images : goal.returns-in_err-images
 returns-in_err-images g c = IfOk-from_err c.from_residual.result _ c.from_residual.ensures.0
-
-pub returns-in_err-push : goal.returns-in_err-push
-returns-in_err-push g c = IfOk-from_err c.from_residual-in_err-push.result _ c.from_residual-in_err-push.ensures.0

@@ -1,4 +1,4 @@
-use Rattle.std.proofs.Common.{rules, arith}
+use Rattle.std.proofs.Common.{rules, ◌∙◌, arith}
 use Rattle.std.proofs.lemmas.Result.{IfOk-from_err}
 use Rattle.std.specs.Prelude.{IsErrOf}
 use Rattle.std.proofs.lemmas.Grind.{common_steps}
@@ -17,9 +17,10 @@ loop-item-preserved g c =
     let longer = all_of_more_read _ c.args.items.now c.loop-item.found.items c.in_ok-read.field-0 c.loop-item.item-index c.item-item.result (omega arith) c.item-item.is c.loop-item.invariant.read c.in_ok-read.ensures.ok in
     let still = All-push (g.F.Form.fits c.args.form.now) c.loop-item.found.items c.in_ok-read.field-0 c.loop-item.invariant.fits c.in_ok-read.ensures.fits in
     record {
-      read = rw c.in_ok-push.ensures.items longer;
-      fits = rw c.in_ok-push.ensures.items still;
+      read = rw c.push_reserved.ensures.items longer;
+      fits = rw c.push_reserved.ensures.items still;
       count = grind (arith, common_steps);
+      room = c.push_reserved.ensures.capacity ∙ c.loop-item.invariant.room;
     }
 
 -- a refusal tells nothing of an answer
@@ -40,12 +41,3 @@ returns-in_err-read-clause-fits g c = IfOk-from_err c.from_residual-in_err-read.
 
 pub returns-in_err-read-clause-length : goal.returns-in_err-read-clause-length
 returns-in_err-read-clause-length g c = IfOk-from_err c.from_residual-in_err-read.result _ c.from_residual-in_err-read.ensures.0
-
-pub returns-in_err-push-clause-ok : goal.returns-in_err-push-clause-ok
-returns-in_err-push-clause-ok g c = IfOk-from_err c.from_residual-in_err-push.result _ c.from_residual-in_err-push.ensures.0
-
-pub returns-in_err-push-clause-fits : goal.returns-in_err-push-clause-fits
-returns-in_err-push-clause-fits g c = IfOk-from_err c.from_residual-in_err-push.result _ c.from_residual-in_err-push.ensures.0
-
-pub returns-in_err-push-clause-length : goal.returns-in_err-push-clause-length
-returns-in_err-push-clause-length g c = IfOk-from_err c.from_residual-in_err-push.result _ c.from_residual-in_err-push.ensures.0

@@ -16,8 +16,8 @@ returns-clause-table g c =
     let zs = map f.number c.args.self.now in
     let sized : 2 ^ c.args.table.now.variables ≡ 2 ^ length c.as_slice.result.now =
     ap (λ n. 2 ^ n) (sym c.requires ∙ length-map c.args.self.now f.number ∙ ap length (sym c.as_slice.ensures)) in
-    added-table f.ops (2 ^ c.args.table.now.variables) _ (entries f.number c.add_equality.new.rows) (entries f.number c.as_mut_slice.result.now) (table_of f.number c.args.table.now)
+    added-table f.ops (2 ^ c.args.table.now.variables) _ (entries f.number c.add_point.new.rows) (entries f.number c.as_mut_slice.result.now) (table_of f.number c.args.table.now)
     (λ b. times f.ops scale (weight f.ops (map f.number c.as_slice.result.now) b)) (λ b. times f.ops scale (weight_of f.ops (equality zs) b))
-    (lent.written c.add_equality.new.rows (c.add_equality.auto.rows ∙ lent.size)) lent.numbers
-    (λ b low. c.add_equality.ensures b (omega (arith, low, sized)))
+    (lent.written c.add_point.new.rows (c.add_point.auto.rows ∙ lent.size)) lent.numbers
+    (λ b low. c.add_point.ensures b (omega (arith, low, sized)))
     (λ b _. ap (λ l. times f.ops scale (weight f.ops (map f.number l) b)) c.as_slice.ensures ∙ ap (times f.ops scale) (sym (weight_of-equality f.ops zs b)))
