@@ -1,7 +1,7 @@
 //! Values and weights of tables, by halves and by blocks of rows.
 //!
-//! A block has 256 rows, which the last 8 coordinates of a point tell apart. The weights of these stand in an array, once for all blocks;
-//! the coordinates before them are taken by halves.
+//! A block has 256 rows, which the last 8 coordinates of a point tell apart. The weights of these
+//! stand in an array, once for all blocks; the coordinates before them are taken by halves.
 
 ghost use Rattle.std.specs.Prelude.{◌≡◌, ℕ, ◌+◌, ◌*◌, ◌^◌, ◌<◌, ◌≤◌, ◌++◌, length, map};
 ghost use Rattle.sc_definitions.specs.Ring.{◌+⟨◌⟩◌, ◌*⟨◌⟩◌};
@@ -14,7 +14,8 @@ use sc_field::{Algebra, Field};
 /// How many coordinates tell the 256 rows of a block apart: the last ones of a point.
 pub const BLOCK_COORDINATES: usize = 8;
 
-/// The equality weights of `z`, as many coordinates as tell the rows of a block apart, at the rows of a block.
+/// The equality weights of `z`, as many coordinates as tell the rows of a block apart, at the rows
+/// of a block.
 pub fn block_weights<E: Field>(z: &[E]) -> [E; 256]
     requires { length z.now ≡ 8 }
     ensures { (b : ℕ) → b < 256 → entries E.number result b ≡ weight E.ops (map E.number z.now) b }
@@ -25,10 +26,12 @@ pub fn block_weights<E: Field>(z: &[E]) -> [E; 256]
     weights
 }
 
-/// The equality weights of a point in two parts, which together have as many coordinates as tell the rows of a block apart.
+/// The equality weights of a point in two parts, which together have as many coordinates as tell
+/// the rows of a block apart.
 pub fn joined_block_weights<E: Field>(front: &[E], back: &[E]) -> [E; 256]
     requires { length front.now + length back.now ≡ 8 }
-    ensures { (b : ℕ) → b < 256 → entries E.number result b ≡ weight E.ops (map E.number front.now ++ map E.number back.now) b }
+    ensures { (b : ℕ) → b < 256 → entries E.number result b
+        ≡ weight E.ops (map E.number front.now ++ map E.number back.now) b }
 {
     E::blocks_fit();
     let mut z = [E::ZERO; BLOCK_COORDINATES];
@@ -45,12 +48,14 @@ fn write_joined<E: Copy>(items: &mut [E], front: &[E], back: &[E])
     items[front.len()..].copy_from_slice(back);
 }
 
-/// The value at `z` of the table that a slice holds: as many entries as a power of two, whose exponent is the number of coordinates.
+/// The value at `z` of the table that a slice holds: as many entries as a power of two, whose
+/// exponent is the number of coordinates.
 ///
 /// It goes by blocks, in time linear in the table's length, and takes no memory.
 pub fn eval_slice<A: Field, E: Algebra<A>>(evals: &[A], z: &[E]) -> E
     requires { length evals.now ≡ 2 ^ length z.now }
-    ensures { E.number result ≡ value E.ops (entries (λ x. E.embedding (A.number x)) evals.now) (map E.number z.now) }
+    ensures { E.number result ≡ value E.ops (entries
+        (λ x. E.embedding (A.number x)) evals.now) (map E.number z.now) }
 {
     if z.len() < BLOCK_COORDINATES {
         return eval_halves(evals, z);
@@ -64,7 +69,8 @@ pub fn eval_slice<A: Field, E: Algebra<A>>(evals: &[A], z: &[E]) -> E
 // The value at `z`, by halves.
 fn eval_halves<A: Field, E: Algebra<A>>(evals: &[A], z: &[E]) -> E
     requires { length evals.now ≡ 2 ^ length z.now }
-    ensures { E.number result ≡ value E.ops (entries (λ x. E.embedding (A.number x)) evals.now) (map E.number z.now) }
+    ensures { E.number result ≡ value E.ops (entries
+        (λ x. E.embedding (A.number x)) evals.now) (map E.number z.now) }
 {
     match z {
         [] => E::embed(evals[0]),
@@ -83,13 +89,17 @@ fn eval_halves<A: Field, E: Algebra<A>>(evals: &[A], z: &[E]) -> E
     }
 }
 
-// The sum of the entries times the weights of their rows: that of the row in its block, times the equality weight of the block at `outer`.
-fn eval_blocks<A: Field, E: Algebra<A>>(evals: &[A], outer: &[E], weights: &[E]) -> E
+/// The sum of the entries times the weights of their rows: that of the row in its block, times the
+/// equality weight of the block at `outer`. A block has as many rows as there are weights, at most
+/// 512.
+pub fn eval_blocks<A: Field, E: Algebra<A>>(evals: &[A], outer: &[E], weights: &[E]) -> E
     requires size { length evals.now ≡ 2 ^ length outer.now * length weights.now }
     requires some { 0 < length weights.now }
     requires few { length weights.now ≤ 512 }
-    ensures { E.number result ≡ products E.ops (length evals.now) (entries (λ x. E.embedding (A.number x)) evals.now)
-        (block_weight E.ops (map E.number outer.now) (length weights.now) (entries E.number weights.now)) }
+    ensures { E.number result ≡ products E.ops (length evals.now) (entries
+        (λ x. E.embedding (A.number x)) evals.now)
+        (block_weight E.ops (map E.number outer.now) (length weights.now)
+        (entries E.number weights.now)) }
 {
     let [first, rest @ ..] = outer else {
         return E::dot_base(evals, weights);
@@ -100,12 +110,14 @@ fn eval_blocks<A: Field, E: Algebra<A>>(evals: &[A], outer: &[E], weights: &[E])
     lo.add(hi.sub(lo).mul(*first))
 }
 
-/// Adds `scale` times the equality weights of `z` to the rows of a table of as many variables, by halves.
+/// Adds `scale` times the equality weights of `z` to the rows of a table of as many variables, by
+/// halves.
 pub fn add_equality<EF: Field>(rows: &mut [EF], z: &[EF], scale: EF)
     requires { length rows.old ≡ 2 ^ length z.now }
     ensures { (b : ℕ) → b < 2 ^ length z.now →
         entries EF.number rows.new b
-        ≡ entries EF.number rows.old b +⟨ EF.ops ⟩ EF.number scale *⟨ EF.ops ⟩ weight EF.ops (map EF.number z.now) b }
+        ≡ entries EF.number rows.old b +⟨ EF.ops ⟩ EF.number scale
+        *⟨ EF.ops ⟩ weight EF.ops (map EF.number z.now) b }
 {
     match z {
         [] => rows[0] = rows[0].add(scale),

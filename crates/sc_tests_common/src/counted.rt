@@ -8,8 +8,9 @@ ghost use Rattle.sc_field.specs.ResiduesLaws.{residues_field, residues_two};
 use sc_field::{F65537, Field, FromTable, IntoTranscriptField, NoMemory};
 use std::alloc::Global;
 
-/// An element modulo 65537 with a flag and a count, of which only the element is compared. What is made of two operands has the flag where one of
-/// them has it, and the sum of their counts; a product with the flag has `STEP` more.
+/// An element modulo 65537 with a flag and a count, of which only the element is compared. What is
+/// made of two operands has the flag where one of them has it, and the sum of their counts; a
+/// product with the flag has `STEP` more.
 #[derive(Clone, Copy, Debug)]
 #[derive_where(PartialEq, Eq)]
 pub struct Counted<const STEP: u64> {
@@ -38,7 +39,8 @@ impl<const STEP: u64> Counted<STEP> {
         }
     }
 
-    // What is made of two operands without a product: it has the flag where an operand has it, and the sum of their counts.
+    // What is made of two operands without a product: it has the flag where an operand has it, and
+    // the sum of their counts.
     fn of_both(self, other: Self, value: F65537) -> Self
         ensures { result.value ≡ value }
     {
@@ -170,7 +172,8 @@ impl FromTable<Traced> for Image {
     }
 
     fn from_table(alloc: Global, table: Vec<Traced>) -> Result<Vec<Image>, NoMemory>
-        ensures { IfOk result (λ v. map (λ y. y.value.value) v.items ≡ map (λ x. x.value.value) table.items) }
+        ensures { IfOk result (λ v. map (λ y. y.value.value) v.items ≡ map
+            (λ x. x.value.value) table.items) }
     {
         let mut images = Vec::new(alloc);
         for x in table {

@@ -7,3 +7,4 @@ pub mod NextValues
 pub mod Written
 pub mod SelectReads
 pub mod NextReads
+pub mod SlotParts

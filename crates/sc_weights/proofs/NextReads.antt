@@ -3,7 +3,10 @@ use Rattle.std.proofs.Common.{◌≡◌, ℕ, ◌+◌, ◌*◌, ◌^◌, ◌<◌
 use Rattle.std.proofs.lemmas.Nat.{pow_pos}
 use Rattle.std.proofs.lemmas.List.{length-map, map-append, take-append-drop}
 use Rattle.sc_definitions.specs.Ring.{Ops, IsRing, plus, times}
-use Rattle.sc_definitions.specs.Tables.{Order, prefix, suffix, weight, eq_product, value}
+use Rattle.sc_definitions.specs.Tables.{Order, prefix, suffix, sum_below, entries, weight, eq_product, value, inner}
+use Rattle.sc_definitions.proofs.Sums.{sum-same}
+use Rattle.sc_field.specs.Products.{products}
+use Rattle.sc_table.proofs.EntryLaws.{entry-embedded}
 use Rattle.sc_definitions.specs.Statements.{successor, next_row, successor_weight, slot_weight, weight_of, true_value}
 use Rattle.sc_definitions.proofs.RingLaws.{times_comm}
 use Rattle.sc_definitions.proofs.BlockLaws.{slot-prefix, slot-suffix, value-slot_prefix, value-slot_suffix, true_value-prefix, true_value-suffix}
@@ -79,3 +82,17 @@ pub row-parts : {X : Type 0} (number : X → ℕ) (row front back : List X) (k :
 row-parts number row front back k first second =
     ap (map number) (sym (take-append-drop k row)) ∙ map-append number (take k row) (drop k row)
     ∙ ap (λ l. map number l ++ map number (drop k row)) (sym first) ∙ ap (λ l. map number front ++ map number l) (sym second)
+
+-- the sum of entries times the weights in slots that stand first
+pub slots-sum : (o : Ops) (ring : IsRing o) {A : Type 0} (embed : ℕ → ℕ) (of : A → ℕ) → embed 0 ≡ 0 → (rows : List A) (ss zs : List ℕ) (p : ℕ) (w : ℕ → ℕ) →
+    ((b : ℕ) → b < length rows → w b ≡ slot_weight prefix o ss zs b) → length zs ≡ p → 2 ^ (length ss + p) ≡ length rows →
+    products o (length rows) (entries (λ x. embed (of x)) rows) w ≡ value o (λ a. value o (λ c. embed (entries of rows (a * 2 ^ p + next_row p c))) zs) ss
+unfolding products true_value weight_of inner
+slots-sum o ring embed of zero_kept rows ss zs p w is arity size =
+    let f : ℕ → ℕ = λ b. embed (entries of rows b) in
+    let whole : length rows ≡ 2 ^ (length ss + length zs) = sym size ∙ ap (λ k. 2 ^ (length ss + k)) (sym arity) in
+    sum-same o (length rows) _ (λ b. times o (f b) (slot_weight prefix o ss zs b)) (λ b low.
+    ap (λ k. times o k (w b)) (entry-embedded embed of rows b zero_kept) ∙ ap (times o (f b)) (is b low))
+    ∙ ap (λ k. sum_below o k (λ b. times o (f b) (slot_weight prefix o ss zs b))) whole
+    ∙ true_value-prefix o ring f ss zs
+    ∙ ap (λ k. value o (λ a. value o (λ c. f (a * 2 ^ k + next_row k c)) zs) ss) arity

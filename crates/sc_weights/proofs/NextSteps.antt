@@ -1,18 +1,19 @@
 -- Successor weights that are added to rows, by halves and by blocks.
-use Rattle.std.proofs.Common.{◌≡◌, ℕ, zero, suc, ◌+◌, ◌-◌, ◌*◌, ◌^◌, ◌<◌, ◌≤◌, List, [], ◌∷◌, ◌++◌, length, take, drop, if◌then◌else◌, sym, ◌∙◌, ap, refl, subst, arith, ⊎_elim, lt-ltb, le-ltb, length-append}
+use Rattle.std.proofs.Common.{◌≡◌, ℕ, zero, suc, ◌+◌, ◌-◌, ◌*◌, ◌/◌, ◌%◌, ◌^◌, ◌<◌, ◌≤◌, List, [], ◌∷◌, ◌++◌, length, take, drop, if◌then◌else◌, sym, ◌∙◌, ap, refl, subst, arith, ⊎_elim, lt-ltb, le-ltb, length-append}
 use Rattle.std.proofs.lemmas.List.{length-take-le, length-drop}
 use Rattle.std.proofs.lemmas.Bool.{cases_lt}
-use Rattle.std.proofs.lemmas.Nat.{pow_pos}
+use Rattle.std.proofs.lemmas.Nat.{mul-le, pow_pos, div_below}
 use Rattle.sc_definitions.specs.Ring.{Ops, IsRing, plus, times, minus}
-use Rattle.sc_definitions.specs.Tables.{entries, weight}
+use Rattle.sc_definitions.specs.Tables.{prefix, entries, weight}
 use Rattle.sc_definitions.specs.Shifts.{shifted}
-use Rattle.sc_definitions.specs.Statements.{successor_weight}
+use Rattle.sc_definitions.specs.Statements.{successor_weight, slot_weight}
 use Rattle.sc_definitions.proofs.RingLaws.{element-small, times-one, times_assoc}
 use Rattle.sc_definitions.proofs.Identity.{atom, nought, unit, ◌⊕◌, ◌⊗◌, ◌⊖◌, Agree, identity}
 use Rattle.sc_table.specs.Blocks.{block_weight}
-use Rattle.sc_table.proofs.BlockWeights.{IsSplit, split-weight, blocks-none}
+use Rattle.std.proofs.Math.Nat.{mod-lt}
+use Rattle.sc_table.proofs.BlockWeights.{block-at, IsSplit, split-weight, blocks-none}
 use Rattle.sc_table.proofs.EntryLaws.{entry-take, entry-drop, entry-append_left, entry-append_right}
-use Rattle.sc_definitions.proofs.BlockLaws.{weight-append}
+use Rattle.sc_definitions.proofs.BlockLaws.{weight-append, slot-prefix}
 use Rattle.sc_weights.specs.Moved.{moved_up}
 use Rattle.sc_weights.proofs.Halves.{before-end, in-end, end-given, last-of}
 use Rattle.sc_definitions.proofs.SuccessorLaws.{only_at-here, only_at-elsewhere, successor-parts}
@@ -239,3 +240,36 @@ module _ (o : Ops) (ring : IsRing o) where
       ∙ ap (λ l. weight o l ((Q - 1) * 2 ^ length inner + (n - s + c))) joined ∙ ap (weight o (zs ++ ss)) row'
       ∙ weight-append o ring zs ss (q - 1) c (omega (arith, pos')) (subst (λ k. c < k) narrow low))
       ∙ sym (times_assoc o ring scale (weight o zs (q - 1)) (weight o ss c))
+
+-- ---- blocks of the slots of a selector that stands first
+
+module _ (o : Ops) (ring : IsRing o) where
+  pub slots-joined : (outer inner zs : List ℕ) (n : ℕ) (w : ℕ → ℕ) → n ≡ 2 ^ length inner * 2 ^ length zs →
+      ((a c : ℕ) → a < 2 ^ length inner → c < 2 ^ length zs → w (a * 2 ^ length zs + c) ≡ times o (weight o inner a) (successor_weight o zs c)) →
+      (b : ℕ) → b < 2 ^ length outer * n → block_weight o outer n w b ≡ slot_weight prefix o (outer ++ inner) zs b
+  slots-joined outer inner zs n w size is b low =
+      let Q = 2 ^ length inner in
+      let P = 2 ^ length zs in
+      let pos : 0 < P = pow_pos (length zs) in
+      let some : 0 < n = omega (arith, size, mul-le 1 1 Q P (pow_pos (length inner)) pos) in
+      let A = b / n in
+      let r = b % n in
+      let a = r / P in
+      let c = r % P in
+      let row : A * n + r ≡ b = omega arith in
+      let place : a * P + c ≡ r = omega arith in
+      let r_low : r < n = mod-lt b some in
+      let a_low : a < Q = div_below r P Q pos (omega (arith, r_low, size)) in
+      let c_low : c < P = mod-lt r pos in
+      let A_low : A < 2 ^ length outer = div_below b n (2 ^ length outer) some low in
+      let whole : (A * Q + a) * P + c ≡ b = omega (arith, row, place, ap (λ k. A * k) size) in
+      ap (block_weight o outer n w) (sym row) ∙ block-at o ring n some w outer A r r_low
+      ∙ ap (times o (weight o outer A)) (ap w (sym place) ∙ is a c a_low c_low)
+      ∙ sym (times_assoc o ring (weight o outer A) (weight o inner a) (successor_weight o zs c))
+      ∙ ap (λ k. times o k (successor_weight o zs c)) (sym (weight-append o ring outer inner A a A_low a_low))
+      ∙ sym (slot-prefix o ring (outer ++ inner) zs (A * Q + a) c c_low) ∙ ap (slot_weight prefix o (outer ++ inner) zs) whole
+
+  -- a slot's weights that are added to nothing
+  pub slots-alone : (v u : ℕ) → plus o 0 (times o 1 (times o v u)) ≡ times o v u
+  unfolding Agree
+  slots-alone v u = identity o ring (v ∷ u ∷ []) (nought ⊕ unit ⊗ (atom 0 ⊗ atom 1)) (atom 0 ⊗ atom 1) tt tt refl

@@ -30,12 +30,14 @@ impl<EF: Field> RowWeights<EF> for Point<EF> {
     }
 }
 
-/// Adds `scale` times the equality weights of `z` to the rows of a table of as many variables, by blocks.
+/// Adds `scale` times the equality weights of `z` to the rows of a table of as many variables, by
+/// blocks.
 pub(crate) fn add_point<EF: Field>(rows: &mut [EF], z: &[EF], scale: EF)
     requires { length rows.old ≡ 2 ^ length z.now }
     ensures { (b : ℕ) → b < 2 ^ length z.now →
         entries EF.number rows.new b
-        ≡ entries EF.number rows.old b +⟨ EF.ops ⟩ EF.number scale *⟨ EF.ops ⟩ weight EF.ops (map EF.number z.now) b }
+        ≡ entries EF.number rows.old b +⟨ EF.ops ⟩ EF.number scale
+        *⟨ EF.ops ⟩ weight EF.ops (map EF.number z.now) b }
 {
     if z.len() < BLOCK_COORDINATES {
         add_equality(rows, z, scale);
@@ -47,12 +49,15 @@ pub(crate) fn add_point<EF: Field>(rows: &mut [EF], z: &[EF], scale: EF)
     add_blocks(rows, outer, &weights, scale);
 }
 
-// Adds `scale` times the weights of rows in blocks: that of the row in its block, times the equality weight of the block at `outer`.
-fn add_blocks<EF: Field>(rows: &mut [EF], outer: &[EF], weights: &[EF], scale: EF)
+/// Adds `scale` times the weights of rows in blocks: that of the row in its block, times the
+/// equality weight of the block at `outer`.
+pub(crate) fn add_blocks<EF: Field>(rows: &mut [EF], outer: &[EF], weights: &[EF], scale: EF)
     requires size { length rows.old ≡ 2 ^ length outer.now * length weights.now }
     requires some { 0 < length weights.now }
-    ensures { (b : ℕ) → b < length rows.old → entries EF.number rows.new b ≡ entries EF.number rows.old b
-        +⟨ EF.ops ⟩ EF.number scale *⟨ EF.ops ⟩ block_weight EF.ops (map EF.number outer.now) (length weights.now) (entries EF.number weights.now) b }
+    ensures { (b : ℕ) → b < length rows.old → entries EF.number rows.new b
+        ≡ entries EF.number rows.old b
+        +⟨ EF.ops ⟩ EF.number scale *⟨ EF.ops ⟩ block_weight EF.ops (map EF.number outer.now)
+        (length weights.now) (entries EF.number weights.now) b }
 {
     let [first, rest @ ..] = outer else {
         add_scaled(rows, weights, scale);
@@ -68,7 +73,8 @@ fn add_blocks<EF: Field>(rows: &mut [EF], outer: &[EF], weights: &[EF], scale: E
 pub(crate) fn add_scaled<EF: Field>(rows: &mut [EF], weights: &[EF], scale: EF)
     requires { length rows.old ≡ length weights.now }
     ensures { (b : ℕ) → b < length rows.old →
-        entries EF.number rows.new b ≡ entries EF.number rows.old b +⟨ EF.ops ⟩ EF.number scale *⟨ EF.ops ⟩ entries EF.number weights.now b }
+        entries EF.number rows.new b ≡ entries EF.number rows.old b +⟨ EF.ops ⟩ EF.number scale
+        *⟨ EF.ops ⟩ entries EF.number weights.now b }
 {
     for b in 0..rows.len() {
         rows[b] = rows[b].add(scale.mul(weights[b]));

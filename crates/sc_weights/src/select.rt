@@ -57,7 +57,8 @@ impl<'a, F: Field, EF: ExtensionField<F>> RowWeights<EF> for Selector<'a, F> {
 fn add_powers<F: Field, EF: Algebra<F>>(rows: &mut [EF], variables: usize, var: F, scale: EF)
     requires { length rows.old ≡ 2 ^ variables }
     ensures { (b : ℕ) → b < length rows.old → entries EF.number rows.new b
-        ≡ entries EF.number rows.old b +⟨ EF.ops ⟩ EF.number scale *⟨ EF.ops ⟩ power EF.ops (EF.embedding (F.number var)) b }
+        ≡ entries EF.number rows.old b +⟨ EF.ops ⟩ EF.number scale
+        *⟨ EF.ops ⟩ power EF.ops (EF.embedding (F.number var)) b }
 {
     if variables < BLOCK_COORDINATES {
         add_powers_by_rows(rows, var, scale);
@@ -71,7 +72,8 @@ fn add_powers<F: Field, EF: Algebra<F>>(rows: &mut [EF], variables: usize, var: 
 // Adds `scale` times the powers of `var`, row after row.
 fn add_powers_by_rows<F: Field, EF: Algebra<F>>(rows: &mut [EF], var: F, scale: EF)
     ensures { (b : ℕ) → b < length rows.old → entries EF.number rows.new b
-        ≡ entries EF.number rows.old b +⟨ EF.ops ⟩ EF.number scale *⟨ EF.ops ⟩ power EF.ops (EF.embedding (F.number var)) b }
+        ≡ entries EF.number rows.old b +⟨ EF.ops ⟩ EF.number scale
+        *⟨ EF.ops ⟩ power EF.ops (EF.embedding (F.number var)) b }
 {
     let mut power = scale;
     for row in rows.iter_mut() {
@@ -82,7 +84,8 @@ fn add_powers_by_rows<F: Field, EF: Algebra<F>>(rows: &mut [EF], var: F, scale: 
 
 // The powers of `var` at the rows of the first block.
 fn power_weights<F: Field, EF: Algebra<F>>(var: F) -> [EF; 256]
-    ensures { (b : ℕ) → b < 256 → entries EF.number result b ≡ power EF.ops (EF.embedding (F.number var)) b }
+    ensures { (b : ℕ) → b < 256 → entries EF.number result b
+        ≡ power EF.ops (EF.embedding (F.number var)) b }
 {
     EF::blocks_fit();
     let mut weights = [EF::ZERO; 256];
@@ -90,7 +93,8 @@ fn power_weights<F: Field, EF: Algebra<F>>(var: F) -> [EF; 256]
     weights
 }
 
-// The table is halved so many times, to blocks of as many rows as there are weights. The answer is `scale` times the power behind the last row.
+// The table is halved so many times, to blocks of as many rows as there are weights. The answer is
+// `scale` times the power behind the last row.
 fn add_powers_by_blocks<F: Field, EF: Algebra<F>>(
     rows: &mut [EF],
     halvings: usize,
@@ -100,10 +104,13 @@ fn add_powers_by_blocks<F: Field, EF: Algebra<F>>(
 ) -> EF
     requires size { length rows.old ≡ 2 ^ halvings * length weights.now }
     requires some { 0 < length weights.now }
-    requires weights { (c : ℕ) → c < length weights.now → entries EF.number weights.now c ≡ power EF.ops (EF.embedding (F.number var)) c }
+    requires weights { (c : ℕ) → c < length weights.now → entries EF.number weights.now c
+        ≡ power EF.ops (EF.embedding (F.number var)) c }
     ensures rows { (b : ℕ) → b < length rows.old → entries EF.number rows.new b
-        ≡ entries EF.number rows.old b +⟨ EF.ops ⟩ EF.number scale *⟨ EF.ops ⟩ power EF.ops (EF.embedding (F.number var)) b }
-    ensures next { EF.number result ≡ EF.number scale *⟨ EF.ops ⟩ power EF.ops (EF.embedding (F.number var)) (length rows.old) }
+        ≡ entries EF.number rows.old b +⟨ EF.ops ⟩ EF.number scale
+        *⟨ EF.ops ⟩ power EF.ops (EF.embedding (F.number var)) b }
+    ensures next { EF.number result ≡ EF.number scale
+        *⟨ EF.ops ⟩ power EF.ops (EF.embedding (F.number var)) (length rows.old) }
 {
     if halvings == 0 {
         add_scaled(rows, weights, scale);
@@ -121,7 +128,9 @@ fn powers_value<F: Field, A: Field, EF: Algebra<F> + Algebra<A>>(
     var: F,
 ) -> EF
     requires { length rows.now ≡ 2 ^ variables }
-    ensures { EF.number result ≡ sum_below EF.ops (length rows.now) (λ b. ⟦<EF as Algebra<A>>⟧.embedding (entries A.number rows.now b) *⟨ EF.ops ⟩ power EF.ops (⟦<EF as Algebra<F>>⟧.embedding (F.number var)) b) }
+    ensures { EF.number result ≡ sum_below EF.ops (length rows.now)
+        (λ b. ⟦<EF as Algebra<A>>⟧.embedding (entries A.number rows.now b)
+        *⟨ EF.ops ⟩ power EF.ops (⟦<EF as Algebra<F>>⟧.embedding (F.number var)) b) }
 {
     if variables < BLOCK_COORDINATES {
         return powers_value_by_rows(rows, var);
@@ -133,7 +142,8 @@ fn powers_value<F: Field, A: Field, EF: Algebra<F> + Algebra<A>>(
     value
 }
 
-// The same, and the power behind the last row. The table is halved so many times, to blocks of as many rows as there are weights.
+// The same, and the power behind the last row. The table is halved so many times, to blocks of as
+// many rows as there are weights.
 fn powers_value_by_blocks<F: Field, A: Field, EF: Algebra<F> + Algebra<A>>(
     rows: &[A],
     halvings: usize,
@@ -143,9 +153,13 @@ fn powers_value_by_blocks<F: Field, A: Field, EF: Algebra<F> + Algebra<A>>(
     requires size { length rows.now ≡ 2 ^ halvings * length weights.now }
     requires some { 0 < length weights.now }
     requires few { length weights.now ≤ 512 }
-    requires weights { (c : ℕ) → c < length weights.now → entries EF.number weights.now c ≡ power EF.ops (⟦<EF as Algebra<F>>⟧.embedding (F.number var)) c }
-    ensures sum { EF.number result.0 ≡ sum_below EF.ops (length rows.now) (λ b. ⟦<EF as Algebra<A>>⟧.embedding (entries A.number rows.now b) *⟨ EF.ops ⟩ power EF.ops (⟦<EF as Algebra<F>>⟧.embedding (F.number var)) b) }
-    ensures next { EF.number result.1 ≡ power EF.ops (⟦<EF as Algebra<F>>⟧.embedding (F.number var)) (length rows.now) }
+    requires weights { (c : ℕ) → c < length weights.now → entries EF.number weights.now c
+        ≡ power EF.ops (⟦<EF as Algebra<F>>⟧.embedding (F.number var)) c }
+    ensures sum { EF.number result.0 ≡ sum_below EF.ops (length rows.now)
+        (λ b. ⟦<EF as Algebra<A>>⟧.embedding (entries A.number rows.now b)
+        *⟨ EF.ops ⟩ power EF.ops (⟦<EF as Algebra<F>>⟧.embedding (F.number var)) b) }
+    ensures next { EF.number result.1 ≡ power EF.ops (⟦<EF as Algebra<F>>⟧.embedding (F.number var))
+        (length rows.now) }
 {
     if halvings == 0 {
         let sum: EF = EF::dot_base(rows, weights);
@@ -159,7 +173,9 @@ fn powers_value_by_blocks<F: Field, A: Field, EF: Algebra<F> + Algebra<A>>(
 
 // The sum of the entries times the powers of `var`, the last entry first.
 fn powers_value_by_rows<F: Field, A: Field, EF: Algebra<F> + Algebra<A>>(rows: &[A], var: F) -> EF
-    ensures { EF.number result ≡ sum_below EF.ops (length rows.now) (λ b. ⟦<EF as Algebra<A>>⟧.embedding (entries A.number rows.now b) *⟨ EF.ops ⟩ power EF.ops (⟦<EF as Algebra<F>>⟧.embedding (F.number var)) b) }
+    ensures { EF.number result ≡ sum_below EF.ops (length rows.now)
+        (λ b. ⟦<EF as Algebra<A>>⟧.embedding (entries A.number rows.now b)
+        *⟨ EF.ops ⟩ power EF.ops (⟦<EF as Algebra<F>>⟧.embedding (F.number var)) b) }
 {
     let mut sum = EF::ZERO;
     for row in rows.iter().rev() {
@@ -174,7 +190,8 @@ fn powers_value_by_rows<F: Field, A: Field, EF: Algebra<F> + Algebra<A>>(rows: &
 fn add_products<F: Field, EF: Algebra<F>>(rows: &mut [EF], z: &[F], scale: EF)
     requires { length rows.old ≡ 2 ^ length z.now }
     ensures { (b : ℕ) → b < 2 ^ length z.now → entries EF.number rows.new b
-        ≡ entries EF.number rows.old b +⟨ EF.ops ⟩ EF.number scale *⟨ EF.ops ⟩ monomial EF.ops (map (λ x. EF.embedding (F.number x)) z.now) b }
+        ≡ entries EF.number rows.old b +⟨ EF.ops ⟩ EF.number scale
+        *⟨ EF.ops ⟩ monomial EF.ops (map (λ x. EF.embedding (F.number x)) z.now) b }
 {
     if z.len() < BLOCK_COORDINATES {
         add_products_by_halves(rows, z, scale);
@@ -188,7 +205,8 @@ fn add_products<F: Field, EF: Algebra<F>>(rows: &mut [EF], z: &[F], scale: EF)
 // The products of the coordinates that tell the rows of a block apart.
 fn product_weights<F: Field, EF: Algebra<F>>(z: &[F]) -> [EF; 256]
     requires { length z.now ≡ 8 }
-    ensures { (b : ℕ) → b < 256 → entries EF.number result b ≡ monomial EF.ops (map (λ x. EF.embedding (F.number x)) z.now) b }
+    ensures { (b : ℕ) → b < 256 → entries EF.number result b ≡ monomial EF.ops (map
+        (λ x. EF.embedding (F.number x)) z.now) b }
 {
     EF::blocks_fit();
     let mut weights = [EF::ZERO; 256];
@@ -206,9 +224,11 @@ fn add_products_by_blocks<F: Field, EF: Algebra<F>>(
     requires size { length rows.old ≡ 2 ^ length z.now }
     requires long { 8 ≤ length z.now }
     requires block { length weights.now ≡ 256 }
-    requires weights { (c : ℕ) → c < 256 → entries EF.number weights.now c ≡ monomial EF.ops (map (λ x. EF.embedding (F.number x)) (drop (length z.now - 8) z.now)) c }
+    requires weights { (c : ℕ) → c < 256 → entries EF.number weights.now c ≡ monomial EF.ops (map
+        (λ x. EF.embedding (F.number x)) (drop (length z.now - 8) z.now)) c }
     ensures { (b : ℕ) → b < 2 ^ length z.now → entries EF.number rows.new b
-        ≡ entries EF.number rows.old b +⟨ EF.ops ⟩ EF.number scale *⟨ EF.ops ⟩ monomial EF.ops (map (λ x. EF.embedding (F.number x)) z.now) b }
+        ≡ entries EF.number rows.old b +⟨ EF.ops ⟩ EF.number scale
+        *⟨ EF.ops ⟩ monomial EF.ops (map (λ x. EF.embedding (F.number x)) z.now) b }
 {
     if z.len() == BLOCK_COORDINATES {
         add_scaled(rows, weights, scale);
@@ -223,7 +243,8 @@ fn add_products_by_blocks<F: Field, EF: Algebra<F>>(
 fn add_products_by_halves<F: Field, EF: Algebra<F>>(rows: &mut [EF], z: &[F], scale: EF)
     requires { length rows.old ≡ 2 ^ length z.now }
     ensures { (b : ℕ) → b < 2 ^ length z.now → entries EF.number rows.new b
-        ≡ entries EF.number rows.old b +⟨ EF.ops ⟩ EF.number scale *⟨ EF.ops ⟩ monomial EF.ops (map (λ x. EF.embedding (F.number x)) z.now) b }
+        ≡ entries EF.number rows.old b +⟨ EF.ops ⟩ EF.number scale
+        *⟨ EF.ops ⟩ monomial EF.ops (map (λ x. EF.embedding (F.number x)) z.now) b }
 {
     let [first, rest @ ..] = z else {
         rows[0] = rows[0].add(scale);
@@ -237,7 +258,9 @@ fn add_products_by_halves<F: Field, EF: Algebra<F>>(rows: &mut [EF], z: &[F], sc
 // The sum of the entries times the products of the coordinates, by blocks.
 fn products_value<F: Field, A: Field, EF: Algebra<F> + Algebra<A>>(rows: &[A], z: &[F]) -> EF
     requires { length rows.now ≡ 2 ^ length z.now }
-    ensures { EF.number result ≡ inner EF.ops (length z.now) (λ b. ⟦<EF as Algebra<A>>⟧.embedding (entries A.number rows.now b)) (monomial EF.ops (map (λ x. ⟦<EF as Algebra<F>>⟧.embedding (F.number x)) z.now)) }
+    ensures { EF.number result ≡ inner EF.ops (length z.now)
+        (λ b. ⟦<EF as Algebra<A>>⟧.embedding (entries A.number rows.now b)) (monomial EF.ops (map
+        (λ x. ⟦<EF as Algebra<F>>⟧.embedding (F.number x)) z.now)) }
 {
     if z.len() < BLOCK_COORDINATES {
         return products_value_by_halves(rows, z);
@@ -256,8 +279,11 @@ fn products_value_by_blocks<F: Field, A: Field, EF: Algebra<F> + Algebra<A>>(
     requires size { length rows.now ≡ 2 ^ length z.now }
     requires long { 8 ≤ length z.now }
     requires block { length weights.now ≡ 256 }
-    requires weights { (c : ℕ) → c < 256 → entries EF.number weights.now c ≡ monomial EF.ops (map (λ x. ⟦<EF as Algebra<F>>⟧.embedding (F.number x)) (drop (length z.now - 8) z.now)) c }
-    ensures { EF.number result ≡ inner EF.ops (length z.now) (λ b. ⟦<EF as Algebra<A>>⟧.embedding (entries A.number rows.now b)) (monomial EF.ops (map (λ x. ⟦<EF as Algebra<F>>⟧.embedding (F.number x)) z.now)) }
+    requires weights { (c : ℕ) → c < 256 → entries EF.number weights.now c ≡ monomial EF.ops (map
+        (λ x. ⟦<EF as Algebra<F>>⟧.embedding (F.number x)) (drop (length z.now - 8) z.now)) c }
+    ensures { EF.number result ≡ inner EF.ops (length z.now)
+        (λ b. ⟦<EF as Algebra<A>>⟧.embedding (entries A.number rows.now b)) (monomial EF.ops (map
+        (λ x. ⟦<EF as Algebra<F>>⟧.embedding (F.number x)) z.now)) }
 {
     if z.len() == BLOCK_COORDINATES {
         return EF::dot_base(rows, weights);
@@ -274,7 +300,9 @@ fn products_value_by_halves<F: Field, A: Field, EF: Algebra<F> + Algebra<A>>(
     z: &[F],
 ) -> EF
     requires { length rows.now ≡ 2 ^ length z.now }
-    ensures { EF.number result ≡ inner EF.ops (length z.now) (λ b. ⟦<EF as Algebra<A>>⟧.embedding (entries A.number rows.now b)) (monomial EF.ops (map (λ x. ⟦<EF as Algebra<F>>⟧.embedding (F.number x)) z.now)) }
+    ensures { EF.number result ≡ inner EF.ops (length z.now)
+        (λ b. ⟦<EF as Algebra<A>>⟧.embedding (entries A.number rows.now b)) (monomial EF.ops (map
+        (λ x. ⟦<EF as Algebra<F>>⟧.embedding (F.number x)) z.now)) }
 {
     let [first, rest @ ..] = z else {
         return EF::embed(rows[0]);
@@ -288,7 +316,8 @@ fn products_value_by_halves<F: Field, A: Field, EF: Algebra<F> + Algebra<A>>(
 // The value at `x` of the products of the coordinates, as a table.
 fn products_at<F: Field, EF: Algebra<F>>(z: &[F], x: &[EF]) -> EF
     requires { length z.now ≡ length x.now }
-    ensures { EF.number result ≡ value EF.ops (monomial EF.ops (map (λ y. EF.embedding (F.number y)) z.now)) (map EF.number x.now) }
+    ensures { EF.number result ≡ value EF.ops (monomial EF.ops (map
+        (λ y. EF.embedding (F.number y)) z.now)) (map EF.number x.now) }
 {
     let mut product = EF::ONE;
     for (z_i, x_i) in z.iter().zip(x) {

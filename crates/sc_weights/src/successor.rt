@@ -1,7 +1,7 @@
 //! Successor weights of a point, times the equality weights of a selector that stands behind it.
 //!
-//! They go by blocks of 256 rows where the selector has at most as many coordinates as tell the rows of a block apart, and the table a block
-//! or more; else by halves.
+//! They go by blocks of 256 rows where the selector has at most as many coordinates as tell the
+//! rows of a block apart, and the table a block or more; else by halves.
 
 ghost use Rattle.std.specs.Prelude.{◌≡◌, ℕ, ◌+◌, ◌-◌, ◌*◌, ◌^◌, ◌<◌, ◌≤◌, length, map};
 ghost use Rattle.sc_definitions.specs.Ring.{◌+⟨◌⟩◌, ◌*⟨◌⟩◌};
@@ -18,8 +18,8 @@ use sc_table::{BLOCK_COORDINATES, eval_slice, joined_block_weights};
 
 // ---- weights that are added to rows
 
-/// Adds `scale` times the successor weights of `point`, times the equality weights of a selector that stands last and has blocks of so many
-/// rows.
+/// Adds `scale` times the successor weights of `point`, times the equality weights of a selector
+/// that stands last and has blocks of so many rows.
 pub(crate) fn add_successor<EF: Field>(
     rows: &mut [EF],
     point: &[EF],
@@ -29,9 +29,12 @@ pub(crate) fn add_successor<EF: Field>(
 )
     requires size { length rows.old ≡ 2 ^ (length point.now + length selector.now) }
     requires block { block ≡ 2 ^ length selector.now }
-    ensures { (a c : ℕ) → a < 2 ^ length point.now → c < 2 ^ length selector.now → entries EF.number rows.new (a * 2 ^ length selector.now + c)
+    ensures { (a c : ℕ) → a < 2 ^ length point.now → c < 2 ^ length selector.now
+        → entries EF.number rows.new (a * 2 ^ length selector.now + c)
         ≡ entries EF.number rows.old (a * 2 ^ length selector.now + c)
-        +⟨ EF.ops ⟩ EF.number scale *⟨ EF.ops ⟩ (successor_weight EF.ops (map EF.number point.now) a *⟨ EF.ops ⟩ weight EF.ops (map EF.number selector.now) c) }
+        +⟨ EF.ops ⟩ EF.number scale *⟨ EF.ops ⟩
+        (successor_weight EF.ops (map EF.number point.now) a
+        *⟨ EF.ops ⟩ weight EF.ops (map EF.number selector.now) c) }
 {
     if selector.len() > BLOCK_COORDINATES || rows.len() < 256 {
         add_successor_by_halves(rows, point, selector, block, scale);
@@ -49,17 +52,21 @@ fn add_successor_by_halves<EF: Field>(
 )
     requires size { length rows.old ≡ 2 ^ (length point.now + length selector.now) }
     requires block { block ≡ 2 ^ length selector.now }
-    ensures { (a c : ℕ) → a < 2 ^ length point.now → c < 2 ^ length selector.now → entries EF.number rows.new (a * 2 ^ length selector.now + c)
+    ensures { (a c : ℕ) → a < 2 ^ length point.now → c < 2 ^ length selector.now
+        → entries EF.number rows.new (a * 2 ^ length selector.now + c)
         ≡ entries EF.number rows.old (a * 2 ^ length selector.now + c)
-        +⟨ EF.ops ⟩ EF.number scale *⟨ EF.ops ⟩ (successor_weight EF.ops (map EF.number point.now) a *⟨ EF.ops ⟩ weight EF.ops (map EF.number selector.now) c) }
+        +⟨ EF.ops ⟩ EF.number scale *⟨ EF.ops ⟩
+        (successor_weight EF.ops (map EF.number point.now) a
+        *⟨ EF.ops ⟩ weight EF.ops (map EF.number selector.now) c) }
 {
     let last = rows.len() - block;
     let stays = add_moved_up(rows, point, selector, scale, EF::ZERO);
     add_point(&mut rows[last..], selector, stays);
 }
 
-// Adds to each row `scale` times the equality weight of the row before, and `before` to row 0, all times the equality weights of the
-// selector. The answer is `scale` times the weight of the last row, which the next row would get.
+// Adds to each row `scale` times the equality weight of the row before, and `before` to row 0, all
+// times the equality weights of the selector. The answer is `scale` times the weight of the last
+// row, which the next row would get.
 #[tactic(auto, using(crate::proofs::Halves::low_half, crate::proofs::Halves::high_half))]
 fn add_moved_up<EF: Field>(
     rows: &mut [EF],
@@ -69,10 +76,14 @@ fn add_moved_up<EF: Field>(
     before: EF,
 ) -> EF
     requires { length rows.old ≡ 2 ^ (length point.now + length selector.now) }
-    ensures rows { (a c : ℕ) → a < 2 ^ length point.now → c < 2 ^ length selector.now → entries EF.number rows.new (a * 2 ^ length selector.now + c)
+    ensures rows { (a c : ℕ) → a < 2 ^ length point.now → c < 2 ^ length selector.now
+        → entries EF.number rows.new (a * 2 ^ length selector.now + c)
         ≡ entries EF.number rows.old (a * 2 ^ length selector.now + c)
-        +⟨ EF.ops ⟩ shifted (EF.number before) (λ b. EF.number scale *⟨ EF.ops ⟩ weight EF.ops (map EF.number point.now) b) a *⟨ EF.ops ⟩ weight EF.ops (map EF.number selector.now) c }
-    ensures last { EF.number result ≡ EF.number scale *⟨ EF.ops ⟩ weight EF.ops (map EF.number point.now) (2 ^ length point.now - 1) }
+        +⟨ EF.ops ⟩ shifted (EF.number before) (λ b. EF.number scale
+        *⟨ EF.ops ⟩ weight EF.ops (map EF.number point.now) b) a
+        *⟨ EF.ops ⟩ weight EF.ops (map EF.number selector.now) c }
+    ensures last { EF.number result ≡ EF.number scale
+        *⟨ EF.ops ⟩ weight EF.ops (map EF.number point.now) (2 ^ length point.now - 1) }
 {
     let [first, rest @ ..] = point else {
         add_point(rows, selector, before);
@@ -96,9 +107,12 @@ fn add_successor_by_blocks<EF: Field>(
     requires block { block ≡ 2 ^ length selector.now }
     requires short { length selector.now ≤ 8 }
     requires long { 256 ≤ length rows.old }
-    ensures { (a c : ℕ) → a < 2 ^ length point.now → c < 2 ^ length selector.now → entries EF.number rows.new (a * 2 ^ length selector.now + c)
+    ensures { (a c : ℕ) → a < 2 ^ length point.now → c < 2 ^ length selector.now
+        → entries EF.number rows.new (a * 2 ^ length selector.now + c)
         ≡ entries EF.number rows.old (a * 2 ^ length selector.now + c)
-        +⟨ EF.ops ⟩ EF.number scale *⟨ EF.ops ⟩ (successor_weight EF.ops (map EF.number point.now) a *⟨ EF.ops ⟩ weight EF.ops (map EF.number selector.now) c) }
+        +⟨ EF.ops ⟩ EF.number scale *⟨ EF.ops ⟩
+        (successor_weight EF.ops (map EF.number point.now) a
+        *⟨ EF.ops ⟩ weight EF.ops (map EF.number selector.now) c) }
 {
     EF::blocks_fit();
     let (outer, inner) = point.split_at(point.len() - (BLOCK_COORDINATES - selector.len()));
@@ -109,8 +123,9 @@ fn add_successor_by_blocks<EF: Field>(
     add_scaled(&mut rows[last..], &weights[weights.len() - block..], stays);
 }
 
-// Adds to each row `scale` times the weight of the row `stride` rows before it, as rows weigh in blocks. The first rows gain as if a block
-// stood before them, with `before` as its scale. The answer is the scale of the last block.
+// Adds to each row `scale` times the weight of the row `stride` rows before it, as rows weigh in
+// blocks. The first rows gain as if a block stood before them, with `before` as its scale. The
+// answer is the scale of the last block.
 fn add_moved_blocks<EF: Field>(
     rows: &mut [EF],
     outer: &[EF],
@@ -122,10 +137,14 @@ fn add_moved_blocks<EF: Field>(
     requires size { length rows.old ≡ 2 ^ length outer.now * length weights.now }
     requires some { 0 < length weights.now }
     requires stride { stride ≤ length weights.now }
-    ensures rows { (b : ℕ) → b < length rows.old → entries EF.number rows.new b ≡ entries EF.number rows.old b
-        +⟨ EF.ops ⟩ moved_up stride (λ j. EF.number before *⟨ EF.ops ⟩ entries EF.number weights.now (length weights.now - stride + j))
-        (λ k. EF.number scale *⟨ EF.ops ⟩ block_weight EF.ops (map EF.number outer.now) (length weights.now) (entries EF.number weights.now) k) b }
-    ensures last { EF.number result ≡ EF.number scale *⟨ EF.ops ⟩ weight EF.ops (map EF.number outer.now) (2 ^ length outer.now - 1) }
+    ensures rows { (b : ℕ) → b < length rows.old → entries EF.number rows.new b
+        ≡ entries EF.number rows.old b
+        +⟨ EF.ops ⟩ moved_up stride (λ j. EF.number before
+        *⟨ EF.ops ⟩ entries EF.number weights.now (length weights.now - stride + j))
+        (λ k. EF.number scale *⟨ EF.ops ⟩ block_weight EF.ops (map EF.number outer.now)
+        (length weights.now) (entries EF.number weights.now) k) b }
+    ensures last { EF.number result ≡ EF.number scale
+        *⟨ EF.ops ⟩ weight EF.ops (map EF.number outer.now) (2 ^ length outer.now - 1) }
 {
     let [first, rest @ ..] = outer else {
         add_moved_block(rows, weights, stride, scale, before);
@@ -148,8 +167,10 @@ fn add_moved_blocks<EF: Field>(
 fn add_moved_block<EF: Field>(rows: &mut [EF], weights: &[EF], stride: usize, scale: EF, before: EF)
     requires same { length rows.old ≡ length weights.now }
     requires stride { stride ≤ length weights.now }
-    ensures { (b : ℕ) → b < length rows.old → entries EF.number rows.new b ≡ entries EF.number rows.old b
-        +⟨ EF.ops ⟩ moved_up stride (λ j. EF.number before *⟨ EF.ops ⟩ entries EF.number weights.now (length weights.now - stride + j))
+    ensures { (b : ℕ) → b < length rows.old → entries EF.number rows.new b
+        ≡ entries EF.number rows.old b
+        +⟨ EF.ops ⟩ moved_up stride (λ j. EF.number before
+        *⟨ EF.ops ⟩ entries EF.number weights.now (length weights.now - stride + j))
         (λ k. EF.number scale *⟨ EF.ops ⟩ entries EF.number weights.now k) b }
 {
     let there = weights.len() - stride;
@@ -159,7 +180,8 @@ fn add_moved_block<EF: Field>(rows: &mut [EF], weights: &[EF], stride: usize, sc
 
 // ---- values
 
-/// The value at `point`, through the successor map, of the values at a selector that stands last and has blocks of so many rows.
+/// The value at `point`, through the successor map, of the values at a selector that stands last
+/// and has blocks of so many rows.
 pub(crate) fn successor_value<A: Field, EF: Algebra<A>>(
     rows: &[A],
     point: &[EF],
@@ -168,7 +190,9 @@ pub(crate) fn successor_value<A: Field, EF: Algebra<A>>(
 ) -> EF
     requires size { length rows.now ≡ 2 ^ (length point.now + length selector.now) }
     requires block { block ≡ 2 ^ length selector.now }
-    ensures { EF.number result ≡ value EF.ops (λ a. value EF.ops (λ c. EF.embedding (entries A.number rows.now (next_row (length point.now) a * 2 ^ length selector.now + c)))
+    ensures { EF.number result ≡ value EF.ops (λ a. value EF.ops
+        (λ c. EF.embedding (entries A.number rows.now (next_row (length point.now) a * 2 ^
+        length selector.now + c)))
         (map EF.number selector.now)) (map EF.number point.now) }
 {
     if selector.len() > BLOCK_COORDINATES || rows.len() < 256 {
@@ -186,7 +210,9 @@ fn successor_value_by_halves<A: Field, EF: Algebra<A>>(
 ) -> EF
     requires size { length rows.now ≡ 2 ^ (length point.now + length selector.now) }
     requires block { block ≡ 2 ^ length selector.now }
-    ensures { EF.number result ≡ value EF.ops (λ a. value EF.ops (λ c. EF.embedding (entries A.number rows.now (next_row (length point.now) a * 2 ^ length selector.now + c)))
+    ensures { EF.number result ≡ value EF.ops (λ a. value EF.ops
+        (λ c. EF.embedding (entries A.number rows.now (next_row (length point.now) a * 2 ^
+        length selector.now + c)))
         (map EF.number selector.now)) (map EF.number point.now) }
 {
     let last = rows.len() - block;
@@ -194,7 +220,8 @@ fn successor_value_by_halves<A: Field, EF: Algebra<A>>(
     moved_down_value(rows, point, selector, block, stays)
 }
 
-// The value at `point` of the table that has at each row the value at the selector of the next one; at the last row it is `after`.
+// The value at `point` of the table that has at each row the value at the selector of the next one;
+// at the last row it is `after`.
 #[tactic(auto, using(crate::proofs::Halves::front_rows, crate::proofs::Halves::back_rows))]
 fn moved_down_value<A: Field, EF: Algebra<A>>(
     rows: &[A],
@@ -205,8 +232,10 @@ fn moved_down_value<A: Field, EF: Algebra<A>>(
 ) -> EF
     requires size { length rows.now ≡ 2 ^ (length point.now + length selector.now) }
     requires block { block ≡ 2 ^ length selector.now }
-    ensures { EF.number result ≡ value EF.ops (moved_down (2 ^ length point.now) 1 (λ _. EF.number after) (λ a. value EF.ops
-        (λ c. EF.embedding (entries A.number rows.now (a * 2 ^ length selector.now + c))) (map EF.number selector.now))) (map EF.number point.now) }
+    ensures { EF.number result ≡ value EF.ops (moved_down (2 ^ length point.now) 1
+        (λ _. EF.number after) (λ a. value EF.ops
+        (λ c. EF.embedding (entries A.number rows.now (a * 2 ^ length selector.now + c)))
+        (map EF.number selector.now))) (map EF.number point.now) }
 {
     let [first, rest @ ..] = point else {
         return after;
@@ -218,7 +247,8 @@ fn moved_down_value<A: Field, EF: Algebra<A>>(
     lo.add(hi.sub(lo).mul(*first))
 }
 
-// The rows are read as many rows further on as the selector tells apart; those behind the end are the last ones.
+// The rows are read as many rows further on as the selector tells apart; those behind the end are
+// the last ones.
 fn successor_value_by_blocks<A: Field, EF: Algebra<A>>(
     rows: &[A],
     point: &[EF],
@@ -229,7 +259,9 @@ fn successor_value_by_blocks<A: Field, EF: Algebra<A>>(
     requires block { block ≡ 2 ^ length selector.now }
     requires short { length selector.now ≤ 8 }
     requires long { 256 ≤ length rows.now }
-    ensures { EF.number result ≡ value EF.ops (λ a. value EF.ops (λ c. EF.embedding (entries A.number rows.now (next_row (length point.now) a * 2 ^ length selector.now + c)))
+    ensures { EF.number result ≡ value EF.ops (λ a. value EF.ops
+        (λ c. EF.embedding (entries A.number rows.now (next_row (length point.now) a * 2 ^
+        length selector.now + c)))
         (map EF.number selector.now)) (map EF.number point.now) }
 {
     EF::blocks_fit();
@@ -238,7 +270,8 @@ fn successor_value_by_blocks<A: Field, EF: Algebra<A>>(
     moved_blocks_value(rows, outer, &weights, block, &rows[rows.len() - block..])
 }
 
-// The sum over all rows of the entry `stride` rows further on, as rows weigh in blocks; `after` stands behind the last row.
+// The sum over all rows of the entry `stride` rows further on, as rows weigh in blocks; `after`
+// stands behind the last row.
 fn moved_blocks_value<A: Field, EF: Algebra<A>>(
     rows: &[A],
     outer: &[EF],
@@ -252,8 +285,10 @@ fn moved_blocks_value<A: Field, EF: Algebra<A>>(
     requires stride { stride ≤ length weights.now }
     requires after { length after.now ≡ stride }
     ensures { EF.number result ≡ products EF.ops (length rows.now)
-        (moved_down (length rows.now) stride (λ j. EF.embedding (entries A.number after.now j)) (λ b. EF.embedding (entries A.number rows.now b)))
-        (block_weight EF.ops (map EF.number outer.now) (length weights.now) (entries EF.number weights.now)) }
+        (moved_down (length rows.now) stride (λ j. EF.embedding (entries A.number after.now j))
+        (λ b. EF.embedding (entries A.number rows.now b)))
+        (block_weight EF.ops (map EF.number outer.now) (length weights.now)
+        (entries EF.number weights.now)) }
 {
     let [first, rest @ ..] = outer else {
         return moved_block_value(rows, weights, stride, after);
@@ -276,7 +311,8 @@ fn moved_block_value<A: Field, EF: Algebra<A>>(
     requires stride { stride ≤ length weights.now }
     requires after { length after.now ≡ stride }
     ensures { EF.number result ≡ products EF.ops (length rows.now)
-        (moved_down (length rows.now) stride (λ j. EF.embedding (entries A.number after.now j)) (λ b. EF.embedding (entries A.number rows.now b)))
+        (moved_down (length rows.now) stride (λ j. EF.embedding (entries A.number after.now j))
+        (λ b. EF.embedding (entries A.number rows.now b)))
         (entries EF.number weights.now) }
 {
     let there = weights.len() - stride;

@@ -1,4 +1,5 @@
-//! Weights at tables of less than a block, of a block and of several, against plain loops: each row's weight straight from its digits.
+//! Weights at tables of less than a block, of a block and of several, against plain loops: each
+//! row's weight straight from its digits.
 
 ghost use Rattle.std.specs.Prelude.{◌≡◌};
 ghost use Rattle.sc_definitions.specs.Statements.{arity_of};
@@ -55,7 +56,8 @@ fn product_at<F: Field>(z: &[F], row: usize) -> F {
     weight
 }
 
-// Whether the weights are these, at a table of n variables over A, as a sum and as they are added to rows.
+// Whether the weights are these, at a table of n variables over A, as a sum and as they are added
+// to rows.
 fn agrees<A: Field, E: Algebra<A>, W: RowWeights<E>>(
     alloc: Global,
     weights: &W,

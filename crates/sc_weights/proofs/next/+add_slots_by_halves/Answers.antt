@@ -6,7 +6,7 @@ use Rattle.sc_definitions.specs.Statements.{successor_weight}
 use Rattle.sc_definitions.proofs.TableLaws.{two_halves}
 use Rattle.sc_weights.proofs.Halves.{split-first, blocks-added, two_parts}
 use Rattle.sc_weights.proofs.NextSteps.{slot-none, slot-low, slot-high}
-use Rattle.sc_weights.proofs.next.+add_slots.Goals as goal
+use Rattle.sc_weights.proofs.next.+add_slots_by_halves.Goals as goal
 
 pub returns-in_default : goal.returns-in_default
 returns-in_default g t c = λ a k low inside.
@@ -48,9 +48,9 @@ returns g t c = λ a k low inside.
     let gain : ℕ → ℕ → ℕ = λ b e. times f.ops scale (times f.ops (weight f.ops all b) (u e)) in
     let low_gain : ℕ → ℕ → ℕ = λ b e. times f.ops (f.number c.sub.result) (times f.ops (weight f.ops ss b) (u e)) in
     let high_gain : ℕ → ℕ → ℕ = λ b e. times f.ops (f.number c.mul-at_one.result) (times f.ops (weight f.ops ss b) (u e)) in
-    blocks-added f.ops f.number c.args.rows.now c.add_slots.new.rows c.add_slots-2.new.rows _ (2 ^ (length rest + length c.args.point.now))
-    (two_parts c.args.rows.now selector c.args.point.now c.requires some) c.add_slots.auto.rows c.add_slots-2.auto.rows q m whole gain low_gain high_gain
-    c.add_slots.ensures c.add_slots-2.ensures
+    blocks-added f.ops f.number c.args.rows.now c.add_slots_by_halves.new.rows c.add_slots_by_halves-2.new.rows _ (2 ^ (length rest + length c.args.point.now))
+    (two_parts c.args.rows.now selector c.args.point.now c.requires some) c.add_slots_by_halves.auto.rows c.add_slots_by_halves-2.auto.rows q m whole gain low_gain high_gain
+    c.add_slots_by_halves.ensures c.add_slots_by_halves-2.ensures
     (λ b e below. ap (λ s. times f.ops s (times f.ops (weight f.ops ss b) (u e))) zeros ∙ slot-low f.ops ring (f.number first) ss all mapped scale (u e) b (omega (arith, below, sized)))
     (λ b e below. ap (λ s. times f.ops s (times f.ops (weight f.ops ss b) (u e))) ones ∙ slot-high f.ops ring (f.number first) ss all mapped scale (u e) b (omega (arith, below, sized))
     ∙ ap (λ n. gain (n + b) e) sized)

@@ -4,7 +4,7 @@ use Rattle.sc_definitions.specs.Ring.{plus, times, minus}
 use Rattle.sc_definitions.specs.Tables.{value}
 use Rattle.sc_weights.proofs.Halves.{split-first, two_parts}
 use Rattle.sc_weights.proofs.NextValues.{slot_value, slots-none, slots-more, slot-low, slot-high}
-use Rattle.sc_weights.proofs.next.+slots_value.Goals as goal
+use Rattle.sc_weights.proofs.next.+slots_value_by_halves.Goals as goal
 
 pub returns-in_default : goal.returns-in_default
 returns-in_default g t c =
@@ -41,8 +41,8 @@ returns g t c =
     let high : ℕ → ℕ = slot_value f.ops embed of zs p c.split_at.result.1.now in
     let front : (a : ℕ) → a < q → low a ≡ v a = slot-low f.ops embed of zs p arity rows q size c.split_at.result.0.now c.split_at.ensures.front in
     let back : (a : ℕ) → high a ≡ v (q + a) = slot-high f.ops embed of zs p rows q size c.split_at.result.1.now c.split_at.ensures.back in
-    let slope : f.number c.mul.result ≡ times f.ops (minus f.ops (f.number c.slots_value-hi.result) (f.number c.slots_value-lo.result)) (f.number first) = cc (c.mul.ensures, c.sub.ensures) in
-    c.add.ensures ∙ ap (plus f.ops (f.number c.slots_value-lo.result)) slope
-    ∙ ap (λ n. plus f.ops n (times f.ops (minus f.ops (f.number c.slots_value-hi.result) n) (f.number first))) c.slots_value-lo.ensures
-    ∙ ap (λ n. plus f.ops (value f.ops low ss) (times f.ops (minus f.ops n (value f.ops low ss)) (f.number first))) c.slots_value-hi.ensures
+    let slope : f.number c.mul.result ≡ times f.ops (minus f.ops (f.number c.slots_value_by_halves-hi.result) (f.number c.slots_value_by_halves-lo.result)) (f.number first) = cc (c.mul.ensures, c.sub.ensures) in
+    c.add.ensures ∙ ap (plus f.ops (f.number c.slots_value_by_halves-lo.result)) slope
+    ∙ ap (λ n. plus f.ops n (times f.ops (minus f.ops (f.number c.slots_value_by_halves-hi.result) n) (f.number first))) c.slots_value_by_halves-lo.ensures
+    ∙ ap (λ n. plus f.ops (value f.ops low ss) (times f.ops (minus f.ops n (value f.ops low ss)) (f.number first))) c.slots_value_by_halves-hi.ensures
     ∙ slots-more f.ops g.met.EF.Field.is_field.ring (f.number first) ss all v low high (ap (map f.number) split) front (λ a _. back a)
