@@ -1,5 +1,5 @@
 -- The figures of a report, one by one.
-use Rattle.std.proofs.Common.{◌≡◌, ℕ, ◌==◌, List, ◌++◌, Bool, refl, sym, subst, ◌∙◌, Result, Ok, Err, IsErrAnd}
+use Rattle.std.proofs.Common.{◌≡◌, ℕ, ◌==◌, List, ◌++◌, Bool, refl, sym, ap, subst, ◌∙◌, Result, Ok, Err, IsErrAnd}
 use Rattle.sc_definitions.specs.Events.{words}
 use Rattle.sc_definitions.specs.Seeds.{quadratic_seed}
 use Rattle.sc_definitions.specs.Channels.{footing}
@@ -10,9 +10,11 @@ use Rattle.sc_audit.specs.declared.error.Form.TheVariants.{Verdict}
 use Rattle.sc_audit.specs.Cases.{Asked, start_of}
 use Rattle.sc_audit.specs.Checked.{LeavesReport, LeavesVerdict}
 use Rattle.sc_definitions.specs.Ring.{Ops, times}
-use Rattle.sc_definitions.specs.Tables.{evaluation, Order, value, point_of}
+use Rattle.sc_definitions.specs.Tables.{evaluation, Order, entries, value, point_of}
 use Rattle.sc_definitions.specs.Statements.{Statement, batched_weight, batched_claim}
 use Rattle.sc_definitions.specs.Problem.{Problem, weights_of, claim_of, residual_of, eval_of, weight_value_of}
+use Rattle.sc_definitions.proofs.TableLaws.{value-same}
+use Rattle.sc_table.proofs.EntryLaws.{entry-embedded}
 use Rattle.sc_audit.specs.Figures.{Figures, Finding, finding_by, false_claim_of, is_matched, figures_of}
 
 module _ (o : Ops) (p : Problem) where
@@ -51,6 +53,12 @@ module _ (o : Ops) (order : Order) (n : ℕ) (f : ℕ → ℕ) (ss : List Statem
   pub eval-at : (rs : List ℕ) (x : ℕ) → x ≡ value o f (point_of order rs) → x ≡ eval_of o (stated order n f ss c i) rs
   unfolding eval_of
   eval-at rs x is = is
+
+  -- the same, where the table is that of the images of a list's items
+  pub eval-at_slice : {X : Type 0} (embed : ℕ → ℕ) (number : X → ℕ) (rows : List X) (zs rs : List ℕ) (x : ℕ) → embed 0 ≡ 0 → ((b : ℕ) → embed (entries number rows b) ≡ f b) → zs ≡ point_of order rs →
+      x ≡ value o (entries (λ y. embed (number y)) rows) zs → x ≡ eval_of o (stated order n f ss c i) rs
+  eval-at_slice embed number rows zs rs x zero_kept same there is =
+      eval-at rs x (is ∙ value-same o _ _ zs (λ b _. entry-embedded embed number rows b zero_kept ∙ same b) ∙ ap (value o f) there)
 
   pub weight-at : (rs : List ℕ) (x : ℕ) → x ≡ value o (batched_weight o c i ss) (point_of order rs) → x ≡ weight_value_of o (stated order n f ss c i) rs
   unfolding weight_value_of weights_of

@@ -7,7 +7,7 @@ ghost use Rattle.sc_audit.specs.Figures.{false_claim_of};
 ghost use Rattle.sc_audit.specs.Audits.{Answers, IsRefusedBy};
 ghost use Rattle.sc_audit.specs.Built.{IsBuiltCase, kept_in};
 
-use crate::common::{refusal, table_of_job};
+use crate::common::refusal;
 use crate::error::AuditError;
 use crate::report::{Report, Verdict};
 use crate::shape::FittingJob;
@@ -33,15 +33,13 @@ pub(crate) fn build<F: Field, EF: ExtensionField<F>, R: IntoTranscriptField<EF>,
     ensures refused { (s : Strategy) → IsRefusedBy (task_refusal (asked_to (job_in fitting.now) (build s) (C.rules challenger.old) (C.history challenger.old))) result }
     ensures holds { IfOk result (λ r. r.verdict ≡ Verdict.Holds) }
 {
-    let table = table_of_job(alloc, fitting)?;
-    if let Some(fault) = fitting.job.constraint.first_false(&table) {
+    if let Some(fault) = fitting.job.constraint.first_false(&fitting.job.table) {
         return Err(AuditError::FalseClaim {
             statement: fault.statement,
             claimed: fault.claimed,
             actual: fault.actual,
         });
     }
-    drop(table);
     play::<F, EF, R, C>(alloc, fitting, strategy, challenger)
 }
 

@@ -1,11 +1,9 @@
 //! Rounds of a proof that are checked.
 ghost use Rattle.std.specs.Prelude.{◌≡◌, ◌≤◌, IfOk, OnErr, Err, Some, None, [], length, map};
 ghost use Rattle.std.specs.Option.{option_map};
-ghost use Rattle.sc_definitions.specs.Tables.{entries, point_of};
+ghost use Rattle.sc_definitions.specs.Tables.{point_of};
 ghost use Rattle.sc_definitions.specs.Problem.{claim_of, residual_of};
-ghost use Rattle.sc_table.specs.Polys.{variables_of, table_of};
 ghost use Rattle.sc_table.specs.Strategy.{order_of};
-ghost use Rattle.sc_statements.specs.Constraints.{constraint_arity};
 ghost use Rattle.sc_transcript.specs.Data.{messages_in, witnesses_in};
 ghost use Rattle.sc_audit.specs.Cases.{asked_to, given_in, problem_in, check};
 ghost use Rattle.sc_audit.specs.Fitting.{job_in};
@@ -14,7 +12,7 @@ ghost use Rattle.sc_audit.specs.Figures.{report_in, figures_of, finding_by, find
 ghost use Rattle.sc_audit.specs.Audits.{Answers, IsRefusedBy};
 ghost use Rattle.sc_audit.specs.Checked.{LeavesReport, LeavesVerdict};
 
-use crate::common::{refusal, table_of_job};
+use crate::common::refusal;
 use crate::error::{AuditError, Form};
 use crate::report::{Report, Verdict};
 use crate::shape::FittingJob;
@@ -22,7 +20,7 @@ use sc_challenger::Challenger;
 use sc_field::{ExtensionField, Field, NoMemory};
 use sc_rounds::SumcheckData;
 use sc_svo::Grids;
-use sc_table::{Basis, Point, Poly, VariableOrder};
+use sc_table::{Basis, Point, VariableOrder, eval_slice};
 use std::alloc::Global;
 
 // Checks the rounds of a proof for a job of the right shape. No proof has no rounds.
@@ -115,12 +113,11 @@ fn report_on<F: Field, EF: ExtensionField<F>>(
         (messages_in EF.number proof.now) (witnesses_in F.number proof.now) (map EF.number challenges)) result }
 {
     let job = fitting.job;
-    let table = table_of_job(alloc, fitting)?;
     let point = point_at(alloc, job.order, &challenges)?;
-    let eval = table.eval(&point);
+    let eval = eval_slice(&job.table, point.as_slice());
     let weight = job.constraint.eval_at(&point);
     let matched = residual.index() == eval.mul(weight).index();
-    let verdict = verdict_on(fitting, &table, matched)?;
+    let verdict = verdict_on(fitting, matched)?;
     let rounds = proof.copy(alloc)?;
     Ok(Report {
         claim,
@@ -134,20 +131,17 @@ fn report_on<F: Field, EF: ExtensionField<F>>(
     })
 }
 
-// The verdict on rounds, as their residual is right or not. The table is the job's.
+// The verdict on rounds, as their residual is right or not.
 fn verdict_on<F: Field, EF: ExtensionField<F>>(
     fitting: &FittingJob<'_, F, EF>,
-    table: &Poly<F>,
     matched: bool,
 ) -> Result<Verdict<EF>, AuditError>
-    requires variables { variables_of table.now ≡ (problem_in (job_in fitting.now)).variables }
-    requires table { table_of F.number table.now ≡ entries F.number (job_in fitting.now).table.items }
     ensures { LeavesVerdict (finding_by matched (false_claim_of EF.ops (problem_in (job_in fitting.now)))) result }
 {
     if !matched {
         return Ok(Verdict::Refuted);
     }
-    match fitting.job.constraint.first_false(table) {
+    match fitting.job.constraint.first_false(&fitting.job.table) {
         None => Ok(Verdict::Holds),
         Some(_) => Err(AuditError::Unbuilt(Form::Verdict)),
     }

@@ -1,6 +1,7 @@
 //! How the rounds of a job are built.
 ghost use Rattle.std.specs.Prelude.{◌≡◌, ◌≤◌, ◌∷◌, [], IfOk, None, map};
 ghost use Rattle.sc_rounds.specs.ProverViews.{shown_by, image_shown_by};
+ghost use Rattle.sc_rounds.specs.BaseViews.{base_shown};
 ghost use Rattle.sc_audit.specs.Cases.{asked_of, problem_in};
 ghost use Rattle.sc_audit.specs.Fitting.{job_in};
 ghost use Rattle.sc_audit.specs.Figures.{false_claim_of};
@@ -11,11 +12,12 @@ use crate::error::AuditError;
 use crate::shape::FittingJob;
 use sc_challenger::Challenger;
 use sc_field::{ExtensionField, Field, IntoTranscriptField, NoMemory};
-use sc_rounds::{ProductPolynomial, ReprSumcheckProver, SumcheckData, SumcheckProver};
+use sc_rounds::{BaseProduct, ProductPolynomial, ReprSumcheckProver, SumcheckData, SumcheckProver};
 use sc_table::{Point, Poly};
 use std::alloc::Global;
 
-// Rounds that were built, with the claim that they began with, their challenges in drawing order, and what the table and the weights are there.
+// Rounds that were built, with the claim that they began with, their challenges in drawing order,
+// and what the table and the weights are there.
 #[derive(Drop)]
 pub(crate) struct Built<F, EF> {
     pub(crate) claim: EF,
@@ -25,7 +27,9 @@ pub(crate) struct Built<F, EF> {
     pub(crate) weight: EF,
 }
 
-// Builds the rounds of a job whose statements are true on the table of the extension's elements, in the transcript of a copy of the challenger.
+// Builds the rounds of a job whose statements are true, in the transcript of a copy of the
+// challenger. The first round is measured on the job's own table, and binds it into one of the
+// extension's elements, of half as many rows.
 pub(crate) fn plain<F: Field, EF: ExtensionField<F>, C: Challenger<F>>(
     alloc: Global,
     fitting: &FittingJob<'_, F, EF>,
@@ -33,7 +37,48 @@ pub(crate) fn plain<F: Field, EF: ExtensionField<F>, C: Challenger<F>>(
 ) -> Result<Built<F, EF>, AuditError>
     requires difficulty { (job_in fitting.now).pow_bits ≤ (C.rules challenger.now).max_bits }
     requires all_true { false_claim_of EF.ops (problem_in (job_in fitting.now)) ≡ None }
-    ensures { LeavesBuild F.number EF.number (asked_of (job_in fitting.now) (C.rules challenger.now) (C.history challenger.now)) result }
+    ensures { LeavesBuild F.number EF.number
+        (asked_of (job_in fitting.now) (C.rules challenger.now) (C.history challenger.now)) result }
+{
+    let variables = fitting.job.constraint.num_variables();
+    if variables == 0 {
+        return roundless(alloc, fitting, challenger);
+    }
+    let base = base_of(alloc, fitting)?;
+    let claim = base.claimed_sum();
+    let mut copied = challenger.copy(alloc)?;
+    let mut rounds = SumcheckData::new(alloc);
+    let (mut prover, challenges) = match base.compute_sumcheck_polynomials(
+        alloc,
+        &mut rounds,
+        &mut copied,
+        variables,
+        fitting.job.pow_bits,
+    ) {
+        Ok(played) => played,
+        Err(error) => return Err(refusal(error)),
+    };
+    let weight = prover.weights(alloc)?.as_slice()[0];
+    let eval = prover.evals_view()[0];
+    Ok(Built {
+        claim,
+        rounds,
+        challenges,
+        eval,
+        weight,
+    })
+}
+
+// The same where no variable is, so that no round is played: on the table of the image.
+fn roundless<F: Field, EF: ExtensionField<F>, C: Challenger<F>>(
+    alloc: Global,
+    fitting: &FittingJob<'_, F, EF>,
+    challenger: &C,
+) -> Result<Built<F, EF>, AuditError>
+    requires difficulty { (job_in fitting.now).pow_bits ≤ (C.rules challenger.now).max_bits }
+    requires all_true { false_claim_of EF.ops (problem_in (job_in fitting.now)) ≡ None }
+    ensures { LeavesBuild F.number EF.number
+        (asked_of (job_in fitting.now) (C.rules challenger.now) (C.history challenger.now)) result }
 {
     let mut prover = prover_of(alloc, fitting)?;
     let claim = prover.claimed_sum();
@@ -74,7 +119,8 @@ pub(crate) fn represented<
 ) -> Result<Built<F, EF>, AuditError>
     requires difficulty { (job_in fitting.now).pow_bits ≤ (C.rules challenger.now).max_bits }
     requires all_true { false_claim_of EF.ops (problem_in (job_in fitting.now)) ≡ None }
-    ensures { LeavesBuild F.number EF.number (asked_of (job_in fitting.now) (C.rules challenger.now) (C.history challenger.now)) result }
+    ensures { LeavesBuild F.number EF.number
+        (asked_of (job_in fitting.now) (C.rules challenger.now) (C.history challenger.now)) result }
 {
     let mut prover: ReprSumcheckProver<F, EF, R> = ReprSumcheckProver::new(
         alloc,
@@ -103,7 +149,8 @@ pub(crate) fn represented<
     })
 }
 
-// What is left of the two tables of images where no variable is: the evaluation's element, and the weight's.
+// What is left of the two tables of images where no variable is: the evaluation's element, and the
+// weight's.
 fn last_values<F: Field, EF: ExtensionField<F>, R: IntoTranscriptField<EF>>(
     alloc: Global,
     prover: &mut ReprSumcheckProver<F, EF, R>,
@@ -115,6 +162,20 @@ fn last_values<F: Field, EF: ExtensionField<F>, R: IntoTranscriptField<EF>>(
     let weight = prover.weights(alloc)?.as_slice()[0].into_transcript();
     let eval = prover.evals(alloc)?.as_slice()[0].into_transcript();
     Ok((eval, weight))
+}
+
+// The table of a job whose statements are true, under their batched weights.
+fn base_of<'a, F: Field, EF: ExtensionField<F>>(
+    alloc: Global,
+    fitting: &FittingJob<'a, F, EF>,
+) -> Result<BaseProduct<'a, F, EF>, NoMemory>
+    requires { false_claim_of EF.ops (problem_in (job_in fitting.now)) ≡ None }
+    ensures { IfOk result
+        (λ p. base_shown p ≡ prover_for EF.ops (problem_in (job_in fitting.now))) }
+{
+    let job = fitting.job;
+    let (weights, claim) = job.constraint.combine_new(alloc)?;
+    Ok(BaseProduct::new(job.order, &job.table, weights, claim))
 }
 
 // The prover of a job whose statements are true.

@@ -178,8 +178,8 @@ pub trait Field: Copy + Eq {
         }
     }
 
-    /// Elements are so small that 256 of them fit on the stack: a law, by which generic code may make an array of a block of them. Its
-    /// body is empty.
+    /// Elements are so small that 256 of them have fewer than 2^63 bytes as one array: a law, by which
+    /// generic code may make such an array. Its body is empty.
     fn blocks_fit()
         ensures { 256 * size_in_bytes (layout Self.row) < 2 ^ 63 };
 

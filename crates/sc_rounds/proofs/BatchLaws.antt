@@ -8,7 +8,7 @@ use Rattle.sc_definitions.proofs.StandingLaws.{played_more}
 use Rattle.sc_transcript.specs.declared.error.SumcheckError.{SumcheckError}
 use Rattle.sc_transcript.specs.declared.error.SumcheckError.TheVariants.{NoMemory, NoWitness}
 use Rattle.sc_rounds.specs.Provers.{Stored, HoldsIfAny}
-use Rattle.sc_rounds.specs.HeldProducts.{HoldsBatch}
+use Rattle.sc_rounds.specs.HeldProducts.{HoldsIfMore, HoldsBatch}
 use Rattle.sc_rounds.specs.Standings.{IsHalted, IsStopped, Batch, BreaksOff, LeavesBatch}
 
 -- ---- rounds, by other names of what they move
@@ -96,3 +96,22 @@ fits a k v w same size low = omega arith
 -- one variable less, one round more
 pub less_by_one : (v v₀ p s : ℕ) → v₀ ≡ suc v → v₀ + p ≡ s → v + (p + 1) ≡ s
 less_by_one v v₀ p s fewer is = omega arith
+
+-- rounds begin within a batch, by other names
+pub begun_within : (k len p n m : ℕ) → k ≡ len → len ≡ p → p ≤ m → n ≡ m → k ≤ n
+begun_within k len p n m is count low size = omega arith
+
+-- no round was played before
+pub none_before : (v p s z : ℕ) → v + p ≡ s + z → z ≡ 0 → v + p ≡ s
+none_before v p s z is none = omega arith
+
+-- all variables are left for the rounds
+pub enough_left : (n m v p : ℕ) → n ≡ m → m ≤ v → p ≡ 0 → n ≤ v + p
+enough_left n m v p size enough none = omega arith
+
+-- what is held where no round was played before
+pub held_if_any : (s : Setting) (t : Standing) (rs all : List ℕ) (kept : Stored) → rs ≡ [] → IsPlayed s t t [] → HoldsIfMore s t rs all kept → HoldsIfAny s t all kept
+held_if_any s t rs all kept none played holds = elim (holds t (as_none s t rs none played)) [
+  | inl same ↦ inl (same ∙ none)
+  | inr last ↦ inr last
+]

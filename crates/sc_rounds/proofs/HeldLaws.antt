@@ -16,7 +16,7 @@ use Rattle.sc_definitions.proofs.Identity.{atom, ◌⊗◌, Agree, identity}
 use Rattle.sc_rounds.proofs.PairRounds.{pair_rows, sum_after}
 use Rattle.sc_rounds.proofs.TakenLaws.{inner-parts_of}
 
-bound_list : (o : Ops) (order : Order) (n m r : ℕ) (xs ys : List ℕ) → n ≡ m + 1 → length ys ≡ 2 ^ m →
+pub bound_list : (o : Ops) (order : Order) (n m r : ℕ) (xs ys : List ℕ) → n ≡ m + 1 → length ys ≡ 2 ^ m →
     ((b : ℕ) → b < 2 ^ m → rows_of ys b ≡ bound_in evaluation order o m r (rows_of xs) b) →
     ys ≡ entries_of (n - 1) (bound_in evaluation order o (n - 1) r (rows_of xs))
 bound_list o order n m r xs ys fewer size bound =

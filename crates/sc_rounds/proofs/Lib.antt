@@ -5,6 +5,7 @@ pub mod HeldRounds
 pub mod HeldImages
 pub mod RepresentedLaws
 pub mod BatchLaws
+pub mod BaseLaws
 pub mod TakenLaws
 pub mod ShownLaws
 pub mod ConstraintPoints

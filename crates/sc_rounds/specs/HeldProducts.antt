@@ -1,19 +1,20 @@
 -- What clauses see of a pair under a claim, of which a challenge may be held.
-use Rattle.std.specs.Prelude.{◌≡◌, ℕ, List, Option, Some}
+use Rattle.std.specs.Prelude.{◌≡◌, ◌⊎◌, ℕ, List, Option, Some, Result}
 use Rattle.std.specs.declared.cmp.PartialEq.{Ghosts as PartialEqOf}
 use Rattle.sc_definitions.specs.Ring.{Ops}
 use Rattle.sc_definitions.specs.Events.{Extension}
-use Rattle.sc_definitions.specs.Standings.{Setting, Standing}
+use Rattle.sc_definitions.specs.Standings.{Setting, Standing, IsPlayed}
 use Rattle.sc_field.specs.declared.field.Field.{Ghosts as FieldOf}
 use Rattle.sc_challenger.specs.declared.challenger.Challenger.{Ghosts as ChallengerOf}
 use Rattle.sc_transcript.specs.declared.transcript.ProverTranscript.{ProverTranscript}
 use Rattle.sc_transcript.specs.declared.data.SumcheckData.{SumcheckData}
-use Rattle.sc_transcript.specs.Drivers.{driver_in, channel_of}
+use Rattle.sc_transcript.specs.declared.error.SumcheckError.{SumcheckError}
+use Rattle.sc_transcript.specs.Drivers.{Driver, driver_in, channel_of}
 use Rattle.sc_transcript.specs.Data.{wire_in}
 use Rattle.sc_rounds.specs.declared.held_product.HeldProduct.{HeldProduct}
 use Rattle.sc_rounds.specs.declared.product_polynomial.ProductPolynomial.{ProductPolynomial}
-use Rattle.sc_rounds.specs.Standings.{Batch}
-use Rattle.sc_rounds.specs.Provers.{Shown, Stored, held_shown, stored_of, imaged, HoldsIfAny, setting_at, standing_at}
+use Rattle.sc_rounds.specs.Standings.{Batch, PlaysAll}
+use Rattle.sc_rounds.specs.Provers.{Shown, Stored, held_shown, stored_of, imaged, HoldsLast, HoldsIfAny, setting_at, standing_at}
 
 module _ {F EF : Type 0} {e : FieldOf EF} {q : PartialEqOf EF} where
   -- its pair, and the challenge that this is not bound at yet
@@ -53,3 +54,11 @@ pub record Holds (before : Shown) (r : ℕ) (stored : Stored) : Type 0 where
 -- What is kept after a batch was played whole with the challenges rs: the last one is held, if there is one.
 abbrev pub HoldsBatch : Batch → List ℕ → Stored → Type 0
 HoldsBatch b rs stored = HoldsIfAny b.setting b.start rs stored
+
+-- What rounds leave together with those before them, whose challenges were rs, from wherever these began.
+abbrev pub GoesOn : {X : Type 0} → Setting → Standing → List ℕ → Standing → List ℕ → Driver → Result X SumcheckError → Type 0
+GoesOn s before rs after all d result = (start : Standing) → IsPlayed s start before rs → PlaysAll s start after all d result
+
+-- Where a round was played among them, the last challenge of all is held.
+abbrev pub HoldsIfMore : Setting → Standing → List ℕ → List ℕ → Stored → Type 0
+HoldsIfMore s before rs all stored = (start : Standing) → IsPlayed s start before rs → (all ≡ rs) ⊎ HoldsLast s start all stored

@@ -2,6 +2,8 @@ pub mod Products
 pub mod Standings
 pub mod Provers
 pub mod HeldProducts
+pub mod BaseProducts
+pub mod BaseViews
 pub mod ProverViews
 pub mod Represented
 pub mod ConstraintValues

@@ -15,6 +15,7 @@ ghost use Rattle.std.specs.Prelude.{
   OnErr,
   length,
   map,
+  vec_len,
   vec_capacity,
 };
 ghost use Rattle.sc_definitions.specs.Tables.{entries};
@@ -54,11 +55,10 @@ impl<F: Field, EF: ExtensionField<F>> HeldProduct<F, EF> {
     ghost use Rattle.sc_definitions.specs.Channels.{channel};
     ghost use Rattle.sc_transcript.specs.Data.{wire_in};
     ghost use Rattle.sc_transcript.specs.Drivers.{driver_in, Continues, HasRoundLeft};
-    ghost use Rattle.sc_rounds.specs.Standings.{Moves, Counts, PlaysAll, batch_at, LeavesBatch};
+    ghost use Rattle.sc_rounds.specs.Standings.{Moves, Counts, batch_at, LeavesBatch};
     ghost use Rattle.sc_rounds.specs.Provers.{
       stated,
       IsTrueConstraint,
-      HoldsIfAny,
       message_shown,
       with_bound,
       with_scaled,
@@ -76,6 +76,8 @@ impl<F: Field, EF: ExtensionField<F>> HeldProduct<F, EF> {
       standing_over,
       Holds,
       HoldsBatch,
+      GoesOn,
+      HoldsIfMore,
     };
 
     // No challenge is held yet.
@@ -221,8 +223,9 @@ impl<F: Field, EF: ExtensionField<F>> HeldProduct<F, EF> {
         Ok(drawn)
     }
 
-    // Plays so many rounds of a transcript as it has left, and appends their challenges to a list
-    // that has room for them.
+    // Plays so many rounds of a transcript as it has left, and appends their challenges to those of
+    // the rounds before them, in a list that has room for all. It says what that leaves of all these
+    // rounds, from wherever they began.
     pub(crate) fn play<G: Field, EG: ExtensionField<G>, C: Challenger<G>>(
         &mut self,
         sumcheck_data: &mut SumcheckData<G, EG>,
@@ -232,28 +235,31 @@ impl<F: Field, EF: ExtensionField<F>> HeldProduct<F, EF> {
     where
         EF: IntoTranscriptField<EG>,
         requires variables { (driver_in transcript.old).shape.num_rounds ≤
-            (shown_in self.old).variables }
-        requires none_played { (driver_in transcript.old).played ≡ 0 }
-        requires empty { challenges.old.items ≡ [] }
+            (shown_in self.old).variables + (driver_in transcript.old).played }
+        requires begun { (driver_in transcript.old).played ≤
+            (driver_in transcript.old).shape.num_rounds }
+        requires count { vec_len challenges.old ≡ (driver_in transcript.old).played }
         requires room { (driver_in transcript.old).shape.num_rounds ≤ vec_capacity challenges.old }
         ensures continues { Continues (driver_in transcript.old) (driver_in transcript.new) }
         ensures order { (shown_in self.new).order ≡ (shown_in self.old).order }
         ensures left { (shown_in self.new).variables + (driver_in transcript.new).played
-            ≡ (shown_in self.old).variables }
-        ensures rounds { PlaysAll
+            ≡ (shown_in self.old).variables + (driver_in transcript.old).played }
+        ensures rounds { GoesOn
             (setting_over EG.extension EG.ops (shown_in self.old) transcript.old)
             (standing_over EG.number
             (image_in EF.to_number self.old) transcript.old sumcheck_data.old)
+            (map EG.number challenges.old.items)
             (standing_over EG.number
             (image_in EF.to_number self.new) transcript.new sumcheck_data.new)
             (map EG.number challenges.new.items) (driver_in transcript.new) result }
         ensures holds { IfOk result
-            (λ _. HoldsIfAny (setting_over EG.extension EG.ops (shown_in self.old) transcript.old)
+            (λ _. HoldsIfMore (setting_over EG.extension EG.ops (shown_in self.old) transcript.old)
             (standing_over EG.number
             (image_in EF.to_number self.old) transcript.old sumcheck_data.old)
+            (map EG.number challenges.old.items)
             (map EG.number challenges.new.items) (image_stored_in EF.to_number self.new)) }
     {
-        for _round in 0..transcript.shape().num_rounds {
+        for _round in challenges.len()..transcript.shape().num_rounds {
             match self.round::<G, EG, C>(sumcheck_data, transcript) {
                 Ok(r) => challenges.push_reserved(r),
                 Err(error) => return Err(error),

@@ -18,4 +18,4 @@ pub use sc_transcript::{
     ProverTranscript, SumcheckData, SumcheckError, SumcheckShape, VerifierTranscript, shape_laws,
     verify_final_sumcheck_rounds,
 };
-pub use strategy::{ReprSumcheckProver, SumcheckProver};
+pub use strategy::{BaseProduct, ReprSumcheckProver, SumcheckProver};

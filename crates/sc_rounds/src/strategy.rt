@@ -45,8 +45,10 @@ use sc_table::{Basis, Point, Poly, RoundMessage, VariableOrder};
 use sc_transcript::{SumcheckData, SumcheckError, SumcheckShape};
 use std::alloc::Global;
 
+mod base;
 mod repr;
 
+pub use base::BaseProduct;
 pub use repr::ReprSumcheckProver;
 
 /// A prover: a pair of tables, and the claim that the sum over all rows of evaluation times weight
@@ -184,7 +186,8 @@ impl<F: Field, EF: ExtensionField<F>> SumcheckProver<F, EF> {
         self.rounds.poly.weights(alloc)
     }
 
-    /// The value of the bound table of evaluations alone, at a point of as many coordinates as variables are left.
+    /// The value of the bound table of evaluations alone, at a point of as many coordinates as
+    /// variables are left.
     pub fn eval(&mut self, point: &Point<EF>) -> EF
         requires { length point.now ≡ (shown_by self.old).variables }
         ensures kept { shown_by self.new ≡ shown_by self.old }
@@ -194,8 +197,8 @@ impl<F: Field, EF: ExtensionField<F>> SumcheckProver<F, EF> {
         self.rounds.poly.eval(point)
     }
 
-    /// Whether a constraint is on tables of as many variables as are left, and its batched claim is the sum over all rows of evaluation times its
-    /// batched weights.
+    /// Whether a constraint is on tables of as many variables as are left, and its batched claim is
+    /// the sum over all rows of evaluation times its batched weights.
     pub fn constraint_is_true(
         &mut self,
         alloc: Global,
@@ -216,7 +219,8 @@ impl<F: Field, EF: ExtensionField<F>> SumcheckProver<F, EF> {
         Ok(SumcheckProver::sum_is_true(&combined, sum))
     }
 
-    /// The bound evaluations, row 0 first. Once they are given back the prover shows what it showed before.
+    /// The bound evaluations, row 0 first. Once they are given back the prover shows what it showed
+    /// before.
     pub fn evals_view(&mut self) -> &[EF]
         ensures* kept { sem 𝓛 (Rests (the_row F.row EF.row _ _ _ _ _ _) self.entry (λ after. shown_by after ≡ shown_by self.old)) }
         ensures numbers { map EF.number result.now ≡ (shown_by self.old).evals }
@@ -226,7 +230,8 @@ impl<F: Field, EF: ExtensionField<F>> SumcheckProver<F, EF> {
         self.rounds.poly.evals_view()
     }
 
-    /// Whether the sum over all rows of evaluation times these values, as many as there are rows, is this one. It takes no memory.
+    /// Whether the sum over all rows of evaluation times these values, as many as there are rows,
+    /// is this one. It takes no memory.
     pub fn delta_is_true(&mut self, weights_delta: &[EF], sum_delta: EF) -> bool
         requires { length weights_delta.now ≡ 2 ^ (shown_by self.old).variables }
         ensures kept { shown_by self.new ≡ shown_by self.old }
@@ -238,8 +243,8 @@ impl<F: Field, EF: ExtensionField<F>> SumcheckProver<F, EF> {
         self.rounds.poly.dot_with(weights_delta).index() == sum_delta.index()
     }
 
-    /// Adds to the weights, row by row, as many values as there are rows, and to the claim their sum times the evaluations, as
-    /// [`SumcheckProver::delta_is_true`] tests. The evaluations stay.
+    /// Adds to the weights, row by row, as many values as there are rows, and to the claim their
+    /// sum times the evaluations, as [`SumcheckProver::delta_is_true`] tests. The evaluations stay.
     pub fn accumulate_claim(&mut self, weights_delta: &[EF], sum_delta: EF)
         requires rows { length weights_delta.now ≡ 2 ^ (shown_by self.old).variables }
         requires sum { EF.number sum_delta
@@ -251,12 +256,15 @@ impl<F: Field, EF: ExtensionField<F>> SumcheckProver<F, EF> {
         self.rounds.add(weights_delta, sum_delta);
     }
 
-    /// Plays a batch of rounds, one for each of the next `folding_factor` variables, at a difficulty of at most the challenger's
-    /// [`Challenger::max_bits`], and answers their challenges in drawing order. A constraint, which is true as
+    /// Plays a batch of rounds, one for each of the next `folding_factor` variables, at a
+    /// difficulty of at most the challenger's [`Challenger::max_bits`], and answers their
+    /// challenges in drawing order. A constraint, which is true as
     /// [`SumcheckProver::constraint_is_true`] tests, is taken in before the first round.
     ///
-    /// `NoWitness` names one of these rounds, and comes only where no element of the base field passes its test: the rounds before it are played, and
-    /// the data has as many more. After `NoMemory` some rounds are played, from the first on, or none. The constraint is taken in whatever comes.
+    /// `NoWitness` names one of these rounds, and comes only where no element of the base field
+    /// passes its test: the rounds before it are played, and the data has as many more. After
+    /// `NoMemory` some rounds are played, from the first on, or none. The constraint is taken in
+    /// whatever comes.
     pub fn compute_sumcheck_polynomials<C: Challenger<F>>(
         &mut self,
         alloc: Global,

@@ -3,6 +3,7 @@ ghost use Rattle.std.specs.Prelude.{◌≡◌, IfOk, length};
 ghost use Rattle.sc_table.specs.Polys.{variables_of};
 ghost use Rattle.sc_rounds.specs.Products.{variables_in};
 
+mod base;
 mod constraint;
 mod held;
 mod step;

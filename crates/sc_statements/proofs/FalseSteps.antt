@@ -1,5 +1,5 @@
 -- The first false statement of a group, found one after the other.
-use Rattle.std.proofs.Common.{◌≡◌, ◌≢◌, ℕ, suc, ◌+◌, ◌<◌, ◌≤◌, ◌↔◌, Bool, true, false, not, IsTrue, is_some, Option, Some, None, List, [], ◌∷◌, length, drop, slice_index, sym, ◌∙◌, ap, refl, add-one}
+use Rattle.std.proofs.Common.{◌≡◌, ◌≢◌, ℕ, suc, ◌+◌, ◌<◌, ◌≤◌, ◌↔◌, Bool, true, false, not, IsTrue, is_some, Option, Some, None, List, [], ◌∷◌, length, drop, slice_index, sym, ◌∙◌, ap, subst, refl, add-one}
 use Rattle.std.proofs.lemmas.Bool.{true≢false}
 use Rattle.std.proofs.lemmas.List.{drop_all}
 use Rattle.sc_definitions.specs.declared.false_claim.FalseClaim.{FalseClaim}
@@ -87,3 +87,7 @@ pub all-true : (o : Ops) (n : ℕ) (f : ℕ → ℕ) (ss : List Statement) (foun
 all-true o n f ss found none is test =
     let says : IsTrue none ↔ (found ≡ None) = none_from_test found none test in
     ((λ t. first_false_claim-all o n f 0 ss (sym is ∙ says.0 t)), (λ all. says.1 (is ∙ first_false-none o n f 0 ss all)))
+
+-- the same of a table that is equal
+pub all-true_of : (o : Ops) (n : ℕ) (f f' : ℕ → ℕ) (ss : List Statement) (none : Bool) → f ≡ f' → IsTrue none ↔ AllTrueOf o n f ss → IsTrue none ↔ AllTrueOf o n f' ss
+all-true_of o n f f' ss none same says = let P : (ℕ → ℕ) → Type 0 = λ t. IsTrue none ↔ AllTrueOf o n t ss in subst P same says

@@ -2,7 +2,7 @@
 
 ghost use Rattle.std.specs.Prelude.{◌≡◌, ℕ, ◌+◌, ◌^◌, ◌<◌, ◌≤◌, All, length, map, IsOk, IfOk, OnOk, OnErr};
 ghost use Rattle.sc_definitions.specs.Ring.{power, ◌+⟨◌⟩◌};
-ghost use Rattle.sc_definitions.specs.Tables.{value};
+ghost use Rattle.sc_definitions.specs.Tables.{entries, value};
 ghost use Rattle.sc_definitions.specs.Statements.{first_false_claim, batched_weight, batched_claim};
 ghost use Rattle.sc_field.specs.Powers.{base_of, start_of};
 ghost use Rattle.sc_table.specs.Polys.{most_table_variables, variables_of, table_of};
@@ -187,21 +187,25 @@ impl<F: Field, EF: ExtensionField<F>> Constraint<F, EF> {
         sum
     }
 
-    /// The first statement that is false of the table, numbered from 0 over all groups, if one is. The
-    /// table has as many variables as the statements say. It takes no memory.
-    pub fn first_false(&self, table: &Poly<F>) -> Option<FalseClaim>
-        requires { variables_of table.now ≡ constraint_arity self.now }
-        ensures found { result ≡ capped (first_false_claim EF.ops (constraint_arity self.now) (λ b. EF.embedding (table_of F.number table.now b)) 0
+    /// The first statement that is false of a table, numbered from 0 over all groups, if one is.
+    /// `rows` are the table's entries, row 0 first; it has as many variables as the statements say.
+    /// It takes no memory.
+    pub fn first_false(&self, rows: &[F]) -> Option<FalseClaim>
+        requires { length rows.now ≡ 2 ^ constraint_arity self.now }
+        ensures found { result ≡ capped (first_false_claim EF.ops (constraint_arity self.now)
+            (λ b. EF.embedding (entries F.number rows.now b)) 0
             (constraint_statements (λ x. EF.embedding (F.number x)) EF.number self.now)) }
 
         // Where the statements are fewer than 2^64, the number is exact.
-        ensures exact { length (constraint_statements (λ x. EF.embedding (F.number x)) EF.number self.now) < 2 ^ 64 →
-            result ≡ first_false_claim EF.ops (constraint_arity self.now) (λ b. EF.embedding (table_of F.number table.now b)) 0
+        ensures exact { length (constraint_statements (λ x. EF.embedding (F.number x))
+            EF.number self.now) < 2 ^ 64 →
+            result ≡ first_false_claim EF.ops (constraint_arity self.now)
+            (λ b. EF.embedding (entries F.number rows.now b)) 0
             (constraint_statements (λ x. EF.embedding (F.number x)) EF.number self.now) }
     {
         let mut passed: usize = 0;
         for group in &self.statements {
-            if let Some(claim) = group.first_false(table) {
+            if let Some(claim) = group.first_false(rows) {
                 return Some(FalseClaim {
                     statement: passed.saturating_add(claim.statement),
                     claimed: claim.claimed,

@@ -2,7 +2,7 @@
 
 ghost use Rattle.std.specs.Prelude.{◌≡◌, ℕ, ◌+◌, ◌^◌, ◌<◌, ◌↔◌, List, length, map, slice_index, IsTrue};
 ghost use Rattle.sc_definitions.specs.Ring.{power, ◌+⟨◌⟩◌, ◌*⟨◌⟩◌};
-ghost use Rattle.sc_definitions.specs.Tables.{value};
+ghost use Rattle.sc_definitions.specs.Tables.{entries, value};
 ghost use Rattle.sc_definitions.specs.Statements.{Statement, AllTrueOf, first_false_claim, true_values, claimed_values, weights_at, batched_weight, batched_claim};
 ghost use Rattle.sc_table.specs.Polys.{variables_of, table_of};
 ghost use Rattle.sc_statements.specs.Batches.{gathered, AddsBatch};
@@ -29,13 +29,15 @@ pub trait StatementList<EF: Field>: Drop {
         requires { index < length (statements self.now) }
         ensures { EF.number result ≡ slice_index (claimed_values (statements self.now)) index };
 
-    /// A statement's true value on a table, which has as many variables as the statements say.
-    fn truth_at<A: Field>(&self, index: usize, table: &Poly<A>) -> EF
+    /// A statement's true value, where `rows` are the entries of a table of as many variables as
+    /// the statements say.
+    fn truth_at<A: Field>(&self, index: usize, rows: &[A]) -> EF
     where
         EF: Algebra<A>,
         requires index { index < length (statements self.now) }
-        requires arity { variables_of table.now ≡ arity self.now }
-        ensures { EF.number result ≡ slice_index (true_values EF.ops (arity self.now) (λ b. EF.embedding (table_of A.number table.now b)) (statements self.now)) index };
+        requires size { length rows.now ≡ 2 ^ arity self.now }
+        ensures { EF.number result ≡ slice_index (true_values EF.ops (arity self.now)
+            (λ b. EF.embedding (entries A.number rows.now b)) (statements self.now)) index };
 
     /// Adds `scale` times a statement's weights to the rows of a table, which has as many variables as the statements say.
     fn add_weights(&self, index: usize, table: &mut Poly<EF>, scale: EF)
@@ -52,17 +54,19 @@ pub trait StatementList<EF: Field>: Drop {
         ensures { EF.number result ≡ slice_index (weight_values EF.ops (map EF.number row.now) (statements self.now)) index };
 }
 
-// The first statement that is false of the table, numbered from 0 on. It takes no memory.
+// The first statement that is false of the table with these rows, numbered from 0 on. It takes no
+// memory.
 pub(crate) fn first_false<A: Field, EF: Algebra<A>, S: StatementList<EF>>(
     statements: &S,
-    table: &Poly<A>,
+    rows: &[A],
 ) -> Option<FalseClaim>
-    requires { variables_of table.now ≡ S.arity statements.now }
-    ensures { result ≡ first_false_claim EF.ops (S.arity statements.now) (λ b. EF.embedding (table_of A.number table.now b)) 0 (S.statements statements.now) }
+    requires { length rows.now ≡ 2 ^ S.arity statements.now }
+    ensures { result ≡ first_false_claim EF.ops (S.arity statements.now)
+        (λ b. EF.embedding (entries A.number rows.now b)) 0 (S.statements statements.now) }
 {
     for i in 0..statements.count() {
         let claimed = statements.claim_at(i);
-        let actual: EF = statements.truth_at(i, table);
+        let actual: EF = statements.truth_at(i, rows);
         if actual != claimed {
             return Some(FalseClaim {
                 statement: i,
@@ -74,15 +78,16 @@ pub(crate) fn first_false<A: Field, EF: Algebra<A>, S: StatementList<EF>>(
     None
 }
 
-// Whether every statement is true of the table. It takes no memory.
+// Whether every statement is true of the table with these rows. It takes no memory.
 pub(crate) fn all_true<A: Field, EF: Algebra<A>, S: StatementList<EF>>(
     statements: &S,
-    table: &Poly<A>,
+    rows: &[A],
 ) -> bool
-    requires { variables_of table.now ≡ S.arity statements.now }
-    ensures { IsTrue result ↔ AllTrueOf EF.ops (S.arity statements.now) (λ b. EF.embedding (table_of A.number table.now b)) (S.statements statements.now) }
+    requires { length rows.now ≡ 2 ^ S.arity statements.now }
+    ensures { IsTrue result ↔ AllTrueOf EF.ops (S.arity statements.now)
+        (λ b. EF.embedding (entries A.number rows.now b)) (S.statements statements.now) }
 {
-    first_false(statements, table).is_none()
+    first_false(statements, rows).is_none()
 }
 
 // Adds the claimed values to the sum, that of the first statement times `first`, and that of each next one times the challenge once more. The

@@ -1,8 +1,8 @@
 //! The kinds of statements, and groups of one kind.
 
-ghost use Rattle.std.specs.Prelude.{◌≡◌, ℕ, ◌+◌, ◌↔◌, [], length, map, IsTrue, IsOk, IfOk};
+ghost use Rattle.std.specs.Prelude.{◌≡◌, ℕ, ◌+◌, ◌^◌, ◌↔◌, [], length, map, IsTrue, IsOk, IfOk};
 ghost use Rattle.sc_definitions.specs.Ring.{power, ◌+⟨◌⟩◌};
-ghost use Rattle.sc_definitions.specs.Tables.{value};
+ghost use Rattle.sc_definitions.specs.Tables.{entries, value};
 ghost use Rattle.sc_definitions.specs.Statements.{first_false_claim, batched_weight, batched_claim};
 ghost use Rattle.sc_table.specs.Polys.{variables_of, table_of};
 ghost use Rattle.sc_statements.specs.Batches.{gathered, AddsBatch};
@@ -67,15 +67,18 @@ impl<F: Field, EF: ExtensionField<F>> Statements<F, EF> {
         }
     }
 
-    // The first statement that is false of the table, numbered from 0 on. It takes no memory.
-    pub(crate) fn first_false(&self, table: &Poly<F>) -> Option<FalseClaim>
-        requires { variables_of table.now ≡ group_arity self.now }
-        ensures { result ≡ first_false_claim EF.ops (group_arity self.now) (λ b. EF.embedding (table_of F.number table.now b)) 0 (group_statements (λ x. EF.embedding (F.number x)) EF.number self.now) }
+    // The first statement that is false of the table with these rows, numbered from 0 on. It takes
+    // no memory.
+    pub(crate) fn first_false(&self, rows: &[F]) -> Option<FalseClaim>
+        requires { length rows.now ≡ 2 ^ group_arity self.now }
+        ensures { result ≡ first_false_claim EF.ops (group_arity self.now)
+            (λ b. EF.embedding (entries F.number rows.now b)) 0
+            (group_statements (λ x. EF.embedding (F.number x)) EF.number self.now) }
     {
         match self {
-            Statements::Eq(statement) => list::first_false(statement, table),
-            Statements::Next(statement) => list::first_false(statement, table),
-            Statements::Select(statement) => list::first_false(statement, table),
+            Statements::Eq(statement) => list::first_false(statement, rows),
+            Statements::Next(statement) => list::first_false(statement, rows),
+            Statements::Select(statement) => list::first_false(statement, rows),
         }
     }
 

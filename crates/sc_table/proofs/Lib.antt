@@ -1,5 +1,6 @@
 pub mod EntryLaws
 pub mod ShiftLaws
+pub mod SliceLaws
 pub mod NextLaws
 pub mod SelectLaws
 pub mod PowerLaws

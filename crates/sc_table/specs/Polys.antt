@@ -26,3 +26,8 @@ pub record IsFixed {A : Type 0} (order : Order) (o : Ops) (number : A → ℕ) (
   pub fewer : variables_of old ≡ variables_of new + 1
   pub rows : (b : ℕ) → b < 2 ^ variables_of new → table_of number new b ≡ bound_in evaluation order o (variables_of new) r (table_of number old) b
   pub values : (zs : List ℕ) → length zs ≡ variables_of new → value o (table_of number new) zs ≡ value o (table_of number old) (placed order (r ∷ []) zs)
+
+-- What `fix_var_slice` does at r, of a table f of so many rows: p has one variable less, and each of its rows is bound.
+pub record IsFixedOf {A : Type 0} (order : Order) (o : Ops) (number : A → ℕ) (r : ℕ) (f : ℕ → ℕ) (rows : ℕ) (p : Poly A) : Type 0 where
+  pub fewer : rows ≡ 2 ^ (variables_of p + 1)
+  pub rows_are : (b : ℕ) → b < 2 ^ variables_of p → table_of number p b ≡ bound_in evaluation order o (variables_of p) r f b

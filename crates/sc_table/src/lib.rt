@@ -11,6 +11,7 @@ mod lagrange;
 mod laws;
 mod point;
 mod poly;
+mod slices;
 mod strategy;
 
 pub use blocks::{
@@ -22,6 +23,7 @@ pub use laws::strategy_laws;
 pub use point::Point;
 pub use poly::Poly;
 pub use sc_memory::Row;
+pub use slices::{fix_prefix_var_slice, fix_suffix_var_slice};
 pub use strategy::{
     Basis, RoundMessage, Strategy, VariableOrder, sumcheck_coefficients_prefix,
     sumcheck_coefficients_prefix_projective, sumcheck_coefficients_suffix,

@@ -189,6 +189,14 @@ impl<A: Field> Poly<A> {
         self.keep_first_half();
     }
 
+    /// Gives memory back that the values do not need, as far as there is a way to.
+    pub fn shrink_to_fit(&mut self)
+        ensures variables { variables_of self.new ≡ variables_of self.old }
+        ensures table { table_of A.number self.new ≡ table_of A.number self.old }
+    {
+        self.evals.shrink_to_fit();
+    }
+
     // The first half of the values alone, as a table of one variable less.
     pub(crate) fn keep_first_half(&mut self)
         requires { 0 < variables_of self.old }

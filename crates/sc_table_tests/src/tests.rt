@@ -1,14 +1,14 @@
 //! Figures by hand over the integers modulo 65537.
 
-ghost use Rattle.std.specs.Prelude.{◌≡◌, length, IfOk};
+ghost use Rattle.std.specs.Prelude.{◌≡◌, suc, ◌^◌, length, IfOk};
 
 mod kernels;
 
-use sc_field::{F65537, Field, NoMemory};
+use sc_field::{Algebra, F257, F257x2, F65537, Field, NoMemory};
 use sc_table::{
-    Basis, Point, Poly, RoundMessage, VariableOrder, extrapolate_01inf, lagrange_weights_01inf,
-    strategy_laws, sumcheck_coefficients_prefix, sumcheck_coefficients_prefix_projective,
-    sumcheck_coefficients_suffix,
+    Basis, Point, Poly, RoundMessage, VariableOrder, extrapolate_01inf, fix_prefix_var_slice,
+    fix_suffix_var_slice, lagrange_weights_01inf, strategy_laws, sumcheck_coefficients_prefix,
+    sumcheck_coefficients_prefix_projective, sumcheck_coefficients_suffix,
 };
 use sc_tests_common::{have_numbers, of};
 use std::alloc::Global;
@@ -150,6 +150,56 @@ fn a_table_bound_in_each_order(rt: HostRuntime) {
     assert!(rt; have_numbers(table.as_slice(), &[12]));
 }
 
+// The elements 1, 2, 3, 4.
+fn four_of<B: Field>(alloc: Global) -> Result<Vec<B>, NoMemory>
+    ensures { IfOk result (λ v. length v.items ≡ 2 ^ suc 1) }
+{
+    sc_tests_common::elements(alloc, &[1, 2, 3, 4])
+}
+
+// Whether binding the variable that comes next in an order at `r` leaves these numbers of the table
+// 1, 2, 3, 4 of base elements, which stays.
+fn slice_binds<B: Field, A: Algebra<B>>(
+    alloc: Global,
+    order: VariableOrder,
+    r: u64,
+    left: &[u64],
+) -> Result<bool, NoMemory> {
+    let evals: Vec<B> = four_of(alloc)?;
+    let mut bound: Poly<A> = order.fix_var_slice(alloc, &evals, of(r))?;
+    let whole = have_numbers(bound.as_slice(), left) && have_numbers(&evals, &[1, 2, 3, 4]);
+    bound.shrink_to_fit();
+    Ok(whole && have_numbers(bound.as_slice(), left) && bound.num_variables() == 1)
+}
+
+// The same of each of the two calls that it chooses from.
+fn slices_bind<B: Field, A: Algebra<B>>(
+    alloc: Global,
+    r: u64,
+    by_halves: &[u64],
+    by_neighbours: &[u64],
+) -> Result<bool, NoMemory> {
+    let evals: Vec<B> = four_of(alloc)?;
+    let prefix: Poly<A> = fix_prefix_var_slice(alloc, &evals, of(r))?;
+    let suffix: Poly<A> = fix_suffix_var_slice(alloc, &evals, of(r))?;
+    Ok(
+        have_numbers(prefix.as_slice(), by_halves)
+            && have_numbers(suffix.as_slice(), by_neighbours)
+            && slice_binds::<B, A>(alloc, VariableOrder::Prefix, r, by_halves)?
+            && slice_binds::<B, A>(alloc, VariableOrder::Suffix, r, by_neighbours)?,
+    )
+}
+
+// At 3 the lines are 1 + 2 * 3 and 2 + 2 * 3 over the halves, and 1 + 3 and 3 + 3 over neighbours.
+// At 3 + u, which has the number 260, they are 7 + 2 u and 8 + 2 u, and 4 + u and 6 + u.
+#[test]
+fn a_slice_bound_in_each_order(rt: HostRuntime) {
+    let own = slices_bind::<F65537, F65537>(rt.alloc(), 3, &[7, 8], &[4, 6]);
+    assert!(rt; own == Ok(true));
+    let extended = slices_bind::<F257, F257x2>(rt.alloc(), 260, &[521, 522], &[261, 263]);
+    assert!(rt; extended == Ok(true));
+}
+
 #[test]
 fn tables_of_zeros_and_copies(rt: HostRuntime) {
     let zeros = Poly::<F65537>::zero(rt.alloc(), 2).expect(&rt, "an answer");
@@ -284,8 +334,9 @@ fn successor_weights_are(alloc: Global, coords: &[u64], weights: &[u64]) -> Resu
     Ok(table.num_variables() == coords.len() && have_numbers(table.as_slice(), weights))
 }
 
-// The figures from here on were worked out apart from the crate: the equality weights of all rows straight from their definition, each
-// moved to the row after it, and the last one left where it is; sums over all rows of them; and each power times its equality weight.
+// The figures from here on were worked out apart from the crate: the equality weights of all rows
+// straight from their definition, each moved to the row after it, and the last one left where it
+// is; sums over all rows of them; and each power times its equality weight.
 static SUCCESSOR_WEIGHTS: [(&[u64], &[u64]); 6] = [
     (&[], &[1]),
     (&[5], &[0, 1]),

@@ -7,7 +7,7 @@ ghost use Rattle.sc_table.specs.Blocks.{block_weight};
 
 use crate::row_weights::RowWeights;
 use sc_field::{Algebra, Field};
-use sc_table::{BLOCK_COORDINATES, Point, Poly, add_equality, block_weights};
+use sc_table::{BLOCK_COORDINATES, Point, Poly, add_equality, block_weights, eval_slice};
 
 impl<EF: Field> RowWeights<EF> for Point<EF> {
     ghost use Rattle.sc_definitions.specs.Statements.{equality};
@@ -18,11 +18,11 @@ impl<EF: Field> RowWeights<EF> for Point<EF> {
         add_point(table.as_mut_slice(), self.as_slice(), scale);
     }
 
-    fn true_value<A: Field>(&self, table: &Poly<A>) -> EF
+    fn true_value<A: Field>(&self, rows: &[A]) -> EF
     where
         EF: Algebra<A>,
     {
-        table.eval(self)
+        eval_slice(rows, self.as_slice())
     }
 
     fn value_at(&self, row: &Point<EF>) -> EF {

@@ -1,7 +1,10 @@
-//! What a statement weighs the rows of a table by: equality weights, successor weights in a slot, powers, and products of coordinates.
+//! What a statement weighs the rows of a table by: equality weights, successor weights in a slot,
+//! powers, and products of coordinates.
 //!
-//! Each kind adds its weights to a table in its place, gives the sum of a table's entries times them, and gives their value at a point, as a
-//! table. Each of these takes time linear in the table's length, or in the number of coordinates, and no memory.
+//! Each kind adds its weights to a table in its place, gives the sum of a table's entries times
+//! them, and gives their value at a point, as a table. Each of these takes time linear in the
+//! table's length, or in the number of coordinates, and no memory but an array of 256 elements for
+//! the weights of one block.
 #![tactic(auto)]
 
 mod equality;

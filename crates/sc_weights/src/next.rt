@@ -41,13 +41,12 @@ impl<EF: Field> RowWeights<EF> for NextConstraint<EF> {
         }
     }
 
-    fn true_value<A: Field>(&self, table: &Poly<A>) -> EF
+    fn true_value<A: Field>(&self, rows: &[A]) -> EF
     where
         EF: Algebra<A>,
     {
         let (selector, point) = (self.selector.as_slice(), self.point.as_slice());
-        let block = table.num_evals() >> point.len();
-        let rows = table.as_slice();
+        let block = rows.len() >> point.len();
         match self.var_order {
             VariableOrder::Prefix => slots_value(rows, selector, point),
             VariableOrder::Suffix => successor_value(rows, point, selector, block),

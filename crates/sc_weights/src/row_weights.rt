@@ -2,7 +2,7 @@
 
 ghost use Rattle.std.specs.Prelude.{◌≡◌, ℕ, ◌^◌, ◌<◌, length, map};
 ghost use Rattle.sc_definitions.specs.Ring.{◌+⟨◌⟩◌, ◌*⟨◌⟩◌};
-ghost use Rattle.sc_definitions.specs.Tables.{value};
+ghost use Rattle.sc_definitions.specs.Tables.{entries, value};
 ghost use Rattle.sc_definitions.specs.Statements.{Kind, arity_of, weight_of, true_value};
 ghost use Rattle.sc_table.specs.Polys.{variables_of, table_of};
 
@@ -21,12 +21,14 @@ pub trait RowWeights<EF: Field>: Drop {
         ensures table { (b : ℕ) → b < 2 ^ variables_of table.old → table_of EF.number table.new b
             ≡ table_of EF.number table.old b +⟨ EF.ops ⟩ EF.number scale *⟨ EF.ops ⟩ weight_of EF.ops (kind self.now) b };
 
-    /// The sum over all rows of the table's entry times the weight. The table has as many variables as the statement's point.
-    fn true_value<A: Field>(&self, table: &Poly<A>) -> EF
+    /// The sum over all rows of the entry times the weight, where `rows` are the entries of a table
+    /// of as many variables as the statement's point.
+    fn true_value<A: Field>(&self, rows: &[A]) -> EF
     where
         EF: Algebra<A>,
-        requires { arity_of (variables_of table.now) (kind self.now) ≡ variables_of table.now }
-        ensures { EF.number result ≡ true_value EF.ops (variables_of table.now) (λ b. EF.embedding (table_of A.number table.now b)) (kind self.now) };
+        requires { (n : ℕ) × ((length rows.now ≡ 2 ^ n) × (arity_of n (kind self.now) ≡ n)) }
+        ensures { (n : ℕ) → length rows.now ≡ 2 ^ n → EF.number result ≡ true_value EF.ops n
+            (λ b. EF.embedding (entries A.number rows.now b)) (kind self.now) };
 
     /// The value of the weights, as a table, at a point of as many coordinates as the statement's own.
     fn value_at(&self, row: &Point<EF>) -> EF

@@ -33,13 +33,15 @@ impl<'a, F: Field, EF: ExtensionField<F>> RowWeights<EF> for Selector<'a, F> {
         }
     }
 
-    fn true_value<A: Field>(&self, table: &Poly<A>) -> EF
+    fn true_value<A: Field>(&self, rows: &[A]) -> EF
     where
         EF: Algebra<A>,
     {
         match self {
-            Selector::Scalar(var) => powers_value(table.as_slice(), table.num_variables(), *var),
-            Selector::Direct(point) => products_value(table.as_slice(), point.as_slice()),
+            Selector::Scalar(var) => {
+                powers_value(rows, rows.len().trailing_zeros() as usize, *var)
+            }
+            Selector::Direct(point) => products_value(rows, point.as_slice()),
         }
     }
 

@@ -154,7 +154,7 @@ fn agrees<W: RowWeights<F65537>>(
     }
     let (at_rows, sum, there) = wanted;
     let mut table = table(alloc, n)?;
-    let true_value: F65537 = weights.true_value(&table);
+    let true_value: F65537 = weights.true_value(table.as_slice());
     weights.add_to(&mut table, of(3));
     let value = weights.value_at(&point(alloc, &COORDINATES[..n])?);
     Ok(true_value.index() == sum && value.index() == there && are_added(table.as_slice(), at_rows))

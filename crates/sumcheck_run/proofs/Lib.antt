@@ -7,5 +7,6 @@ pub mod Outcomes
 pub mod RunLaws
 pub mod WordLaws
 pub mod MadeLaws
+pub mod StrideLaws
 pub mod MadeJobs
 pub mod WorkedMade

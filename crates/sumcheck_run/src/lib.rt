@@ -14,6 +14,7 @@ mod refusals;
 mod reply;
 mod report;
 mod statements;
+mod stride;
 mod values;
 
 pub use command::{Command, Recipe, needs_input, read_command};

@@ -125,7 +125,7 @@ fn true_equality<F: Field>(
 {
     let mut statement = EqStatement::initialize(alloc, table.num_variables());
     let point = Point::new(coords);
-    let value = point.true_value(table);
+    let value = point.true_value(table.as_slice());
     statement.add_evaluated_constraint(point, value)?;
     Ok(statement)
 }
@@ -149,7 +149,7 @@ fn true_successor<F: Field>(
         point: Point::new(coords),
         var_order: order,
     };
-    let value = weights.true_value(table);
+    let value = weights.true_value(table.as_slice());
     let NextConstraint {
         selector,
         point,

@@ -2,6 +2,7 @@
 ghost use Rattle.std.specs.Prelude.{◌≡◌, ℕ, suc, ◌+◌, ◌<◌, map, IfOk};
 ghost use Rattle.sumcheck_run.specs.Made.{value_at, values_behind};
 
+use crate::stride::{STRIDE, push_rest};
 use sc_field::{F65537, Field, NoMemory};
 use std::alloc::Global;
 
@@ -41,9 +42,14 @@ impl Values {
             × (last_of self.new ≡ value_at number (i + count))) }
     {
         let mut taken = Vec::with_capacity(alloc, count)?;
-        for _i in 0..count {
+        for _i in 0..count.min(STRIDE) {
             taken.push_reserved(self.advance());
         }
+        if count <= STRIDE {
+            return Ok(taken);
+        }
+        push_rest(&mut taken, count);
+        self.last = taken[count - 1].index();
         Ok(taken)
     }
 }

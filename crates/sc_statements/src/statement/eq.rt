@@ -144,7 +144,7 @@ impl<EF: Field> EqStatement<EF> {
         requires { variables_of poly.now ≡ eq_arity self.now }
         ensures { IsTrue result ↔ AllTrueOf EF.ops (eq_arity self.now) (table_of EF.number poly.now) (eq_statements EF.number self.now) }
     {
-        all_true::<EF, EF, Self>(self, poly)
+        all_true::<EF, EF, Self>(self, poly.as_slice())
     }
 
     /// The true value of statement number `index`, which is below [`EqStatement::len`]: the table's value
@@ -157,7 +157,7 @@ impl<EF: Field> EqStatement<EF> {
         ensures { EF.number result
             ≡ slice_index (true_values EF.ops (eq_arity self.now) (λ b. EF.embedding (table_of F.number table.now b)) (eq_statements EF.number self.now)) index }
     {
-        self.truth_at(index, table)
+        self.truth_at(index, table.as_slice())
     }
 
     /// The value that statement number `index`, which is below [`EqStatement::len`], claims.
@@ -235,11 +235,11 @@ impl<EF: Field> StatementList<EF> for EqStatement<EF> {
         self.constraints[index].eval
     }
 
-    fn truth_at<A: Field>(&self, index: usize, table: &Poly<A>) -> EF
+    fn truth_at<A: Field>(&self, index: usize, rows: &[A]) -> EF
     where
         EF: Algebra<A>,
     {
-        self.constraints[index].weights.true_value(table)
+        self.constraints[index].weights.true_value(rows)
     }
 
     fn add_weights(&self, index: usize, table: &mut Poly<EF>, scale: EF) {

@@ -138,7 +138,7 @@ impl<EF: Field> NextStatement<EF> {
         ensures all { IfOk result (λ holds. IsTrue holds ↔ AllTrueOf EF.ops (next_arity self.now) (table_of EF.number poly.now) (next_statements EF.number self.now)) }
         ensures answered { IsOk result }
     {
-        Ok(all_true::<EF, EF, Self>(self, poly))
+        Ok(all_true::<EF, EF, Self>(self, poly.as_slice()))
     }
 
     /// The true value of statement number `index`, which is below [`NextStatement::len`]. The table has as many variables as the statements
@@ -157,7 +157,7 @@ impl<EF: Field> NextStatement<EF> {
             ≡ slice_index (true_values EF.ops (next_arity self.now) (λ b. EF.embedding (table_of F.number table.now b)) (next_statements EF.number self.now)) index) }
         ensures answered { IsOk result }
     {
-        Ok(self.truth_at(index, table))
+        Ok(self.truth_at(index, table.as_slice()))
     }
 
     /// Adds to the sum the claimed values times the powers of `gamma`: that of statement number i times
@@ -210,11 +210,11 @@ impl<EF: Field> StatementList<EF> for NextStatement<EF> {
         self.constraints[index].eval
     }
 
-    fn truth_at<A: Field>(&self, index: usize, table: &Poly<A>) -> EF
+    fn truth_at<A: Field>(&self, index: usize, rows: &[A]) -> EF
     where
         EF: Algebra<A>,
     {
-        self.constraints[index].weights.true_value(table)
+        self.constraints[index].weights.true_value(rows)
     }
 
     fn add_weights(&self, index: usize, table: &mut Poly<EF>, scale: EF) {

@@ -188,7 +188,7 @@ impl<F: Field, EF: ExtensionField<F>> SelectStatement<F, EF> {
             (select_statements (λ x. EF.embedding (F.number x)) EF.number self.now)) }
         ensures answered { IsOk result }
     {
-        Ok(all_true::<EF, EF, Self>(self, poly))
+        Ok(all_true::<EF, EF, Self>(self, poly.as_slice()))
     }
 
     /// The true value of statement number `index`, which is below [`SelectStatement::len`]. The table has as many variables as the statements
@@ -200,7 +200,7 @@ impl<F: Field, EF: ExtensionField<F>> SelectStatement<F, EF> {
             (select_statements (λ y. EF.embedding (F.number y)) EF.number self.now)) index) }
         ensures answered { IsOk result }
     {
-        Ok(self.truth_at(index, table))
+        Ok(self.truth_at(index, table.as_slice()))
     }
 
     /// Adds to the sum the claimed values times the powers of `gamma`: that of statement number i times
@@ -267,11 +267,11 @@ impl<F: Field, EF: ExtensionField<F>> StatementList<EF> for SelectStatement<F, E
         self.evaluations[index]
     }
 
-    fn truth_at<A: Field>(&self, index: usize, table: &Poly<A>) -> EF
+    fn truth_at<A: Field>(&self, index: usize, rows: &[A]) -> EF
     where
         EF: Algebra<A>,
     {
-        self.selector(index).true_value(table)
+        self.selector(index).true_value(rows)
     }
 
     fn add_weights(&self, index: usize, table: &mut Poly<EF>, scale: EF) {

@@ -74,7 +74,7 @@ fn agrees<A: Field, E: Algebra<A>, W: RowWeights<E>>(
     for (weight, entry) in wanted.iter().zip(evals.as_slice()) {
         sum = sum.add(weight.mul_base(*entry));
     }
-    let value: E = weights.true_value(&evals);
+    let value: E = weights.true_value(evals.as_slice());
     let old: Poly<E> = table(alloc, n, 54321)?;
     let mut new = old.copy(alloc)?;
     let scale: E = of(7);

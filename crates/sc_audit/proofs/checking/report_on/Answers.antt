@@ -1,13 +1,13 @@
 use Rattle.std.proofs.Common.{◌≡◌, ◌==◌, map, refl, sym, ◌∙◌, ap}
 use Rattle.sc_definitions.specs.Channels.{Wire}
-use Rattle.sc_definitions.specs.Tables.{value}
+use Rattle.sc_definitions.specs.Tables.{entries, value}
 use Rattle.sc_definitions.specs.Statements.{batched_weight}
 use Rattle.sc_definitions.specs.Problem.{eval_of, weight_value_of}
 use Rattle.sc_table.specs.Strategy.{order_of}
 use Rattle.sc_transcript.specs.Data.{messages_in, witnesses_in}
 use Rattle.sc_audit.specs.Cases.{problem_in}
 use Rattle.sc_audit.specs.Figures.{finding_by, false_claim_of, is_matched, figures_of, grid_in}
-use Rattle.sc_audit.proofs.FigureLaws.{figures-are, finding-is, matched-by, eval-at, weight-at, report_passed}
+use Rattle.sc_audit.proofs.FigureLaws.{figures-are, finding-is, matched-by, eval-at_slice, weight-at, report_passed}
 use Rattle.sc_audit.proofs.checking.report_on.Goals as goal
 
 -- no verdict
@@ -19,12 +19,13 @@ returns-in_err-verdict g c =
     let p = problem_in job in
     let rs = map N c.args.challenges in
     let ms = messages_in N c.args.proof.now in
-    let eval : N c.eval-eval.result ≡ eval_of o p rs =
-    eval-at o (order_of job.order) _ p.table _ _ _ rs _ (c.eval-eval.ensures ∙ ap (λ t. value o (λ b. g.EF.Algebra.embedding (t b)) (map N c.in_ok-point.point)) c.in_ok-table.ensures.table ∙ ap (value o p.table) c.in_ok-point.ensures) in
+    let eval : N c.eval_slice-eval.result ≡ eval_of o p rs =
+    eval-at_slice o (order_of job.order) _ p.table _ _ _ g.EF.Algebra.embedding g.F.Field.number c.deref.result.now _ rs _ g.met.EF.Algebra.embeds.zero_kept
+    (λ b. ap (λ l. g.EF.Algebra.embedding (entries g.F.Field.number l b)) c.deref.ensures.value) (ap (map N) c.as_slice.ensures ∙ c.in_ok-point.ensures) c.eval_slice-eval.ensures in
     let weight : N c.eval_at-weight.result ≡ weight_value_of o p rs =
     weight-at o (order_of job.order) _ p.table _ _ _ rs _ (c.eval_at-weight.ensures ∙ ap (value o (batched_weight o _ _ _)) c.in_ok-point.ensures) in
     let matched : (c.index.result == c.index-2.result) ≡ is_matched o p ms rs =
-    matched-by o p _ (N c.args.residual) (N c.eval-eval.result) (N c.eval_at-weight.result) ms rs c.requires.residual eval weight (cc (c.index.ensures, c.index-2.ensures, c.mul.ensures)) in
+    matched-by o p _ (N c.args.residual) (N c.eval_slice-eval.result) (N c.eval_at-weight.result) ms rs c.requires.residual eval weight (cc (c.index.ensures, c.index-2.ensures, c.mul.ensures)) in
     report_passed g.row.EF.Denot g.F.Field.number N (figures_of o p ms (witnesses_in g.F.Field.number c.args.proof.now) rs) _ c.from_residual-in_err-verdict.result _ c.from_residual-in_err-verdict.ensures.1
     (finding-is o p ms (witnesses_in g.F.Field.number c.args.proof.now) rs ∙ ap (λ t. finding_by t (false_claim_of o p)) (sym matched)) c.in_err-verdict.ensures
 
@@ -36,12 +37,13 @@ returns g c =
     let p = problem_in job in
     let rs = map N c.args.challenges in
     let ms = messages_in N c.args.proof.now in
-    let eval : N c.eval-eval.result ≡ eval_of o p rs =
-    eval-at o (order_of job.order) _ p.table _ _ _ rs _ (c.eval-eval.ensures ∙ ap (λ t. value o (λ b. g.EF.Algebra.embedding (t b)) (map N c.in_ok-point.point)) c.in_ok-table.ensures.table ∙ ap (value o p.table) c.in_ok-point.ensures) in
+    let eval : N c.eval_slice-eval.result ≡ eval_of o p rs =
+    eval-at_slice o (order_of job.order) _ p.table _ _ _ g.EF.Algebra.embedding g.F.Field.number c.deref.result.now _ rs _ g.met.EF.Algebra.embeds.zero_kept
+    (λ b. ap (λ l. g.EF.Algebra.embedding (entries g.F.Field.number l b)) c.deref.ensures.value) (ap (map N) c.as_slice.ensures ∙ c.in_ok-point.ensures) c.eval_slice-eval.ensures in
     let weight : N c.eval_at-weight.result ≡ weight_value_of o p rs =
     weight-at o (order_of job.order) _ p.table _ _ _ rs _ (c.eval_at-weight.ensures ∙ ap (value o (batched_weight o _ _ _)) c.in_ok-point.ensures) in
     let matched : (c.index.result == c.index-2.result) ≡ is_matched o p ms rs =
-    matched-by o p _ (N c.args.residual) (N c.eval-eval.result) (N c.eval_at-weight.result) ms rs c.requires.residual eval weight (cc (c.index.ensures, c.index-2.ensures, c.mul.ensures)) in
+    matched-by o p _ (N c.args.residual) (N c.eval_slice-eval.result) (N c.eval_at-weight.result) ms rs c.requires.residual eval weight (cc (c.index.ensures, c.index-2.ensures, c.mul.ensures)) in
     record {
       figures_are = figures-are o p _ ms _ (witnesses_in g.F.Field.number c.args.proof.now) _ rs _ _ _ _ _ (ap (λ (w : Wire). w.messages) c.in_ok-rounds.ensures) (ap (λ (w : Wire). w.witnesses) c.in_ok-rounds.ensures) refl
           c.requires.claim c.requires.residual eval weight (c.in_ok-verdict.ensures.0 ∙ ap (λ t. finding_by t (false_claim_of o p)) matched);

@@ -1,6 +1,7 @@
-use Rattle.std.proofs.Common.{◌≡◌, ◌∷◌, [], ◌^◌, ◌<◌, refl, sym, ◌∙◌, ap, arith, length}
+use Rattle.std.proofs.Common.{◌≡◌, ◌∷◌, [], ◌^◌, ◌<◌, refl, sym, ◌∙◌, ap, subst, All, arith, length}
 use Rattle.std.proofs.lemmas.List.Elements.{All-map}
 use Rattle.sc_definitions.proofs.LoopLaws.{entry-read}
+use Rattle.sc_definitions.specs.Channels.{Wire}
 use Rattle.sc_rounds.specs.Provers.{Shown}
 use Rattle.sc_rounds.specs.ProverViews.{standing_of}
 use Rattle.sc_rounds.proofs.ShownLaws.{same_entries}
@@ -16,11 +17,11 @@ returns g c =
     let q = asked_of job (g.C.Challenger.rules c.args.challenger.now) (g.C.Challenger.history c.args.challenger.now) in
     let ring = g.met.EF.Field.is_field.ring in
     let degree = sym g.met.EF.ExtensionField.degree_is in
-    let setting = same_setting q ring refl _ _ _ _ _ _ c.in_ok-copied.ensures.rules c.in_ok-copied.ensures.history c.in_ok-prover.ensures c.new-rounds.ensures degree c.num_variables.ensures in
-    let start = same_start q ring refl _ _ _ _ _ _ c.in_ok-copied.ensures.rules c.in_ok-copied.ensures.history c.in_ok-prover.ensures c.new-rounds.ensures degree c.num_variables.ensures in
-    let after = standing_of c.compute_sumcheck_polynomials.new.self c.compute_sumcheck_polynomials.new.sumcheck_data (g.C.Challenger.history c.compute_sumcheck_polynomials.new.challenger) in
-    let whole = c.in-Ok.ensures.batch in
-    let none_left : after.variables ≡ 0 = omega (arith, whole.whole, c.num_variables.ensures, ap (λ (s : Shown). s.variables) c.in_ok-prover.ensures) in
+    let setting = same_setting q ring refl _ _ _ _ _ _ c.in_ok-copied.ensures.rules c.in_ok-copied.ensures.history c.in_ok-base.ensures c.new-rounds.ensures degree c.num_variables-variables.ensures in
+    let start = same_start q ring refl _ _ _ _ _ _ c.in_ok-copied.ensures.rules c.in_ok-copied.ensures.history c.in_ok-base.ensures c.new-rounds.ensures degree c.num_variables-variables.ensures in
+    let after = standing_of c.in-Ok.played.0 c.compute_sumcheck_polynomials.new.sumcheck_data (g.C.Challenger.history c.compute_sumcheck_polynomials.new.challenger) in
+    let whole = c.in-Ok.ensures.whole in
+    let none_left : after.variables ≡ 0 = omega (arith, whole.whole, c.num_variables-variables.ensures, ap (λ (s : Shown). s.variables) c.in_ok-base.ensures) in
     let kept = c.in_ok-weights.ensures.kept in
     let weights_one : length c.as_slice.result.now ≡ 1 = c.as_slice.ensures.size ∙ ap (λ k. 2 ^ k) (c.in_ok-weights.ensures.variables ∙ none_left) in
     let evals_one : length c.evals_view.result.now ≡ 1 = c.evals_view.ensures.size ∙ ap (λ k. 2 ^ k) (ap (λ (s : Shown). s.variables) kept ∙ none_left) in
@@ -30,7 +31,7 @@ returns g c =
     let weights : after.weights ≡ N c.index-as_slice-0.result ∷ [] =
     sym (same_entries N c.in_ok-weights.field-0 _ c.as_slice.ensures.size c.as_slice.ensures.numbers ∙ c.in_ok-weights.ensures.table)
     ∙ one_entry N c.as_slice.result.now _ weights_one (entry-read N c.as_slice.result.now 0 c.index-as_slice-0.result (omega (arith, weights_one)) c.index-as_slice-0.is) in
-    built_case q ring refl _ setting start c.num_variables.ensures after _ _ _ _ whole (c.claimed_sum-claim.ensures.number ∙ ap (λ (s : Shown). s.claim) c.in_ok-prover.ensures) evals weights
+    built_case q ring refl _ setting start c.num_variables-variables.ensures after _ _ _ _ whole (c.claimed_sum-claim.ensures ∙ ap (λ (s : Shown). s.claim) c.in_ok-base.ensures) evals weights
     (g.met.EF.Field.number_below _) (g.met.EF.Field.number_below _)
 
 -- they were refused
@@ -41,8 +42,9 @@ returns-in-Err g c =
     let q = asked_of job (g.C.Challenger.rules c.args.challenger.now) (g.C.Challenger.history c.args.challenger.now) in
     let ring = g.met.EF.Field.is_field.ring in
     let degree = sym g.met.EF.ExtensionField.degree_is in
-    let setting = same_setting q ring refl _ _ _ _ _ _ c.in_ok-copied.ensures.rules c.in_ok-copied.ensures.history c.in_ok-prover.ensures c.new-rounds.ensures degree c.num_variables.ensures in
-    let start = same_start q ring refl _ _ _ _ _ _ c.in_ok-copied.ensures.rules c.in_ok-copied.ensures.history c.in_ok-prover.ensures c.new-rounds.ensures degree c.num_variables.ensures in
-    let after = standing_of c.compute_sumcheck_polynomials.new.self c.compute_sumcheck_polynomials.new.sumcheck_data (g.C.Challenger.history c.compute_sumcheck_polynomials.new.challenger) in
-    build_refused q ring refl _ setting start c.num_variables.ensures after g.F.Field.number N c.in-Err.error c.refusal.result c.refusal.ensures
-    (All-map (λ n. n < g.F.Field.ops.size) g.F.Field.number _ (λ k d low. g.met.F.Field.number_below _)) c.in-Err.ensures.batch
+    let setting = same_setting q ring refl _ _ _ _ _ _ c.in_ok-copied.ensures.rules c.in_ok-copied.ensures.history c.in_ok-base.ensures c.new-rounds.ensures degree c.num_variables-variables.ensures in
+    let start = same_start q ring refl _ _ _ _ _ _ c.in_ok-copied.ensures.rules c.in_ok-copied.ensures.history c.in_ok-base.ensures c.new-rounds.ensures degree c.num_variables-variables.ensures in
+    let stopped = c.in-Err.ensures.refused in
+    build_refused q ring refl _ setting start c.num_variables-variables.ensures stopped.after g.F.Field.number N c.in-Err.error c.refusal.result c.refusal.ensures
+    (subst (λ (w : Wire). All (λ n. n < g.F.Field.ops.size) w.witnesses) (sym stopped.wire_is)
+    (All-map (λ n. n < g.F.Field.ops.size) g.F.Field.number _ (λ k d low. g.met.F.Field.number_below _))) stopped.breaks

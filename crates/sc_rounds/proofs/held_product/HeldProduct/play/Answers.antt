@@ -1,30 +1,23 @@
-use Rattle.std.proofs.Common.{◌+◌, length, map, ap, sym, refl, inl, inr, ◌∙◌, arith}
-use Rattle.std.proofs.lemmas.List.{map-append, length-map}
-use Rattle.sc_definitions.proofs.StandingLaws.{played_none}
+use Rattle.std.proofs.Common.{◌+◌, ◌≤◌, map, ap, sym, refl, inl, inr, ◌∙◌}
+use Rattle.std.proofs.lemmas.List.{map-append}
 use Rattle.sc_transcript.proofs.ReplayedLaws.{same_channel}
 use Rattle.sc_transcript.specs.declared.transcript.SumcheckShape.{SumcheckShape}
 use Rattle.sc_rounds.specs.Provers.{Shown}
-use Rattle.sc_rounds.specs.HeldProducts.{image_in, standing_over}
-use Rattle.sc_rounds.proofs.BatchLaws.{fits, less_by_one, some_left, less_at, room_at, all_played, sum_at, same_setting, one_round_more, stops, as_none}
-use Rattle.sc_rounds.proofs.HeldLaws.{held_sized}
+use Rattle.sc_rounds.specs.HeldProducts.{shown_in, image_in, standing_over}
+use Rattle.sc_rounds.proofs.BatchLaws.{fits, less_by_one, some_left, less_at, room_at, all_played, sum_at, same_setting, one_round_more, stops, begun_within}
 use Rattle.sc_rounds.proofs.held_product.HeldProduct.play.Goals as goal
 
 pub loop-round-init : goal.loop-round-init
-loop-round-init g c =
-    let to = g.EF.FromTable.to_number in
-    let t = c.args.self.now in
-    let size = held_sized g.EF.Field.ops g.EF.Field.number t.poly t.sum t.held in
-    let none = ap (map g.EG.Field.number) c.requires.empty in
-    record {
-      continues = record { lender = refl; rules = refl; values = refl; shape = refl };
-      played = c.requires.none_played;
-      left = omega arith;
-      order = refl;
-      len = c.args.challenges.now.ok.0 ∙ ap length c.requires.empty;
-      room = c.requires.room;
-      batch = as_none _ _ _ none (played_none _ _ (record { evals = length-map _ to ∙ size.0; weights = length-map _ to ∙ size.1 }));
-      holds = inl none;
-    }
+loop-round-init g c = record {
+  continues = record { lender = refl; rules = refl; values = refl; shape = refl };
+  played = sym (c.len-round.ensures ∙ c.requires.count);
+  left = ap (λ k. (shown_in c.args.self.now).variables + k) (c.len-round.ensures ∙ c.requires.count);
+  order = refl;
+  len = sym c.len-round.ensures;
+  room = c.requires.room;
+  batch = λ start before. before;
+  holds = λ start before. inl refl;
+}
 
 pub loop-round-preserved : goal.loop-round-preserved
 loop-round-preserved g c =
@@ -44,16 +37,16 @@ loop-round-preserved g c =
       order = round.order ∙ inv.order;
       len = c.push_reserved.ensures.len ∙ ap (λ n. n + 1) inv.len;
       room = fits _ _ _ _ (ap (λ (s : SumcheckShape). s.num_rounds) round.continues.shape) c.push_reserved.ensures.capacity inv.room;
-      batch = one_round_more _ _ g.met.EG.Field.is_field.ring tt _ _ _ _ _ _
+      batch = λ start before. one_round_more _ _ g.met.EG.Field.is_field.ring tt _ _ _ _ _ _
           (same_setting _ _ _ _ _ (same_channel _ _ _ g.G.Field.ops.size _ _ inv.continues.rules (ap (λ (s : SumcheckShape). s.pow_bits) inv.continues.shape)) inv.order)
-          drawn inv.batch round.round;
-      holds = inr (record {
+          drawn (inv.batch start before) round.round;
+      holds = λ start before. inr (record {
         others = _;
         last = _;
         are = drawn;
         held = round.holds.held;
         before = standing_over M (image_in g.EF.FromTable.to_number c.loop-round.self) c.loop-round.transcript c.loop-round.sumcheck_data;
-        played = inv.batch;
+        played = inv.batch start before;
         evals = round.holds.evals;
         weights = round.holds.weights;
       });
@@ -80,11 +73,12 @@ push_reserved-requires g c =
 pub returns : goal.returns
 returns g c =
     let inv = c.loop-round.invariant in
+    let below : c.len-round.result ≤ c.shape-round-end.result.num_rounds = begun_within _ _ _ _ _ c.len-round.ensures c.requires.count c.requires.begun (ap (λ (s : SumcheckShape). s.num_rounds) c.shape-round-end.ensures) in
     record {
       continues = inv.continues;
       order = inv.order;
       left = sum_at _ _ _ _ inv.played inv.left;
-      rounds = (all_played _ _ _ _ inv.played (ap (λ (s : SumcheckShape). s.num_rounds) (inv.continues.shape ∙ sym c.shape-round-end.ensures)) c.loop-round-test.false c.loop-round.auto._round-end, inv.batch);
+      rounds = λ start before. (all_played _ _ _ _ inv.played (ap (λ (s : SumcheckShape). s.num_rounds) (inv.continues.shape ∙ sym c.shape-round-end.ensures)) c.loop-round-test.false (c.loop-round.auto._round-end below), inv.batch start before);
       holds = inv.holds;
     }
 
@@ -102,11 +96,11 @@ returns-in-Err g c =
       };
       order = round.order ∙ inv.order;
       left = sum_at _ _ _ _ (round.counts ∙ inv.played) (ap (λ (s : Shown). s.variables + c.loop-round._round) round.kept ∙ inv.left);
-      rounds = (
+      rounds = λ start before. (
         less_at _ _ _ _ (round.counts ∙ inv.played) c.loop-round-test.true (ap (λ (s : SumcheckShape). s.num_rounds) (c.shape-round-end.ensures ∙ sym inv.continues.shape ∙ sym round.continues.shape)),
         stops _ _ _ _ _ _ _ _ c.in-Err.error
             (same_setting _ _ _ _ _ (same_channel _ _ _ g.G.Field.ops.size _ _ inv.continues.rules (ap (λ (s : SumcheckShape). s.pow_bits) inv.continues.shape)) inv.order)
-            (sym round.counts) inv.batch round.round,
+            (sym round.counts) (inv.batch start before) round.round,
       );
       holds = tt;
     }

@@ -1,8 +1,7 @@
 use Rattle.std.proofs.Common.{◌≡◌, ◌+◌, ◌≤◌, map, vec_len, vec_capacity}
-use Rattle.sc_definitions.specs.Standings.{IsPlayed}
+use Rattle.sc_definitions.specs.Standings.{Standing, IsPlayed}
 use Rattle.sc_transcript.specs.Drivers.{driver_in, Continues}
-use Rattle.sc_rounds.specs.Provers.{HoldsIfAny}
-use Rattle.sc_rounds.specs.HeldProducts.{shown_in, image_in, image_stored_in, setting_over, standing_over}
+use Rattle.sc_rounds.specs.HeldProducts.{shown_in, image_in, image_stored_in, setting_over, standing_over, HoldsIfMore}
 use Rattle.sc_rounds.proofs.held_product.HeldProduct.play.Given as goal
 
 abbrev pub invariant-loop-round : goal.invariant-loop-round
@@ -10,14 +9,16 @@ invariant-loop-round g l =
     let to = g.EF.FromTable.to_number in
     let M = g.EG.Field.number in
     let setting = setting_over g.EG.ExtensionField.extension g.EG.Field.ops (shown_in l.fn.self) l.fn.transcript in
-    let start = standing_over M (image_in to l.fn.self) l.fn.transcript l.fn.sumcheck_data in
+    let begun = standing_over M (image_in to l.fn.self) l.fn.transcript l.fn.sumcheck_data in
+    let before = map M l.fn.challenges.items in
     record {
       continues : Continues (driver_in l.fn.transcript) (driver_in l.transcript);
       played : l.transcript.played ≡ l._round;
-      left : (shown_in l.self).variables + l._round ≡ (shown_in l.fn.self).variables;
+      left : (shown_in l.self).variables + l._round ≡ (shown_in l.fn.self).variables + l.fn.transcript.played;
       order : (shown_in l.self).order ≡ (shown_in l.fn.self).order;
       len : vec_len l.challenges ≡ l._round;
       room : l.transcript.shape.num_rounds ≤ vec_capacity l.challenges;
-      batch : IsPlayed setting start (standing_over M (image_in to l.self) l.transcript l.sumcheck_data) (map M l.challenges.items);
-      holds : HoldsIfAny setting start (map M l.challenges.items) (image_stored_in to l.self);
+      batch : (start : Standing) → IsPlayed setting start begun before →
+          IsPlayed setting start (standing_over M (image_in to l.self) l.transcript l.sumcheck_data) (map M l.challenges.items);
+      holds : HoldsIfMore setting begun before (map M l.challenges.items) (image_stored_in to l.self);
     }

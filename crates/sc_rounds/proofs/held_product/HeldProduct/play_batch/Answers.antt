@@ -5,7 +5,10 @@ use Rattle.sc_transcript.proofs.ReplayedLaws.{same_channel}
 use Rattle.sc_transcript.proofs.Lent.{returned}
 use Rattle.sc_rounds.specs.Provers.{standing_at}
 use Rattle.sc_rounds.specs.HeldProducts.{image_in}
-use Rattle.sc_rounds.proofs.BatchLaws.{same_setting, played_at, holds_at, stops_batch, never_begun, sum_at}
+use Rattle.sc_rounds.proofs.BatchLaws.{same_setting, played_at, holds_at, stops_batch, never_begun, sum_at, as_none, none_before, enough_left, held_if_any}
+use Rattle.sc_rounds.proofs.HeldLaws.{held_sized}
+use Rattle.sc_definitions.proofs.StandingLaws.{played_none}
+use Rattle.std.proofs.lemmas.List.{length-map}
 use Rattle.sc_rounds.proofs.held_product.HeldProduct.play_batch.Goals as goal
 
 pub returns-in-Ok-clause-batch : goal.returns-in-Ok-clause-batch
@@ -15,13 +18,18 @@ returns-in-Ok-clause-batch g c =
     let R = g.C.Challenger.rules in
     let W = wire_in g.G.Field.number g.EG.Field.number in
     let begun = c.over-transcript.ensures in
+    let t = c.args.self.now in
+    let size = held_sized g.EF.Field.ops g.EF.Field.number t.poly t.sum t.held in
+    let none = played_none _ _ (record { evals = length-map _ to ∙ size.0; weights = length-map _ to ∙ size.1 }) in
+    let all = c.in-Ok.ensures.rounds _ (as_none _ _ _ (ap (map g.EG.Field.number) c.in_ok-challenges.ensures.empty) none) in
     record {
-      whole = sum_at _ _ _ _ (sym (c.in-Ok.ensures.rounds.0 ∙ ap (λ (s : SumcheckShape). s.num_rounds) (c.in-Ok.ensures.continues.shape ∙ begun.fresh.shape))) c.in-Ok.ensures.left;
+      whole = sum_at _ _ _ _ (sym (all.0 ∙ ap (λ (s : SumcheckShape). s.num_rounds) (c.in-Ok.ensures.continues.shape ∙ begun.fresh.shape)))
+          (none_before _ _ _ _ c.in-Ok.ensures.left begun.fresh.played);
       played = played_at _ _ _ _ _ _ _ _
           (same_setting _ _ _ _ _ (same_channel _ _ _ g.G.Field.ops.size _ _ (ap R begun.lent.same ∙ c.in_ok-seed.ensures.rules) (ap (λ s. s.pow_bits) begun.fresh.shape)) refl)
           (ap (λ h. standing_at (image_in to c.args.self.now) h (W c.args.sumcheck_data.now)) (ap H begun.lent.same ∙ c.in_ok-seed.ensures.ok))
           (ap (λ h. standing_at (image_in to c.play.new.self) h (W c.play.new.sumcheck_data)) (sym (ap H (returned _ _ _ _ _ _ (search rules) c.in-Ok.ensures.continues.lender begun.lent.lender c.finish.ensures))))
-          (ap (map g.EG.Field.number) (sym c.new.ensures)) c.in-Ok.ensures.rounds.1;
+          (ap (map g.EG.Field.number) (sym c.new.ensures)) all.1;
     }
 
 pub returns-in-Ok-clause-holds : goal.returns-in-Ok-clause-holds
@@ -31,10 +39,14 @@ returns-in-Ok-clause-holds g c =
     let R = g.C.Challenger.rules in
     let W = wire_in g.G.Field.number g.EG.Field.number in
     let begun = c.over-transcript.ensures in
+    let t = c.args.self.now in
+    let size = held_sized g.EF.Field.ops g.EF.Field.number t.poly t.sum t.held in
+    let none = played_none _ _ (record { evals = length-map _ to ∙ size.0; weights = length-map _ to ∙ size.1 }) in
     holds_at _ _ _ _ _ _ _
     (same_setting _ _ _ _ _ (same_channel _ _ _ g.G.Field.ops.size _ _ (ap R begun.lent.same ∙ c.in_ok-seed.ensures.rules) (ap (λ s. s.pow_bits) begun.fresh.shape)) refl)
     (ap (λ h. standing_at (image_in to c.args.self.now) h (W c.args.sumcheck_data.now)) (ap H begun.lent.same ∙ c.in_ok-seed.ensures.ok))
-    (ap (map g.EG.Field.number) (sym c.new.ensures)) c.in-Ok.ensures.holds
+    (ap (map g.EG.Field.number) (sym c.new.ensures))
+    (held_if_any _ _ _ _ _ (ap (map g.EG.Field.number) c.in_ok-challenges.ensures.empty) none c.in-Ok.ensures.holds)
 
 pub returns-in-Err-clause-batch : goal.returns-in-Err-clause-batch
 returns-in-Err-clause-batch g c =
@@ -43,11 +55,15 @@ returns-in-Err-clause-batch g c =
     let R = g.C.Challenger.rules in
     let W = wire_in g.G.Field.number g.EG.Field.number in
     let begun = c.over-transcript.ensures in
+    let t = c.args.self.now in
+    let size = held_sized g.EF.Field.ops g.EF.Field.number t.poly t.sum t.held in
+    let none = played_none _ _ (record { evals = length-map _ to ∙ size.0; weights = length-map _ to ∙ size.1 }) in
+    let some = c.in-Err.ensures.rounds _ (as_none _ _ _ (ap (map g.EG.Field.number) c.in_ok-challenges.ensures.empty) none) in
     stops_batch _ _ _ _ _ _ _ c.in-Err.error
     (same_setting _ _ _ _ _ (same_channel _ _ _ g.G.Field.ops.size _ _ (ap R begun.lent.same ∙ c.in_ok-seed.ensures.rules) (ap (λ s. s.pow_bits) begun.fresh.shape)) refl)
     (ap (λ h. standing_at (image_in to c.args.self.now) h (W c.args.sumcheck_data.now)) (ap H begun.lent.same ∙ c.in_ok-seed.ensures.ok))
     (ap (λ h. standing_at (image_in to c.play.new.self) h (W c.play.new.sumcheck_data)) (sym (ap H (returned _ _ _ _ _ _ (search rules) c.in-Err.ensures.continues.lender begun.lent.lender c.abort.ensures))))
-    c.in-Err.ensures.left c.in-Err.ensures.rounds.0 (ap (λ (s : SumcheckShape). s.num_rounds) (c.in-Err.ensures.continues.shape ∙ begun.fresh.shape)) c.in-Err.ensures.rounds.1
+    (none_before _ _ _ _ c.in-Err.ensures.left begun.fresh.played) some.0 (ap (λ (s : SumcheckShape). s.num_rounds) (c.in-Err.ensures.continues.shape ∙ begun.fresh.shape)) some.1
 
 -- the transcript keeps the challenger's rules
 pub returns-in-Ok-clause-rules : goal.returns-in-Ok-clause-rules
@@ -71,3 +87,17 @@ returns-in_err-seed-clause-batch g c =
     let to = g.EF.FromTable.to_number in
     never_begun _ _ _ _ c.from_residual-in_err-seed.ensures.1
     (ap (λ h. standing_at (image_in to c.args.self.now) h (wire_in g.G.Field.number g.EG.Field.number c.args.sumcheck_data.now)) c.in_err-seed.ensures.err)
+
+-- no round was played, and there is no challenge yet
+pub play-requires-clause-variables : goal.play-requires-clause-variables
+play-requires-clause-variables g c =
+    let begun = c.over-transcript.ensures in
+    enough_left _ _ _ _ (ap (λ (s : SumcheckShape). s.num_rounds) begun.fresh.shape) c.requires.variables begun.fresh.played
+
+pub finish-requires : goal.finish-requires
+finish-requires g c =
+    let to = g.EF.FromTable.to_number in
+    let t = c.args.self.now in
+    let size = held_sized g.EF.Field.ops g.EF.Field.number t.poly t.sum t.held in
+    let none = played_none _ _ (record { evals = length-map _ to ∙ size.0; weights = length-map _ to ∙ size.1 }) in
+    (c.in-Ok.ensures.rounds _ (as_none _ _ _ (ap (map g.EG.Field.number) c.in_ok-challenges.ensures.empty) none)).0

@@ -1,0 +1,87 @@
+use Rattle.std.proofs.Common.{map, ap, sym, ◌∙◌, refl, inl, rules}
+use Rattle.sc_definitions.specs.Standings.{Standing}
+use Rattle.sc_transcript.specs.Data.{wire_in}
+use Rattle.sc_transcript.specs.declared.transcript.SumcheckShape.{SumcheckShape}
+use Rattle.sc_transcript.specs.declared.error.SumcheckError.TheVariants.{NoMemory}
+use Rattle.sc_transcript.proofs.ReplayedLaws.{same_channel}
+use Rattle.sc_transcript.proofs.Lent.{returned}
+use Rattle.sc_rounds.specs.Provers.{standing_at}
+use Rattle.sc_rounds.specs.Standings.{Batch}
+use Rattle.sc_rounds.specs.HeldProducts.{shown_in}
+use Rattle.sc_rounds.specs.BaseProducts.{BreaksOffAt}
+use Rattle.sc_rounds.specs.BaseViews.{base_shown, base_batch_of}
+use Rattle.sc_rounds.proofs.BatchLaws.{same_setting, played_at, sum_at}
+use Rattle.sc_rounds.proofs.BaseLaws.{err_as, breaks_batch, whole_as, breaks_as}
+use Rattle.sc_rounds.proofs.strategy.base.BaseProduct.compute_sumcheck_polynomials.Goals as goal
+
+-- without memory for the challenges or the seed nothing has begun
+pub returns-in_err-challenges-clause-refused : goal.returns-in_err-challenges-clause-refused
+returns-in_err-challenges-clause-refused g c =
+    let o = g.EF.Field.ops in
+    let N = g.EF.Field.number in
+    let H = g.C.Challenger.history in
+    let W = wire_in g.F.Field.number N in
+    let self = c.args.self in
+    err_as c.from_residual.result NoMemory (BreaksOffAt _ (H c.args.challenger.now) (W c.args.sumcheck_data.now)) c.from_residual.ensures.1
+    (record { after = standing_at (base_shown self) (H c.args.challenger.now) (W c.args.sumcheck_data.now); history = refl; wire_is = refl; breaks = inl refl })
+
+pub returns-in_err-seed-clause-refused : goal.returns-in_err-seed-clause-refused
+returns-in_err-seed-clause-refused g c =
+    let o = g.EF.Field.ops in
+    let N = g.EF.Field.number in
+    let H = g.C.Challenger.history in
+    let W = wire_in g.F.Field.number N in
+    let self = c.args.self in
+    err_as c.from_residual-in_err-seed.result NoMemory (BreaksOffAt _ (H c.seed.new.challenger) (W c.args.sumcheck_data.now)) c.from_residual-in_err-seed.ensures.1
+    (record {
+      after = standing_at (base_shown self) (H c.args.challenger.now) (W c.args.sumcheck_data.now);
+      history = sym c.in_err-seed.ensures.err;
+      wire_is = refl;
+      breaks = inl refl;
+    })
+
+-- all rounds were played
+pub returns-in-Ok-clause-whole : goal.returns-in-Ok-clause-whole
+returns-in-Ok-clause-whole g c =
+    let o = g.EF.Field.ops in
+    let N = g.EF.Field.number in
+    let H = g.C.Challenger.history in
+    let W = wire_in g.F.Field.number N in
+    let self = c.args.self in
+    let R = g.C.Challenger.rules in
+    let at : SumcheckShape → Batch = base_batch_of self c.args.sumcheck_data.now (R c.args.challenger.now) (H c.args.challenger.now) in
+    let begun = c.over-transcript.ensures in
+    let setting = same_setting _ _ o _ _ (same_channel _ _ _ g.F.Field.ops.size _ _ (ap R begun.lent.same ∙ c.in_ok-seed.ensures.rules) (ap (λ (s : SumcheckShape). s.pow_bits) begun.fresh.shape)) refl in
+    let start = ap (λ h. standing_at (base_shown self) h (W c.args.sumcheck_data.now)) (ap H begun.lent.same ∙ c.in_ok-seed.ensures.ok) in
+    let all = c.in-Ok.ensures.played in
+    whole_as (at c.new-shape.result) _ _ _ _ _ (ap at c.new-shape.ensures)
+    (ap (λ h. standing_at (shown_in c.in-Ok.rounds) h (W c.play.new.sumcheck_data)) (sym (ap H (returned _ _ _ _ _ _ (search rules) c.in-Ok.ensures.continues.lender begun.lent.lender c.finish.ensures))))
+    (ap (map N) (sym c.new.ensures))
+    (record {
+      whole = sum_at _ _ _ _ (sym (all.done ∙ ap (λ (s : SumcheckShape). s.num_rounds) (c.in-Ok.ensures.continues.shape ∙ begun.fresh.shape))) all.left;
+      played = played_at _ _ _ _ _ _ _ _ setting start refl refl all.played;
+    })
+
+-- they stopped
+pub returns-in-Err-clause-refused : goal.returns-in-Err-clause-refused
+returns-in-Err-clause-refused g c =
+    let o = g.EF.Field.ops in
+    let N = g.EF.Field.number in
+    let H = g.C.Challenger.history in
+    let W = wire_in g.F.Field.number N in
+    let self = c.args.self in
+    let R = g.C.Challenger.rules in
+    let at : SumcheckShape → Batch = base_batch_of self c.args.sumcheck_data.now (R c.args.challenger.now) (H c.args.challenger.now) in
+    let begun = c.over-transcript.ensures in
+    let setting = same_setting _ _ o _ _ (same_channel _ _ _ g.F.Field.ops.size _ _ (ap R begun.lent.same ∙ c.in_ok-seed.ensures.rules) (ap (λ (s : SumcheckShape). s.pow_bits) begun.fresh.shape)) refl in
+    let start = ap (λ h. standing_at (base_shown self) h (W c.args.sumcheck_data.now)) (ap H begun.lent.same ∙ c.in_ok-seed.ensures.ok) in
+    let stopped = c.in-Err.ensures.stopped in
+    let size = ap (λ (s : SumcheckShape). s.num_rounds) (c.in-Err.ensures.continues.shape ∙ begun.fresh.shape) in
+    breaks_as (at c.new-shape.result) _ _ _ _ _ (ap at c.new-shape.ensures)
+    (sym (ap H (returned _ _ _ _ _ _ (search rules) c.in-Err.ensures.continues.lender begun.lent.lender c.abort.ensures)))
+    (record {
+      after = stopped.after;
+      history = stopped.history;
+      wire_is = stopped.wire_is;
+      breaks = breaks_batch (at c.new-shape.result) _ _ stopped.after _ _ c.in-Err.error setting start (stopped.left ∙ ap (λ (t : Standing). t.variables) start) stopped.within stopped.some size stopped.stopped;
+    })
