@@ -54,7 +54,7 @@ impl<'a, F: Field, EF: ExtensionField<F>> BaseProduct<'a, F, EF> {
     ghost use Rattle.sc_transcript.specs.Shapes.{shape_of};
     ghost use Rattle.sc_rounds.specs.Standings.{IsHalted, Counts, PlaysWhole};
     ghost use Rattle.sc_rounds.specs.Provers.{message_shown, with_bound};
-    ghost use Rattle.sc_rounds.specs.ProverViews.{standing_of};
+    ghost use Rattle.sc_rounds.specs.ProverViews.{shown_by, standing_of};
     ghost use Rattle.sc_rounds.specs.HeldProducts.{shown_in, setting_over, standing_over};
     ghost use Rattle.sc_rounds.specs.BaseProducts.{PlaysFrom, StopsFrom, BreaksOffAt};
     ghost use Rattle.sc_rounds.specs.BaseViews.{base_shown, base_batch_of};
@@ -93,7 +93,8 @@ impl<'a, F: Field, EF: ExtensionField<F>> BaseProduct<'a, F, EF> {
     }
 
     /// Plays a batch of rounds, one or more, as [`SumcheckProver::compute_sumcheck_polynomials`]
-    /// does on a table of the images, and answers what is left with their challenges.
+    /// does on a table of the images, and answers what is left with their challenges. The last of
+    /// these may be held.
     ///
     /// The refusals are those of that call, and `NoMemory` comes as well where there is none for
     /// the table of half as many rows. After a refusal the tables are given up; the data and the
@@ -110,6 +111,8 @@ impl<'a, F: Field, EF: ExtensionField<F>> BaseProduct<'a, F, EF> {
         requires variables { folding_factor ≤ (base_shown self).variables }
         requires difficulty { pow_bits ≤ (C.rules challenger.old).max_bits }
         ensures rules { C.rules challenger.new ≡ C.rules challenger.old }
+        ensures order { IfOk result
+            (λ p. (shown_by p.0).order ≡ (base_shown self.entry).order) }
         ensures whole { IfOk result (λ p. PlaysWhole
             (base_batch_of self.entry sumcheck_data.old (C.rules challenger.old)
             (C.history challenger.old) (shape_of folding_factor pow_bits Basis.Evaluation))
@@ -151,6 +154,7 @@ impl<'a, F: Field, EF: ExtensionField<F>> BaseProduct<'a, F, EF> {
         requires empty { challenges.old.items ≡ [] }
         requires room { (driver_in transcript.old).shape.num_rounds ≤ vec_capacity challenges.old }
         ensures continues { Continues (driver_in transcript.old) (driver_in transcript.new) }
+        ensures order { IfOk result (λ t. (shown_in t).order ≡ (base_shown self.entry).order) }
         ensures played { IfOk result (λ t. PlaysFrom
             (setting_over EF.extension EF.ops (base_shown self.entry) transcript.old)
             (standing_over EF.number (base_shown self.entry) transcript.old sumcheck_data.old)
