@@ -102,7 +102,10 @@ static FALSE: [([u64; 2], Option<FalseClaim>); 2] = [
 fn false_statements_are_numbered_over_groups(rt: HostRuntime) {
     let constraint = three_claims(&rt);
     for (values, found) in &FALSE {
-        assert_eq!(rt; constraint.first_false(table(&rt, 1, values).as_slice()), *found);
+        assert_eq!(rt;
+            constraint.first_false(table(&rt, 1, values).as_slice()),
+            *found
+        );
     }
 }
 
@@ -112,5 +115,8 @@ static RIGHT: [([u64; 1], u64); 1] = [([1], 2)];
 fn no_statement_is_false_of_a_table(rt: HostRuntime) {
     let groups = vec![in rt.alloc(); Statements::Eq(claims(&rt, &RIGHT))].expect(&rt, "groups");
     let constraint = Constraint::<F65537, F65537>::new(of(3), 1, groups);
-    assert_eq!(rt; constraint.first_false(table(&rt, 1, &[1, 2]).as_slice()), None);
+    assert_eq!(rt;
+        constraint.first_false(table(&rt, 1, &[1, 2]).as_slice()),
+        None
+    );
 }

@@ -342,7 +342,10 @@ fn groups_of_several_kinds_are_batched(rt: HostRuntime) {
     let constraint = Constraint::new(of(10), 2, both_kinds(&rt));
     assert_batch(&rt, &constraint, (0, 493), &[10, 22, 37, 82]);
     let at = constraint.eval_at(&point(&rt, &[3, 4])).index();
-    assert_eq!(rt; (at, constraint.first_false(four(&rt).as_slice())), (535, None));
+    assert_eq!(rt;
+        (at, constraint.first_false(four(&rt).as_slice())),
+        (535, None)
+    );
 }
 
 #[test]
