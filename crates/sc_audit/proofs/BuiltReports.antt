@@ -15,7 +15,8 @@ use Rattle.sc_definitions.proofs.PlayedLaws.{value-played}
 use Rattle.sc_definitions.proofs.BuildLaws.{first_false_claim-all, built-residual}
 use Rattle.sc_definitions.proofs.BuiltLaws.{length-messages, length-challenges}
 use Rattle.sc_definitions.proofs.SameTables.{bound_by-same, built-same, honest-same}
-use Rattle.sc_definitions.proofs.StandingLaws.{rows-entries_of, message_honest}
+use Rattle.sc_definitions.proofs.StandingLaws.{entries-is, with_none, rows-entries_of, message_honest}
+use Rattle.std.proofs.lemmas.Nat.{pow_pos}
 use Rattle.sc_transcript.specs.declared.error.SumcheckError.{SumcheckError}
 use Rattle.sc_transcript.specs.declared.error.SumcheckError.TheVariants.{RoundCountMismatch, InvalidPowWitness, PowWitnessCountMismatch, NoWitness, NoMemory}
 use Rattle.sc_transcript.specs.Data.{witness_count}
@@ -88,6 +89,37 @@ module _ (q : Asked) (ring : IsRing q.ops) (even : q.case.problem.basis ≡ eval
       entry ∙ bound_by-same evaluation p.order q.ops rs 0 (rows_of (entries_of n f)) f (λ k under. rows-entries_of n f k (subst (λ v. k < 2 ^ v) whole under)) 0 (omega arith)
       ∙ ap (bound_by evaluation p.order q.ops rs 0 f) first in
       sym (element-small q.ops ring x low) ∙ sym (value-played p.order q.ops ring f (λ b. x) rs at) ∙ ap (λ b. value_in b q.ops f (point_of p.order rs)) (sym even)
+
+  -- ---- no round
+
+  -- the one entry of a table of no variable
+  one_left : (f : ℕ → ℕ) (x : ℕ) → x ≡ f 0 →
+      entries_of 0 (bound_by evaluation q.case.problem.order q.ops [] 0 (rows_of (entries_of q.case.problem.variables f))) ≡ x ∷ []
+  unfolding bound_by rows_of
+  one_left f x is =
+      let n = q.case.problem.variables in
+      sym (entries-is 0 (x ∷ []) _ refl (λ b low.
+      let first : 0 ≡ b = omega (arith, low) in
+      ap (rows_of (x ∷ [])) (sym first) ∙ is ∙ sym (rows-entries_of n f 0 (pow_pos n)) ∙ ap (rows_of (entries_of n f)) first))
+
+  -- a case of no variable is built of none
+  pub built_none : q.case.problem.variables ≡ 0 → (b : Kept) → b.wire ≡ empty_wire → b.challenges ≡ [] → b.claim ≡ claim_of q.ops q.case.problem →
+      b.eval ≡ q.case.problem.table 0 → b.weight ≡ weights_of q.ops q.case.problem 0 → b.eval < q.ops.size → b.weight < q.ops.size → IsBuiltCase q b
+  unfolding eval_of weight_value_of
+  built_none none b wire drawn claim eval weight low high =
+      let p = q.case.problem in
+      record {
+        rounds = [];
+        built = tt;
+        count = sym none;
+        wire = wire ∙ with_none q.channel.bits empty_wire;
+        drawn = drawn;
+        claim = claim;
+        eval = value_left p.table [] _ b.eval (sym none) refl (one_left p.table b.eval eval) low
+            ∙ ap (λ rs. value_in p.basis q.ops p.table (point_of p.order rs)) (sym drawn);
+        weight = value_left (weights_of q.ops p) [] _ b.weight (sym none) refl (one_left (weights_of q.ops p) b.weight weight) high
+            ∙ ap (λ rs. value_in p.basis q.ops (weights_of q.ops p) (point_of p.order rs)) (sym drawn);
+      }
 
   -- ---- a batch of a prover
 

@@ -1,5 +1,7 @@
 //! How the rounds of a job are built.
-ghost use Rattle.std.specs.Prelude.{◌≡◌, ◌≤◌, ◌∷◌, [], IfOk, None, map};
+ghost use Rattle.std.specs.Prelude.{◌≡◌, ◌≤◌, ◌∷◌, [], List, IfOk, None, map};
+ghost use Rattle.sc_definitions.specs.declared.events.Event.{Event};
+ghost use Rattle.sc_definitions.specs.Events.{Rules};
 ghost use Rattle.sc_rounds.specs.ProverViews.{shown_by, image_shown_by};
 ghost use Rattle.sc_rounds.specs.BaseViews.{base_shown};
 ghost use Rattle.sc_audit.specs.Cases.{asked_of, problem_in};
@@ -42,7 +44,7 @@ pub(crate) fn plain<F: Field, EF: ExtensionField<F>, C: Challenger<F>>(
 {
     let variables = fitting.job.constraint.num_variables();
     if variables == 0 {
-        return roundless(alloc, fitting, challenger);
+        return roundless(alloc, fitting);
     }
     let base = base_of(alloc, fitting)?;
     let claim = base.claimed_sum();
@@ -69,38 +71,24 @@ pub(crate) fn plain<F: Field, EF: ExtensionField<F>, C: Challenger<F>>(
     })
 }
 
-// The same where no variable is, so that no round is played: on the table of the image.
-fn roundless<F: Field, EF: ExtensionField<F>, C: Challenger<F>>(
+// The same where no variable is: no round is played, and what is left of the table and of the
+// weights is their one entry.
+fn roundless<F: Field, EF: ExtensionField<F>>(
     alloc: Global,
     fitting: &FittingJob<'_, F, EF>,
-    challenger: &C,
 ) -> Result<Built<F, EF>, AuditError>
-    requires difficulty { (job_in fitting.now).pow_bits ≤ (C.rules challenger.now).max_bits }
-    requires all_true { false_claim_of EF.ops (problem_in (job_in fitting.now)) ≡ None }
-    ensures { LeavesBuild F.number EF.number
-        (asked_of (job_in fitting.now) (C.rules challenger.now) (C.history challenger.now)) result }
+    requires { (problem_in (job_in fitting.now)).variables ≡ 0 }
+    ensures { (R : Rules) (h : List Event) → LeavesBuild F.number EF.number
+        (asked_of (job_in fitting.now) R h) result }
 {
-    let mut prover = prover_of(alloc, fitting)?;
-    let claim = prover.claimed_sum();
-    let mut copied = challenger.copy(alloc)?;
-    let mut rounds = SumcheckData::new(alloc);
-    let challenges = match prover.compute_sumcheck_polynomials(
-        alloc,
-        &mut rounds,
-        &mut copied,
-        fitting.job.constraint.num_variables(),
-        fitting.job.pow_bits,
-        None,
-    ) {
-        Ok(challenges) => challenges,
-        Err(error) => return Err(refusal(error)),
-    };
-    let weight = prover.weights(alloc)?.as_slice()[0];
-    let eval = prover.evals_view()[0];
+    let job = fitting.job;
+    let (weights, claim) = job.constraint.combine_new(alloc)?;
+    let eval = EF::embed(job.table[0]);
+    let weight = weights.as_slice()[0];
     Ok(Built {
         claim,
-        rounds,
-        challenges,
+        rounds: SumcheckData::new(alloc),
+        challenges: Point::new(Vec::new(alloc)),
         eval,
         weight,
     })

@@ -48,3 +48,7 @@ returns-in-Err g c =
     build_refused q ring refl _ setting start c.num_variables-variables.ensures stopped.after g.F.Field.number N c.in-Err.error c.refusal.result c.refusal.ensures
     (subst (λ (w : Wire). All (λ n. n < g.F.Field.ops.size) w.witnesses) (sym stopped.wire_is)
     (All-map (λ n. n < g.F.Field.ops.size) g.F.Field.number _ (λ k d low. g.met.F.Field.number_below _))) stopped.breaks
+
+-- no variable is
+pub returns-then-variables-eq0 : goal.returns-then-variables-eq0
+returns-then-variables-eq0 g c = c.roundless.ensures (g.C.Challenger.rules c.args.challenger.now) (g.C.Challenger.history c.args.challenger.now)

@@ -1,48 +1,24 @@
-use Rattle.std.proofs.Common.{◌≡◌, ◌∷◌, [], ◌^◌, ◌<◌, refl, sym, ◌∙◌, ap, arith, length}
-use Rattle.std.proofs.lemmas.List.Elements.{All-map}
+use Rattle.std.proofs.Common.{◌≡◌, ◌^◌, length, map, sym, ◌∙◌, ap, refl, arith}
+use Rattle.std.proofs.lemmas.Nat.{pow_pos}
 use Rattle.sc_definitions.proofs.LoopLaws.{entry-read}
-use Rattle.sc_rounds.specs.Provers.{Shown}
-use Rattle.sc_rounds.specs.ProverViews.{standing_of}
-use Rattle.sc_rounds.proofs.ShownLaws.{same_entries}
-use Rattle.sc_audit.specs.Cases.{asked_of}
-use Rattle.sc_audit.proofs.BuiltReports.{one_entry, same_setting, same_start, built_case, build_refused}
+use Rattle.sc_audit.specs.Cases.{asked_of, problem_in}
+use Rattle.sc_audit.proofs.BuiltReports.{built_none}
+use Rattle.sc_audit.proofs.FigureLaws.{weights-batched, claim-batched}
 use Rattle.sc_audit.proofs.strategies.roundless.Goals as goal
 
--- the rounds were built
 pub returns : goal.returns
-returns g c =
+returns g c = λ R h.
     let N = g.EF.Field.number in
+    let o = g.EF.Field.ops in
     let job = c.args.fitting.now.job.now in
-    let q = asked_of job (g.C.Challenger.rules c.args.challenger.now) (g.C.Challenger.history c.args.challenger.now) in
-    let ring = g.met.EF.Field.is_field.ring in
-    let degree = sym g.met.EF.ExtensionField.degree_is in
-    let setting = same_setting q ring refl _ _ _ _ _ _ c.in_ok-copied.ensures.rules c.in_ok-copied.ensures.history c.in_ok-prover.ensures c.new-rounds.ensures degree c.num_variables.ensures in
-    let start = same_start q ring refl _ _ _ _ _ _ c.in_ok-copied.ensures.rules c.in_ok-copied.ensures.history c.in_ok-prover.ensures c.new-rounds.ensures degree c.num_variables.ensures in
-    let after = standing_of c.compute_sumcheck_polynomials.new.self c.compute_sumcheck_polynomials.new.sumcheck_data (g.C.Challenger.history c.compute_sumcheck_polynomials.new.challenger) in
-    let whole = c.in-Ok.ensures.batch in
-    let none_left : after.variables ≡ 0 = omega (arith, whole.whole, c.num_variables.ensures, ap (λ (s : Shown). s.variables) c.in_ok-prover.ensures) in
-    let kept = c.in_ok-weights.ensures.kept in
-    let weights_one : length c.as_slice.result.now ≡ 1 = c.as_slice.ensures.size ∙ ap (λ k. 2 ^ k) (c.in_ok-weights.ensures.variables ∙ none_left) in
-    let evals_one : length c.evals_view.result.now ≡ 1 = c.evals_view.ensures.size ∙ ap (λ k. 2 ^ k) (ap (λ (s : Shown). s.variables) kept ∙ none_left) in
-    let evals : after.evals ≡ N c.index-evals_view-0.result ∷ [] =
-    sym (c.evals_view.ensures.numbers ∙ ap (λ (s : Shown). s.evals) kept)
-    ∙ one_entry N c.evals_view.result.now _ evals_one (entry-read N c.evals_view.result.now 0 c.index-evals_view-0.result (omega (arith, evals_one)) c.index-evals_view-0.is) in
-    let weights : after.weights ≡ N c.index-as_slice-0.result ∷ [] =
-    sym (same_entries N c.in_ok-weights.field-0 _ c.as_slice.ensures.size c.as_slice.ensures.numbers ∙ c.in_ok-weights.ensures.table)
-    ∙ one_entry N c.as_slice.result.now _ weights_one (entry-read N c.as_slice.result.now 0 c.index-as_slice-0.result (omega (arith, weights_one)) c.index-as_slice-0.is) in
-    built_case q ring refl _ setting start c.num_variables.ensures after _ _ _ _ whole (c.claimed_sum-claim.ensures.number ∙ ap (λ (s : Shown). s.claim) c.in_ok-prover.ensures) evals weights
+    let p = problem_in job in
+    let some = pow_pos p.variables in
+    let rows = c.args.fitting.now.rows in
+    let first = entry-read g.F.Field.number job.table.items 0 c.index.result.now (omega (arith, some, rows, job.table.ok.0)) c.index.ensures in
+    let size : length c.as_slice.result.now ≡ 2 ^ p.variables = c.as_slice.ensures.size ∙ ap (λ k. 2 ^ k) c.in_ok-weights.ensures.variables in
+    let read = entry-read N c.as_slice.result.now 0 c.index-as_slice-0.result (omega (arith, some, size)) c.index-as_slice-0.is in
+    built_none (asked_of job R h) g.met.EF.Field.is_field.ring refl c.requires _ c.new.ensures (ap (map N) (c.new-3.ensures ∙ c.new-2.ensures.items))
+    (claim-batched o p _ c.in_ok-weights.ensures.claim)
+    (c.embed-eval.ensures ∙ ap g.EF.Algebra.embedding (sym first))
+    (weights-batched o p 0 _ (sym read ∙ ap (λ t. t 0) c.as_slice.ensures.numbers ∙ c.in_ok-weights.ensures.weights 0 some))
     (g.met.EF.Field.number_below _) (g.met.EF.Field.number_below _)
-
--- they were refused
-pub returns-in-Err : goal.returns-in-Err
-returns-in-Err g c =
-    let N = g.EF.Field.number in
-    let job = c.args.fitting.now.job.now in
-    let q = asked_of job (g.C.Challenger.rules c.args.challenger.now) (g.C.Challenger.history c.args.challenger.now) in
-    let ring = g.met.EF.Field.is_field.ring in
-    let degree = sym g.met.EF.ExtensionField.degree_is in
-    let setting = same_setting q ring refl _ _ _ _ _ _ c.in_ok-copied.ensures.rules c.in_ok-copied.ensures.history c.in_ok-prover.ensures c.new-rounds.ensures degree c.num_variables.ensures in
-    let start = same_start q ring refl _ _ _ _ _ _ c.in_ok-copied.ensures.rules c.in_ok-copied.ensures.history c.in_ok-prover.ensures c.new-rounds.ensures degree c.num_variables.ensures in
-    let after = standing_of c.compute_sumcheck_polynomials.new.self c.compute_sumcheck_polynomials.new.sumcheck_data (g.C.Challenger.history c.compute_sumcheck_polynomials.new.challenger) in
-    build_refused q ring refl _ setting start c.num_variables.ensures after g.F.Field.number N c.in-Err.error c.refusal.result c.refusal.ensures
-    (All-map (λ n. n < g.F.Field.ops.size) g.F.Field.number _ (λ k d low. g.met.F.Field.number_below _)) c.in-Err.ensures.batch
