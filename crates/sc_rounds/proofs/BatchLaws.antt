@@ -110,7 +110,7 @@ pub enough_left : (n m v p : ℕ) → n ≡ m → m ≤ v → p ≡ 0 → n ≤ 
 enough_left n m v p size enough none = omega arith
 
 -- what is held where no round was played before
-pub held_if_any : (s : Setting) (t : Standing) (rs all : List ℕ) (kept : Stored) → rs ≡ [] → IsPlayed s t t [] → HoldsIfMore s t rs all kept → HoldsIfAny s t all kept
+pub held_if_any : (s : Setting) (t : Standing) (rs all : List ℕ) (kept : Stored) → rs ≡ [] → IsPlayed s t t [] → HoldsIfMore (record { setting = s; now = t; drawn = rs }) all kept → HoldsIfAny s t all kept
 held_if_any s t rs all kept none played holds = elim (holds t (as_none s t rs none played)) [
   | inl same ↦ inl (same ∙ none)
   | inr last ↦ inr last

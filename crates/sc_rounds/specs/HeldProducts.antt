@@ -1,5 +1,5 @@
 -- What clauses see of a pair under a claim, of which a challenge may be held.
-use Rattle.std.specs.Prelude.{◌≡◌, ◌⊎◌, ℕ, List, Option, Some, Result}
+use Rattle.std.specs.Prelude.{◌≡◌, ◌⊎◌, ℕ, List, map, Option, Some, Result}
 use Rattle.std.specs.declared.cmp.PartialEq.{Ghosts as PartialEqOf}
 use Rattle.sc_definitions.specs.Ring.{Ops}
 use Rattle.sc_definitions.specs.Events.{Extension}
@@ -36,6 +36,12 @@ module _ {F EF : Type 0} {e : FieldOf EF} {q : PartialEqOf EF} where
   abbrev pub image_stored_in : (ℕ → ℕ) → HeldProduct F EF e q → Stored
   image_stored_in h t = stored_of (λ x. h (e.number x)) t.poly t.held
 
+-- Rounds under way: what stays, where they stand, and the challenges that they have drawn.
+pub record Course : Type 0 where
+  pub setting : Setting
+  pub now : Standing
+  pub drawn : List ℕ
+
 module _ {C F EG : Type 0} {c : ChallengerOf C F} {f : FieldOf F} {q : PartialEqOf F} where
   -- what stays where it is played in a transcript
   abbrev pub setting_over : Extension → Ops → Shown → ProverTranscript C F EG c f q → Setting
@@ -44,6 +50,10 @@ module _ {C F EG : Type 0} {c : ChallengerOf C F} {f : FieldOf F} {q : PartialEq
   -- where its rounds stand in a transcript, with data
   abbrev pub standing_over : (EG → ℕ) → Shown → ProverTranscript C F EG c f q → SumcheckData F EG → Standing
   standing_over sent s t d = standing_at s (driver_in t).history (wire_in f.number sent d)
+
+  -- the rounds that are under way there, with the challenges of those before
+  abbrev pub course_over : Extension → Ops → (EG → ℕ) → Shown → ProverTranscript C F EG c f q → SumcheckData F EG → List EG → Course
+  course_over E o sent s t d rs = record { setting = setting_over E o s t; now = standing_over sent s t d; drawn = map sent rs }
 
 -- A round has drawn r: its tables are kept as they were before it, and r is held.
 pub record Holds (before : Shown) (r : ℕ) (stored : Stored) : Type 0 where
@@ -55,10 +65,12 @@ pub record Holds (before : Shown) (r : ℕ) (stored : Stored) : Type 0 where
 abbrev pub HoldsBatch : Batch → List ℕ → Stored → Type 0
 HoldsBatch b rs stored = HoldsIfAny b.setting b.start rs stored
 
--- What rounds leave together with those before them, whose challenges were rs, from wherever these began.
-abbrev pub GoesOn : {X : Type 0} → Setting → Standing → List ℕ → Standing → List ℕ → Driver → Result X SumcheckError → Type 0
-GoesOn s before rs after all d result = (start : Standing) → IsPlayed s start before rs → PlaysAll s start after all d result
+-- What rounds leave together with those before them, from wherever these began.
+abbrev pub GoesOn : {X : Type 0} → Course → Course → Driver → Result X SumcheckError → Type 0
+GoesOn before after d result =
+    (start : Standing) → IsPlayed before.setting start before.now before.drawn → PlaysAll before.setting start after.now after.drawn d result
 
 -- Where a round was played among them, the last challenge of all is held.
-abbrev pub HoldsIfMore : Setting → Standing → List ℕ → List ℕ → Stored → Type 0
-HoldsIfMore s before rs all stored = (start : Standing) → IsPlayed s start before rs → (all ≡ rs) ⊎ HoldsLast s start all stored
+abbrev pub HoldsIfMore : Course → List ℕ → Stored → Type 0
+HoldsIfMore before all stored =
+    (start : Standing) → IsPlayed before.setting start before.now before.drawn → (all ≡ before.drawn) ⊎ HoldsLast before.setting start all stored

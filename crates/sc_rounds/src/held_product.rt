@@ -74,6 +74,7 @@ impl<F: Field, EF: ExtensionField<F>> HeldProduct<F, EF> {
       image_stored_in,
       setting_over,
       standing_over,
+      course_over,
       Holds,
       HoldsBatch,
       GoesOn,
@@ -245,18 +246,14 @@ impl<F: Field, EF: ExtensionField<F>> HeldProduct<F, EF> {
         ensures left { (shown_in self.new).variables + (driver_in transcript.new).played
             ≡ (shown_in self.old).variables + (driver_in transcript.old).played }
         ensures rounds { GoesOn
-            (setting_over EG.extension EG.ops (shown_in self.old) transcript.old)
-            (standing_over EG.number
-            (image_in EF.to_number self.old) transcript.old sumcheck_data.old)
-            (map EG.number challenges.old.items)
-            (standing_over EG.number
-            (image_in EF.to_number self.new) transcript.new sumcheck_data.new)
-            (map EG.number challenges.new.items) (driver_in transcript.new) result }
-        ensures holds { IfOk result
-            (λ _. HoldsIfMore (setting_over EG.extension EG.ops (shown_in self.old) transcript.old)
-            (standing_over EG.number
-            (image_in EF.to_number self.old) transcript.old sumcheck_data.old)
-            (map EG.number challenges.old.items)
+            (course_over EG.extension EG.ops EG.number
+            (image_in EF.to_number self.old) transcript.old sumcheck_data.old challenges.old.items)
+            (course_over EG.extension EG.ops EG.number
+            (image_in EF.to_number self.new) transcript.new sumcheck_data.new challenges.new.items)
+            (driver_in transcript.new) result }
+        ensures holds { IfOk result (λ _. HoldsIfMore
+            (course_over EG.extension EG.ops EG.number
+            (image_in EF.to_number self.old) transcript.old sumcheck_data.old challenges.old.items)
             (map EG.number challenges.new.items) (image_stored_in EF.to_number self.new)) }
     {
         for _round in challenges.len()..transcript.shape().num_rounds {

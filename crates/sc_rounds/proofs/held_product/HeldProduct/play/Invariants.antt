@@ -20,5 +20,5 @@ invariant-loop-round g l =
       room : l.transcript.shape.num_rounds ≤ vec_capacity l.challenges;
       batch : (start : Standing) → IsPlayed setting start begun before →
           IsPlayed setting start (standing_over M (image_in to l.self) l.transcript l.sumcheck_data) (map M l.challenges.items);
-      holds : HoldsIfMore setting begun before (map M l.challenges.items) (image_stored_in to l.self);
+      holds : HoldsIfMore (record { setting = setting; now = begun; drawn = before }) (map M l.challenges.items) (image_stored_in to l.self);
     }
