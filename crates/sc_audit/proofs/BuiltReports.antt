@@ -32,7 +32,7 @@ use Rattle.sc_rounds.proofs.InStep.{given_played, count_witnesses, none_failing}
 use Rattle.sc_table.specs.declared.strategy.Strategy.{Strategy}
 use Rattle.sc_audit.specs.Cases.{build, Asked, with_task, start_of}
 use Rattle.sc_audit.specs.Figures.{holds, finding_by, false_claim_of, is_matched}
-use Rattle.sc_audit.specs.Audits.{IsAudited, BuildStops, IsCaused, refusal_by}
+use Rattle.sc_audit.specs.Audits.{IsAudited, BuildStops, IsCaused, grids_for, refusal_by}
 use Rattle.sc_audit.specs.Built.{as_build, prover_for, Kept, IsBuiltCase, LeavesBuild}
 use Rattle.sc_audit.specs.declared.error.AuditError.{AuditError}
 use Rattle.sc_audit.proofs.FigureLaws.{figures-are}
@@ -104,9 +104,9 @@ module _ (q : Asked) (ring : IsRing q.ops) (even : q.case.problem.basis ≡ eval
 
   -- a case of no variable is built of none
   pub built_none : q.case.problem.variables ≡ 0 → (b : Kept) → b.wire ≡ empty_wire → b.challenges ≡ [] → b.claim ≡ claim_of q.ops q.case.problem →
-      b.eval ≡ q.case.problem.table 0 → b.weight ≡ weights_of q.ops q.case.problem 0 → b.eval < q.ops.size → b.weight < q.ops.size → IsBuiltCase q b
+      b.eval ≡ q.case.problem.table 0 → b.weight ≡ weights_of q.ops q.case.problem 0 → b.eval < q.ops.size → b.weight < q.ops.size → b.grids ≡ grids_for q → IsBuiltCase q b
   unfolding eval_of weight_value_of
-  built_none none b wire drawn claim eval weight low high =
+  built_none none b wire drawn claim eval weight low high grids =
       let p = q.case.problem in
       record {
         rounds = [];
@@ -119,16 +119,18 @@ module _ (q : Asked) (ring : IsRing q.ops) (even : q.case.problem.basis ≡ eval
             ∙ ap (λ rs. value_in p.basis q.ops p.table (point_of p.order rs)) (sym drawn);
         weight = value_left (weights_of q.ops p) [] _ b.weight (sym none) refl (one_left (weights_of q.ops p) b.weight weight) high
             ∙ ap (λ rs. value_in p.basis q.ops (weights_of q.ops p) (point_of p.order rs)) (sym drawn);
+        grids = grids;
       }
 
   -- ---- a batch of a prover
 
   module _ (b : Batch) (setting : b.setting ≡ setting_for) (start : b.start ≡ start_for) (rounds_are : b.rounds ≡ q.case.problem.variables) (after : Standing) where
     -- that was played whole
-    pub built_case : (rs : List ℕ) (claim x y : ℕ) → PlaysWhole b after rs → claim ≡ claim_of q.ops q.case.problem → after.evals ≡ x ∷ [] → after.weights ≡ y ∷ [] →
-        x < q.ops.size → y < q.ops.size → IsBuiltCase q (record { claim = claim; wire = after.wire; challenges = rs; eval = x; weight = y })
+    pub built_case : (rs : List ℕ) (claim x y : ℕ) (grids : List (List ℕ × List ℕ)) → PlaysWhole b after rs → claim ≡ claim_of q.ops q.case.problem →
+        after.evals ≡ x ∷ [] → after.weights ≡ y ∷ [] → x < q.ops.size → y < q.ops.size → grids ≡ grids_for q →
+        IsBuiltCase q (record { claim = claim; wire = after.wire; challenges = rs; eval = x; weight = y; grids = grids })
     unfolding eval_of weight_value_of
-    built_case rs claim x y whole claimed ex ey low high =
+    built_case rs claim x y grids whole claimed ex ey low high grids_are =
         let p = q.case.problem in
         let played : IsPlayed setting_for start_for after rs =
         subst (λ t. IsPlayed setting_for t after rs) start (subst (λ s. IsPlayed s b.start after rs) setting whole.played) in
@@ -146,6 +148,7 @@ module _ (q : Asked) (ring : IsRing q.ops) (even : q.case.problem.basis ≡ eval
               (subst (λ m. after.evals ≡ entries_of m (bound_by evaluation p.order q.ops rs m (rows_of (entries_of p.variables p.table)))) none_left played.evals) ex low;
           weight = value_left (weights_of q.ops p) rs after.weights y drawn
               (subst (λ m. after.weights ≡ entries_of m (bound_by evaluation p.order q.ops rs m (rows_of (entries_of p.variables (weights_of q.ops p))))) none_left played.weights) ey high;
+          grids = grids_are;
         }
 
     -- that stopped for want of a witness
@@ -220,7 +223,7 @@ module _ (q : Asked) (ring : IsRing q.ops) (even : q.case.problem.basis ≡ eval
     witnesses_built = ap (λ (w : Wire). length w.witnesses) b.wire ∙ count_witnesses q.channel.bits b.rounds ∙ ap (witness_count q.channel.bits) b.count
 
     -- the report on it, where the statements are true
-    pub report_built : (strategy : Strategy) (end : Footing) (out : List ℕ) {grids : List (List ℕ × List ℕ)} → grids ≡ [] → false_claim_of q.ops q.case.problem ≡ None →
+    pub report_built : (strategy : Strategy) (end : Footing) (out : List ℕ) → k.grids ≡ grids_for (with_task q (build strategy)) → false_claim_of q.ops q.case.problem ≡ None →
         IsReplayed (next_claim q.case.problem.basis q.ops) q.channel (start_of q) end (given_rounds k.wire.messages k.wire.witnesses) out →
         IsAudited (with_task q (build strategy))
         (record {
@@ -234,10 +237,10 @@ module _ (q : Asked) (ring : IsRing q.ops) (even : q.case.problem.basis ≡ eval
             weight = k.weight;
             finding = holds;
           };
-          grids = grids;
+          grids = k.grids;
         }) end.history
     unfolding residual_of honest_of
-    report_built strategy end out none true_all replays =
+    report_built strategy end out grids true_all replays =
         let p = q.case.problem in
         let o = q.ops in
         let rs = challenges q.channel.rules q.channel.extension q.channel.bits (start_of q).history b.rounds in
@@ -259,7 +262,7 @@ module _ (q : Asked) (ring : IsRing q.ops) (even : q.case.problem.basis ≡ eval
                 (b.eval ∙ ap (eval_of o p) b.drawn) (b.weight ∙ ap (weight_value_of o p) b.drawn) finding;
           };
           no_luck = λ e. cc;
-          grids = none;
+          grids = grids;
         }
 
     -- a replay of it is broken off for want of memory alone

@@ -1,17 +1,36 @@
 -- What a refusal is caused by.
-use Rattle.std.proofs.Common.{◌≡◌, ℕ, zero, suc, true, false, List, [], ◌∷◌, ◌++◌, take, Option, Some, None, Result, Ok, Err, IfErr, inl, refl, sym, ◌∙◌, ap, subst, append_assoc}
+use Rattle.std.proofs.Common.{◌≡◌, ℕ, zero, suc, Bool, true, false, min, nat_lt, ◌==◌, ◌||◌, if◌then◌else◌, List, [], ◌∷◌, ◌++◌, take, Option, Some, None, Result, Ok, Err, IfErr, IsErrAnd, inl, refl, sym, ◌∙◌, ap, subst, append_assoc}
 use Rattle.std.proofs.lemmas.List.{append-nil}
 use Rattle.std.specs.List.{slice_get}
 use Rattle.sc_definitions.specs.declared.events.Event.{Event}
+use Rattle.sc_definitions.specs.Problem.{Problem}
+use Rattle.sc_definitions.specs.Statements.{Kind, equality, successor, powers, products, Statement}
+use Rattle.sc_table.specs.declared.strategy.Strategy.{Strategy}
+use Rattle.sc_table.specs.declared.strategy.Strategy.TheVariants.{Plain, Represented, SmallValue}
 use Rattle.sc_definitions.specs.Events.{Rules, Extension}
 use Rattle.sc_definitions.specs.Transcript.{Round, round_events, rounds_events}
 use Rattle.sc_definitions.specs.Replays.{round_passes, AllPass, given_rounds}
 use Rattle.sc_audit.specs.declared.report.Report.{Report}
 use Rattle.sc_audit.specs.declared.error.AuditError.{AuditError}
-use Rattle.sc_audit.specs.declared.error.AuditError.TheVariants.{Unbuilt, NoWitness, InvalidPowWitness, NoMemory}
-use Rattle.sc_audit.specs.declared.error.Form.TheVariants.{Mode, Groups, Verdict}
+use Rattle.sc_audit.specs.declared.error.AuditError.TheVariants.{Unbuilt, StrategyUnfit, NoWitness, InvalidPowWitness, NoMemory}
+use Rattle.sc_audit.specs.declared.error.FitFault.TheVariants.{Variables}
+use Rattle.sc_audit.specs.declared.error.Form.TheVariants.{Groups, Verdict}
 use Rattle.sc_audit.specs.Cases.{Task, build, check, Asked, start_of}
-use Rattle.sc_audit.specs.Refusals.{arity_of, shape_by, or_later, mode_refusal, shape_refusal, task_refusal, refusal_of}
+use Rattle.sc_audit.specs.Refusals.{
+  arity_of,
+  shape_by,
+  or_later,
+  most_small_variables,
+  variables_refusal,
+  unfit,
+  first_unfit,
+  unbuilt,
+  first_unbuilt,
+  strategy_refusal,
+  shape_refusal,
+  task_refusal,
+  refusal_of,
+}
 use Rattle.sc_audit.specs.Audits.{WitnessFails, IsCaused, Answers, IsRefusedBy, PassesAll, IsValid, MayMeet}
 
 -- nothing is no error
@@ -28,6 +47,12 @@ answers_as base number first first' q q' r h ef eq p =
 -- an error that is this one
 pub caused_err : (first : Option AuditError) (q : Asked) (h : List Event) (e e' : AuditError) → e ≡ e' → IsCaused first q h e' → IsCaused first q h e
 caused_err first q h e e' is p = subst (IsCaused first q h) (sym is) p
+
+-- one that is passed on
+pub answers_err : {F EF : Type 0} (base : F → ℕ) (number : EF → ℕ) (first : Option AuditError) (q : Asked) (r : Result (Report F EF) AuditError) (e : AuditError) (h : List Event) →
+    IsErrAnd r (λ x. x ≡ e) → IsCaused first q h e → Answers base number first q r h
+answers_err base number first q (Ok x) e h is p = elim is [ ]
+answers_err base number first q (Err x) e h is p = subst (IsCaused first q h) (sym is) p
 
 pub refused_err : (T : Type 0) (first : Option AuditError) (e e' : AuditError) → e ≡ e' → IsRefusedBy {T = T} first (Err e') → IsRefusedBy {T = T} first (Err e)
 refused_err T first e e' is p = subst (λ t. IsRefusedBy {T = T} first (Err t)) (sym is) p
@@ -46,14 +71,73 @@ refused_as T first e is = subst (λ f. IsRefusedBy {T = T} f (Err e)) (sym is) (
 -- ---- earlier refusals
 
 -- nothing earlier refuses: the refusal is that of what is done
-pub no_earlier : (q : Asked) → mode_refusal q.case.task ≡ None → shape_refusal q ≡ None → task_refusal q ≡ refusal_of q
-no_earlier q mode shape =
-    sym (ap (λ t. or_later t (or_later (shape_refusal q) (task_refusal q))) mode ∙ ap (λ t. or_later t (task_refusal q)) shape)
+pub no_earlier : (q : Asked) → shape_refusal q ≡ None → task_refusal q ≡ refusal_of q
+no_earlier q shape = sym (ap (λ t. or_later t (task_refusal q)) shape)
 
 -- a shape by other names of the number of rows and of the greatest difficulty
 pub shape_as : (rows rows' most most' bits n : ℕ) (first : Option AuditError) → rows ≡ rows' → most ≡ most' → shape_by (arity_of rows) most rows bits n ≡ first →
     shape_by (arity_of rows') most' rows' bits n ≡ first
 shape_as rows rows' most most' bits n first er em is = rw (er, em) at is
+
+-- ---- a strategy that does not fit
+
+-- a refusal of a strategy, or none
+abbrev IsUnfit : Option AuditError → Type 0
+IsUnfit None = Unit {0}
+IsUnfit (Some (StrategyUnfit fault)) = Unit {0}
+IsUnfit (Some (Unbuilt Groups)) = Unit {0}
+IsUnfit (Some e) = ⊥
+
+later_unfit : (a b : Option AuditError) → IsUnfit a → IsUnfit b → IsUnfit (or_later a b)
+later_unfit None b p q = q
+later_unfit (Some e) b p q = p
+
+number_unfit : (bound variables : ℕ) (b : Bool) → IsUnfit (if b then Some (StrategyUnfit (Variables variables bound)) else None)
+number_unfit bound variables true = tt
+number_unfit bound variables false = tt
+
+kind_unfit : (i : ℕ) (kind : Kind) → IsUnfit (unfit i kind)
+kind_unfit i (equality zs) = tt
+kind_unfit i (successor order [] zs) = tt
+kind_unfit i (successor order (x ∷ selector) zs) = tt
+kind_unfit i (powers z) = tt
+kind_unfit i (products zs) = tt
+
+first_is_unfit : (i : ℕ) (ss : List Statement) → IsUnfit (first_unfit i ss)
+unfolding first_unfit
+first_is_unfit i [] = tt
+first_is_unfit i (s ∷ ss) = later_unfit (unfit i s.kind) (first_unfit (suc i) ss) (kind_unfit i s.kind) (first_is_unfit (suc i) ss)
+
+kind_unbuilt : (kind : Kind) → IsUnfit (unbuilt kind)
+kind_unbuilt (equality zs) = tt
+kind_unbuilt (successor order selector zs) = tt
+kind_unbuilt (powers z) = tt
+kind_unbuilt (products zs) = tt
+
+first_is_unbuilt : (ss : List Statement) → IsUnfit (first_unbuilt ss)
+unfolding first_unbuilt
+first_is_unbuilt [] = tt
+first_is_unbuilt (s ∷ ss) = later_unfit (unbuilt s.kind) (first_unbuilt ss) (kind_unbuilt s.kind) (first_is_unbuilt ss)
+
+strategy_unfit : (p : Problem) (s : Strategy) → IsUnfit (strategy_refusal p s)
+strategy_unfit p Plain = tt
+strategy_unfit p Represented = tt
+strategy_unfit p (SmallValue variables) =
+    let bound = min p.variables most_small_variables in
+    later_unfit (variables_refusal bound variables) (or_later (first_unfit 0 p.statements) (first_unbuilt p.statements))
+    (number_unfit bound variables (variables == 0 || nat_lt bound variables))
+    (later_unfit (first_unfit 0 p.statements) (first_unbuilt p.statements) (first_is_unfit 0 p.statements) (first_is_unbuilt p.statements))
+
+caused_as : (first : Option AuditError) (q : Asked) (h : List Event) (e : AuditError) → IsUnfit (Some e) → first ≡ Some e → h ≡ q.history → IsCaused first q h e
+caused_as first q h (StrategyUnfit fault) fits is kept = (is, kept)
+caused_as first q h (Unbuilt Groups) fits is kept = (is, kept)
+caused_as first q h e fits is kept = absurd fits
+
+-- what a strategy does not take is refused, and leaves the history
+pub unfit_caused : (p : Problem) (s : Strategy) (rest : Option AuditError) (q : Asked) (h : List Event) (e : AuditError) → strategy_refusal p s ≡ Some e → h ≡ q.history →
+    IsCaused (or_later (strategy_refusal p s) rest) q h e
+unfit_caused p s rest q h e is kept =
+    caused_as _ q h e (subst IsUnfit is (strategy_unfit p s)) (ap (λ r. or_later r rest) is) kept
 
 -- ---- valid cases
 
@@ -83,8 +167,6 @@ not_failing q i h (check (Some given)) all fails =
 
 -- what a valid case may meet
 may_meet : (q : Asked) (h : List Event) (e : AuditError) → IsValid q → IsCaused (refusal_of q) q h e → MayMeet e
-may_meet q h (Unbuilt Mode) valid found = absurd (no_error _ (sym valid.fits ∙ found.0))
-may_meet q h (Unbuilt Groups) valid found = found
 may_meet q h (Unbuilt Verdict) valid found = tt
 may_meet q h (InvalidPowWitness i bits) valid found = absurd (not_failing q i h q.case.task valid.passes found.1)
 may_meet q h (NoWitness i) valid found = tt

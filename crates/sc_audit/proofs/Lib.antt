@@ -1,7 +1,11 @@
 pub mod ShapeLaws
+pub mod UnfitLaws
 pub mod FigureLaws
 pub mod Embedded
 pub mod BuiltReports
+pub mod DrawnLaws
+pub mod LeftPairs
+pub mod ClaimLaws
 pub mod CountLaws
 pub mod CheckedReports
 pub mod CauseLaws

@@ -5,15 +5,17 @@ use Rattle.sc_definitions.specs.Rounds.{next_claim}
 use Rattle.sc_definitions.specs.Transcript.{Round, messages_of, rounds_events, challenges, IsBuilt}
 use Rattle.sc_definitions.specs.Replays.{AllPass, given_rounds}
 use Rattle.sc_definitions.specs.Channels.{footing, FailsAt, NoWitnessFound, witnesses_of}
-use Rattle.sc_definitions.specs.Problem.{honest_of}
+use Rattle.sc_definitions.specs.Problem.{honest_of, weights_of}
+use Rattle.sc_definitions.specs.Grids.{grids_of}
+use Rattle.sc_table.specs.declared.strategy.Strategy.TheVariants.{SmallValue}
 use Rattle.sc_transcript.specs.declared.error.SumcheckError.{SumcheckError}
 use Rattle.sc_transcript.specs.declared.error.SumcheckError.TheVariants as replay
 use Rattle.sc_audit.specs.declared.report.Report.{Report}
 use Rattle.sc_audit.specs.declared.error.AuditError.{AuditError}
 use Rattle.sc_audit.specs.declared.error.AuditError.TheVariants.{Unbuilt, RoundCountMismatch, PowWitnessCountMismatch, InvalidPowWitness, NoWitness, NoMemory}
-use Rattle.sc_audit.specs.declared.error.Form.TheVariants.{Mode, Groups, Verdict}
+use Rattle.sc_audit.specs.declared.error.Form.TheVariants.{Verdict}
 use Rattle.sc_audit.specs.Cases.{Given, Task, build, check, Asked, start_of}
-use Rattle.sc_audit.specs.Refusals.{refusal_of}
+use Rattle.sc_audit.specs.Refusals.{refusal_of, task_refusal}
 use Rattle.sc_audit.specs.Figures.{Figures, Reported, holds, lucky, figures_of, report_in}
 
 -- The rounds that are played: those that are built, of which each sends what an honest prover sends, with the first witness that passes; or those of the
@@ -40,11 +42,20 @@ pub record IsPlayed (q : Asked) (figures : Figures) (h' : List Event) : Type 0 w
   pub history : h' ≡ (start_of q).history ++ rounds_events q.channel.extension q.channel.bits rounds
   pub is : figures ≡ figures_from q rounds
 
--- a report: the figures of its rounds, which are not lucky, and no grids, since no rounds are built from small values yet
+-- the grids of the first rounds that are built from small values, of the table and of the batched weights; none of what else is done
+abbrev pub grids_by : Asked → Task → List (List ℕ × List ℕ)
+grids_by q (build (SmallValue variables)) =
+    grids_of q.case.problem.order q.ops q.case.problem.variables q.case.problem.table (weights_of q.ops q.case.problem) variables
+grids_by q task = []
+
+abbrev pub grids_for : Asked → List (List ℕ × List ℕ)
+grids_for q = grids_by q q.case.task
+
+-- a report: the figures of its rounds, which are not lucky, and the grids of what is done
 pub record IsAudited (q : Asked) (report : Reported) (h' : List Event) : Type 0 where
   pub played : IsPlayed q report.figures h'
   pub no_luck : report.figures.finding ≡ lucky → ⊥
-  pub grids : report.grids ≡ []
+  pub grids : report.grids ≡ grids_for q
 
 -- rounds that leave the right residual although a statement is false
 pub record IsLucky (q : Asked) (h' : List Event) : Type 0 where
@@ -90,11 +101,8 @@ abbrev pub FindsNoWitness : Asked → Task → ℕ → Type 0
 FindsNoWitness q (build strategy) i = BuildStops q i
 FindsNoWitness q (check proof) i = ⊥
 
--- The answer e has its cause, and leaves h'. `first` is the refusal before a round is played, if there is one; it leaves the history as it was. What is
--- refused of groups alone is not answered.
+-- The answer e has its cause, and leaves h'. `first` is the refusal before a round is played, if there is one; it leaves the history as it was.
 abbrev pub IsCaused : Option AuditError → Asked → List Event → AuditError → Type 0
-IsCaused first q h' (Unbuilt Mode) = (first ≡ Some (Unbuilt Mode)) × (h' ≡ q.history)
-IsCaused first q h' (Unbuilt Groups) = ⊥
 IsCaused first q h' (Unbuilt Verdict) = IsLucky q h'
 IsCaused first q h' (InvalidPowWitness i bits) = (bits ≡ q.channel.bits) × WitnessFails q q.case.task i h'
 IsCaused first q h' (NoWitness i) = FindsNoWitness q q.case.task i × (h' ≡ q.history)
@@ -105,6 +113,10 @@ IsCaused first q h' e = (first ≡ Some e) × (h' ≡ q.history)
 abbrev pub Answers : {F EF : Type 0} → (F → ℕ) → (EF → ℕ) → Option AuditError → Asked → Result (Report F EF) AuditError → List Event → Type 0
 Answers base number first q (Ok r) h' = IsAudited q (report_in base number r) h'
 Answers base number first q (Err e) h' = IsCaused first q h' e
+
+-- the same where the shape fits, so that this is the refusal of what is done
+abbrev pub AnswersTask : {F EF : Type 0} → (F → ℕ) → (EF → ℕ) → Asked → Result (Report F EF) AuditError → List Event → Type 0
+AnswersTask base number q result h' = Answers base number (task_refusal q) q result h'
 
 -- a refusal, if there is one, is answered, want of memory aside
 abbrev pub IsRefusedBy : {T : Type 0} → Option AuditError → Result T AuditError → Type 0
@@ -130,8 +142,6 @@ pub record IsValid (q : Asked) : Type 0 where
 
 -- what can keep a valid case from its report: want of memory; a round of a build without a witness; a verdict that is not built yet
 abbrev pub MayMeet : AuditError → Type 0
-MayMeet (Unbuilt Mode) = ⊥
-MayMeet (Unbuilt Groups) = ⊥
 MayMeet (Unbuilt Verdict) = Unit {0}
 MayMeet (NoWitness i) = Unit {0}
 MayMeet NoMemory = Unit {0}

@@ -7,11 +7,12 @@ use Rattle.sc_definitions.specs.Standings.{entries_of}
 use Rattle.sc_definitions.specs.Problem.{Problem, weights_of, claim_of, eval_of, weight_value_of}
 use Rattle.sc_transcript.specs.Data.{wire_in}
 use Rattle.sc_rounds.specs.Provers.{Shown}
+use Rattle.sc_svo.specs.Grids.{grids_shown}
 use Rattle.sc_audit.specs.declared.error.AuditError.{AuditError}
 use Rattle.sc_audit.specs.declared.error.AuditError.TheVariants.{NoWitness, NoMemory}
 use Rattle.sc_audit.specs.declared.strategies.Built.{Built}
 use Rattle.sc_audit.specs.Cases.{build, Asked, with_task, start_of}
-use Rattle.sc_audit.specs.Audits.{AreRounds, BuildStops}
+use Rattle.sc_audit.specs.Audits.{AreRounds, BuildStops, grids_for}
 use Rattle.sc_table.specs.declared.strategy.Strategy.TheVariants.{Plain}
 
 -- a build of it; with what strategy makes no difference to its rounds
@@ -28,13 +29,15 @@ prover_for o p = record {
   claim = claim_of o p;
 }
 
--- what a build keeps: the claim that it began with, what it has put on the wire, its challenges, and the values of the table and of the weights there
+-- what a build keeps: the claim that it began with, what it has put on the wire, its challenges, the values of the table and of the weights there, and
+-- the grids of its small-value rounds
 pub record Kept : Type 0 where
   pub claim : ℕ
   pub wire : Wire
   pub challenges : List ℕ
   pub eval : ℕ
   pub weight : ℕ
+  pub grids : List (List ℕ × List ℕ)
 
 abbrev pub kept_in : {F EF : Type 0} → (F → ℕ) → (EF → ℕ) → Built F EF → Kept
 kept_in base number b = record {
@@ -43,9 +46,10 @@ kept_in base number b = record {
   challenges = map number b.challenges;
   eval = number b.eval;
   weight = number b.weight;
+  grids = grids_shown number b.grids;
 }
 
--- They are the rounds that an honest prover builds, with the case's claim and its values at their challenges.
+-- They are the rounds that an honest prover builds, with the case's claim, its values at their challenges, and its grids.
 pub record IsBuiltCase (q : Asked) (b : Kept) : Type 0 where
   pub rounds : List Round
   pub built : AreRounds (as_build q) (build Plain) rounds
@@ -55,6 +59,7 @@ pub record IsBuiltCase (q : Asked) (b : Kept) : Type 0 where
   pub claim : b.claim ≡ claim_of q.ops q.case.problem
   pub eval : b.eval ≡ eval_of q.ops q.case.problem b.challenges
   pub weight : b.weight ≡ weight_value_of q.ops q.case.problem b.challenges
+  pub grids : b.grids ≡ grids_for q
 
 -- what a build leaves, by its result
 abbrev pub LeavesBuild : {F EF : Type 0} → (F → ℕ) → (EF → ℕ) → Asked → Result (Built F EF) AuditError → Type 0

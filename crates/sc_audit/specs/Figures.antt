@@ -5,7 +5,7 @@ use Rattle.sc_definitions.specs.Ring.{Ops, ◌*⟨◌⟩◌}
 use Rattle.sc_definitions.specs.Statements.{first_false_claim}
 use Rattle.sc_definitions.specs.Problem.{Problem, claim_of, residual_of, eval_of, weight_value_of}
 use Rattle.sc_transcript.specs.Data.{messages_in, witnesses_in}
-use Rattle.sc_svo.specs.declared.grid.Grid.{Grid}
+use Rattle.sc_svo.specs.Grids.{grids_shown}
 use Rattle.sc_audit.specs.declared.report.Report.{Report}
 use Rattle.sc_audit.specs.declared.report.Verdict.{Verdict}
 use Rattle.sc_audit.specs.declared.report.Verdict.TheVariants.{Holds, Refuted, LuckyBatch, LuckyRound}
@@ -66,10 +66,6 @@ pub record Reported : Type 0 where
   pub figures : Figures
   pub grids : List (List ℕ × List ℕ)
 
--- the two lists of a grid
-abbrev pub grid_in : {EF : Type 0} → (EF → ℕ) → Grid EF → List ℕ × List ℕ
-grid_in number g = (map number g.zero, map number g.infinity)
-
 -- what a report shows
 abbrev pub report_in : {F EF : Type 0} → (F → ℕ) → (EF → ℕ) → Report F EF → Reported
 report_in base number r = record {
@@ -83,5 +79,5 @@ report_in base number r = record {
     weight = number r.weight;
     finding = finding_in r.verdict;
   };
-  grids = map (grid_in number) r.grids.rounds;
+  grids = grids_shown number r.grids;
 }

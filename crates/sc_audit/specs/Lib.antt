@@ -5,5 +5,6 @@ pub mod Refusals
 pub mod Figures
 pub mod Audits
 pub mod Built
+pub mod SmallRounds
 pub mod Checked
 pub mod Laws

@@ -1,13 +1,16 @@
 -- What is refused before a round is played, in the order in which it is tested.
-use Rattle.std.specs.Prelude.{ℕ, zero, suc, ◌^◌, ◌==◌, length, nat_lt, if◌then◌else◌, Option, Some, None, Result, Ok, Err}
+use Rattle.std.specs.Prelude.{ℕ, zero, suc, ◌-◌, ◌^◌, ◌==◌, ◌||◌, List, [], ◌∷◌, length, min, nat_lt, if◌then◌else◌, Option, Some, None, Result, Ok, Err}
 use Rattle.sc_definitions.specs.declared.false_claim.FalseClaim.{FalseClaim as FalseStatement}
-use Rattle.sc_definitions.specs.Statements.{first_false_claim}
+use Rattle.sc_definitions.specs.Statements.{Kind, equality, successor, powers, products, Statement, first_false_claim}
+use Rattle.sc_definitions.specs.Problem.{Problem}
 use Rattle.sc_statements.specs.FalseClaims.{capped}
 use Rattle.sc_transcript.specs.Data.{witness_count}
+use Rattle.sc_table.specs.declared.strategy.Strategy.{Strategy}
 use Rattle.sc_table.specs.declared.strategy.Strategy.TheVariants.{Plain, Represented, SmallValue}
 use Rattle.sc_audit.specs.declared.error.AuditError.{AuditError}
-use Rattle.sc_audit.specs.declared.error.AuditError.TheVariants.{Unbuilt, JobShape, FalseClaim, MissingSumcheckData, RoundCountMismatch, PowWitnessCountMismatch}
-use Rattle.sc_audit.specs.declared.error.Form.TheVariants.{Mode}
+use Rattle.sc_audit.specs.declared.error.AuditError.TheVariants.{Unbuilt, JobShape, StrategyUnfit, FalseClaim, MissingSumcheckData, RoundCountMismatch, PowWitnessCountMismatch}
+use Rattle.sc_audit.specs.declared.error.FitFault.TheVariants.{Variables, Select, Selector}
+use Rattle.sc_audit.specs.declared.error.Form.TheVariants.{Groups}
 use Rattle.sc_audit.specs.declared.error.ShapeFault.TheVariants.{TableLength, Difficulty, Arity}
 use Rattle.sc_audit.specs.Cases.{Given, Task, build, check, Asked}
 
@@ -16,12 +19,7 @@ abbrev pub or_later : Option AuditError → Option AuditError → Option AuditEr
 or_later (Some e) later = Some e
 or_later None later = later
 
--- a strategy that is not built yet
-abbrev pub mode_refusal : Task → Option AuditError
-mode_refusal (build Plain) = None
-mode_refusal (build Represented) = None
-mode_refusal (build (SmallValue variables)) = Some (Unbuilt Mode)
-mode_refusal (check proof) = None
+-- ---- the shape
 
 -- the first of the `count` numbers from n on that 2 has to be raised to
 abbrev pub exponent_from : ℕ → ℕ → ℕ → Option ℕ
@@ -47,6 +45,55 @@ shape_by (Some n) max_bits rows bits variables =
 abbrev pub shape_refusal : Asked → Option AuditError
 shape_refusal q = shape_by (arity_of q.case.rows) q.channel.rules.max_bits q.case.rows q.channel.bits q.case.problem.variables
 
+-- ---- the strategy
+
+-- the greatest number of variables that small-value rounds bind
+abbrev pub most_small_variables : ℕ
+most_small_variables = 12
+
+-- a statement's number stands still at the last number of its type
+abbrev pub told_number : ℕ → ℕ
+told_number i = min i (2 ^ 64 - 1)
+
+-- no variable, or more than this bound
+abbrev pub variables_refusal : ℕ → ℕ → Option AuditError
+variables_refusal bound variables = if variables == 0 || nat_lt bound variables then Some (StrategyUnfit (Variables variables bound)) else None
+
+-- statement number i, where small-value rounds take none of its kind: a select, or a successor with a selector
+abbrev pub unfit : ℕ → Kind → Option AuditError
+unfit i (equality zs) = None
+unfit i (successor order [] zs) = None
+unfit i (successor order (x ∷ selector) zs) = Some (StrategyUnfit (Selector (told_number i)))
+unfit i (powers z) = Some (StrategyUnfit (Select (told_number i)))
+unfit i (products zs) = Some (StrategyUnfit (Select (told_number i)))
+
+-- the first of them, of statements that are numbered from i on
+unfoldable pub first_unfit : ℕ → List Statement → Option AuditError
+first_unfit i [] = None
+first_unfit i (s ∷ ss) = or_later (unfit i s.kind) (first_unfit (suc i) ss)
+
+-- a kind that small-value rounds are to take, and that is not built yet
+abbrev pub unbuilt : Kind → Option AuditError
+unbuilt (successor order selector zs) = Some (Unbuilt Groups)
+unbuilt kind = None
+
+-- the first of them
+unfoldable pub first_unbuilt : List Statement → Option AuditError
+first_unbuilt [] = None
+first_unbuilt (s ∷ ss) = or_later (unbuilt s.kind) (first_unbuilt ss)
+
+-- what small-value rounds for so many of n variables do not take: their number, or else a statement that does not fit, or else one that is not built
+abbrev pub small_refusal : ℕ → List Statement → ℕ → Option AuditError
+small_refusal n ss variables = or_later (variables_refusal (min n most_small_variables) variables) (or_later (first_unfit 0 ss) (first_unbuilt ss))
+
+-- what a strategy does not take of a problem
+abbrev pub strategy_refusal : Problem → Strategy → Option AuditError
+strategy_refusal p Plain = None
+strategy_refusal p Represented = None
+strategy_refusal p (SmallValue variables) = small_refusal p.variables p.statements variables
+
+-- ---- what is done
+
 abbrev pub false_refusal : Option FalseStatement → Option AuditError
 false_refusal (Some s) = Some (FalseClaim s.statement s.claimed s.actual)
 false_refusal None = None
@@ -62,9 +109,11 @@ count_refusal n bits g =
     then (if length g.witnesses == witness_count bits n then None else Some (PowWitnessCountMismatch (witness_count bits n) (length g.witnesses)))
     else Some (RoundCountMismatch n (length g.messages))
 
--- a build's first false statement; a proof's absence, or its counts
+-- what a build's strategy does not take, or else its first false statement; a proof's absence, or its counts
 abbrev pub refusal_for : Asked → Task → Option AuditError
-refusal_for q (build strategy) = false_refusal (capped (first_false_claim q.ops q.case.problem.variables q.case.problem.table 0 q.case.problem.statements))
+refusal_for q (build strategy) =
+    or_later (strategy_refusal q.case.problem strategy)
+    (false_refusal (capped (first_false_claim q.ops q.case.problem.variables q.case.problem.table 0 q.case.problem.statements)))
 refusal_for q (check None) = missing_refusal q.case.problem.variables
 refusal_for q (check (Some given)) = count_refusal q.case.problem.variables q.channel.bits given
 
@@ -73,7 +122,7 @@ task_refusal q = refusal_for q q.case.task
 
 -- the first refusal before a round is played, if there is one
 abbrev pub refusal_of : Asked → Option AuditError
-refusal_of q = or_later (mode_refusal q.case.task) (or_later (shape_refusal q) (task_refusal q))
+refusal_of q = or_later (shape_refusal q) (task_refusal q)
 
 -- the refusal that a result is, if it is one
 abbrev pub refusal_in : {T : Type 0} → Result T AuditError → Option AuditError

@@ -1,19 +1,18 @@
 //! The one call.
 ghost use Rattle.std.specs.Prelude.{◌≡◌, IfOk, IfErr};
 ghost use Rattle.sc_audit.specs.Cases.{asked_of, task_in};
-ghost use Rattle.sc_audit.specs.Refusals.{refusal_of, mode_refusal, refusal_in};
+ghost use Rattle.sc_audit.specs.Refusals.{refusal_of};
 ghost use Rattle.sc_audit.specs.Figures.{report_in};
 ghost use Rattle.sc_audit.specs.Audits.{Answers, IsRefusedBy, HoldsIfBuilt, IsValid, MayMeet};
 
 use crate::building::build;
 use crate::checking::check;
-use crate::error::{AuditError, Form};
+use crate::error::AuditError;
 use crate::job::{Job, Mode};
 use crate::report::Report;
 use crate::shape::FittingJob;
 use sc_challenger::Challenger;
 use sc_field::{ExtensionField, Field, IntoTranscriptField};
-use sc_table::Strategy;
 use std::alloc::Global;
 
 /// Builds the rounds of a job, or checks those of its proof, and reports on them. There is no condition on the job: what does not fit is refused, in
@@ -43,20 +42,9 @@ pub fn audit<F: Field, EF: ExtensionField<F>, R: IntoTranscriptField<EF>, C: Cha
     // A valid job is answered.
     ensures answered { IsValid (asked_of job.now (C.rules challenger.old) (C.history challenger.old)) → IfErr result MayMeet }
 {
-    check_mode(&job.mode)?;
     let fitting = FittingJob::of(job, challenger.max_bits())?;
     match &job.mode {
         Mode::Build(strategy) => build::<F, EF, R, C>(alloc, &fitting, *strategy, challenger),
         Mode::Check(proof) => check(alloc, &fitting, proof, challenger),
-    }
-}
-
-// Refuses a strategy that is not built yet.
-fn check_mode<F: Field, EF: ExtensionField<F>>(mode: &Mode<F, EF>) -> Result<(), AuditError>
-    ensures { mode_refusal (task_in F.number EF.number mode.now) ≡ refusal_in result }
-{
-    match mode {
-        Mode::Build(Strategy::SmallValue { .. }) => Err(AuditError::Unbuilt(Form::Mode)),
-        Mode::Build(_) | Mode::Check(_) => Ok(()),
     }
 }

@@ -1,24 +1,26 @@
 //! Rounds that are built.
 ghost use Rattle.std.specs.Prelude.{◌≡◌, ◌≤◌, IfOk, None};
-ghost use Rattle.sc_audit.specs.Cases.{asked_of, asked_to, problem_in, build};
-ghost use Rattle.sc_audit.specs.Fitting.{job_in};
-ghost use Rattle.sc_audit.specs.Refusals.{task_refusal};
+ghost use Rattle.sc_audit.specs.Cases.{asked_to, build};
+ghost use Rattle.sc_audit.specs.Fitting.{job_in, stated_in};
+ghost use Rattle.sc_audit.specs.Refusals.{strategy_refusal, task_refusal};
 ghost use Rattle.sc_audit.specs.Figures.{false_claim_of};
-ghost use Rattle.sc_audit.specs.Audits.{Answers, IsRefusedBy};
-ghost use Rattle.sc_audit.specs.Built.{IsBuiltCase, kept_in};
+ghost use Rattle.sc_audit.specs.Audits.{Answers, AnswersTask, IsRefusedBy};
+ghost use Rattle.sc_audit.specs.Built.{IsBuiltCase, LeavesBuild, kept_in};
 
 use crate::common::refusal;
 use crate::error::AuditError;
+use crate::fit::check_strategy;
 use crate::report::{Report, Verdict};
 use crate::shape::FittingJob;
+use crate::small_value::small_value;
 use crate::strategies::{Built, plain, represented};
 use sc_challenger::Challenger;
 use sc_field::{ExtensionField, Field, IntoTranscriptField};
-use sc_svo::Grids;
 use sc_table::{Basis, Strategy};
 use std::alloc::Global;
 
-// Builds the rounds of a job of the right shape, unless a statement is false.
+// Builds the rounds of a job of the right shape, unless the strategy does not fit it or a statement
+// is false.
 pub(crate) fn build<F: Field, EF: ExtensionField<F>, R: IntoTranscriptField<EF>, C: Challenger<F>>(
     alloc: Global,
     fitting: &FittingJob<'_, F, EF>,
@@ -27,12 +29,15 @@ pub(crate) fn build<F: Field, EF: ExtensionField<F>, R: IntoTranscriptField<EF>,
 ) -> Result<Report<F, EF>, AuditError>
     requires { (job_in fitting.now).pow_bits ≤ (C.rules challenger.old).max_bits }
     ensures rules { C.rules challenger.new ≡ C.rules challenger.old }
-    ensures answers { (s : Strategy) → Answers F.number EF.number
-        (task_refusal (asked_to (job_in fitting.now) (build s) (C.rules challenger.old) (C.history challenger.old)))
-        (asked_to (job_in fitting.now) (build s) (C.rules challenger.old) (C.history challenger.old)) result (C.history challenger.new) }
-    ensures refused { (s : Strategy) → IsRefusedBy (task_refusal (asked_to (job_in fitting.now) (build s) (C.rules challenger.old) (C.history challenger.old))) result }
+    ensures answers { AnswersTask F.number EF.number
+        (asked_to (job_in fitting.now) (build strategy) (C.rules challenger.old)
+        (C.history challenger.old)) result (C.history challenger.new) }
+    ensures refused { IsRefusedBy (task_refusal
+        (asked_to (job_in fitting.now) (build strategy) (C.rules challenger.old)
+        (C.history challenger.old))) result }
     ensures holds { IfOk result (λ r. r.verdict ≡ Verdict.Holds) }
 {
+    check_strategy(fitting, strategy)?;
     if let Some(fault) = fitting.job.constraint.first_false(&fitting.job.table) {
         return Err(AuditError::FalseClaim {
             statement: fault.statement,
@@ -43,7 +48,8 @@ pub(crate) fn build<F: Field, EF: ExtensionField<F>, R: IntoTranscriptField<EF>,
     play::<F, EF, R, C>(alloc, fitting, strategy, challenger)
 }
 
-// Builds the rounds of a job whose statements are true on a copy of the challenger, and replays them on the challenger itself.
+// Builds the rounds of a job whose statements are true and fit on a copy of the challenger, and
+// replays them on the challenger itself.
 fn play<F: Field, EF: ExtensionField<F>, R: IntoTranscriptField<EF>, C: Challenger<F>>(
     alloc: Global,
     fitting: &FittingJob<'_, F, EF>,
@@ -51,20 +57,42 @@ fn play<F: Field, EF: ExtensionField<F>, R: IntoTranscriptField<EF>, C: Challeng
     challenger: &mut C,
 ) -> Result<Report<F, EF>, AuditError>
     requires difficulty { (job_in fitting.now).pow_bits ≤ (C.rules challenger.old).max_bits }
-    requires all_true { false_claim_of EF.ops (problem_in (job_in fitting.now)) ≡ None }
+    requires all_true { false_claim_of EF.ops (stated_in fitting.now) ≡ None }
+    requires fits { strategy_refusal (stated_in fitting.now) strategy ≡ None }
     ensures rules { C.rules challenger.new ≡ C.rules challenger.old }
-    ensures answers { (s : Strategy) → Answers F.number EF.number None (asked_to (job_in fitting.now) (build s) (C.rules challenger.old) (C.history challenger.old)) result (C.history challenger.new) }
+    ensures answers { Answers F.number EF.number None
+        (asked_to (job_in fitting.now) (build strategy) (C.rules challenger.old)
+        (C.history challenger.old)) result (C.history challenger.new) }
     ensures holds { IfOk result (λ r. r.verdict ≡ Verdict.Holds) }
 {
-    let built = match strategy {
-        Strategy::Represented => represented::<F, EF, R, C>(alloc, fitting, challenger)?,
-        // a small-value build was refused before
-        Strategy::Plain | Strategy::SmallValue { .. } => plain(alloc, fitting, challenger)?,
-    };
+    let built = rounds_by::<F, EF, R, C>(alloc, fitting, strategy, challenger)?;
     replay(alloc, fitting, built, challenger)
 }
 
-// Replays the rounds that were built of a job on the challenger itself, and reports on them.
+// Builds the rounds of a job whose statements are true and fit, in the transcript of a copy of the
+// challenger.
+fn rounds_by<F: Field, EF: ExtensionField<F>, R: IntoTranscriptField<EF>, C: Challenger<F>>(
+    alloc: Global,
+    fitting: &FittingJob<'_, F, EF>,
+    strategy: Strategy,
+    challenger: &C,
+) -> Result<Built<F, EF>, AuditError>
+    requires difficulty { (job_in fitting.now).pow_bits ≤ (C.rules challenger.now).max_bits }
+    requires all_true { false_claim_of EF.ops (stated_in fitting.now) ≡ None }
+    requires fits { strategy_refusal (stated_in fitting.now) strategy ≡ None }
+    ensures { LeavesBuild F.number EF.number
+        (asked_to (job_in fitting.now) (build strategy) (C.rules challenger.now)
+        (C.history challenger.now)) result }
+{
+    match strategy {
+        Strategy::Plain => plain(alloc, fitting, challenger),
+        Strategy::Represented => represented::<F, EF, R, C>(alloc, fitting, challenger),
+        Strategy::SmallValue { variables } => small_value(alloc, fitting, variables, challenger),
+    }
+}
+
+// Replays the rounds that were built of a job by some strategy on the challenger itself, and
+// reports on them.
 fn replay<F: Field, EF: ExtensionField<F>, C: Challenger<F>>(
     alloc: Global,
     fitting: &FittingJob<'_, F, EF>,
@@ -72,10 +100,14 @@ fn replay<F: Field, EF: ExtensionField<F>, C: Challenger<F>>(
     challenger: &mut C,
 ) -> Result<Report<F, EF>, AuditError>
     requires difficulty { (job_in fitting.now).pow_bits ≤ (C.rules challenger.old).max_bits }
-    requires all_true { false_claim_of EF.ops (problem_in (job_in fitting.now)) ≡ None }
-    requires built { IsBuiltCase (asked_of (job_in fitting.now) (C.rules challenger.old) (C.history challenger.old)) (kept_in F.number EF.number built) }
+    requires all_true { false_claim_of EF.ops (stated_in fitting.now) ≡ None }
     ensures rules { C.rules challenger.new ≡ C.rules challenger.old }
-    ensures answers { (s : Strategy) → Answers F.number EF.number None (asked_to (job_in fitting.now) (build s) (C.rules challenger.old) (C.history challenger.old)) result (C.history challenger.new) }
+    ensures answers { (s : Strategy) → IsBuiltCase
+        (asked_to (job_in fitting.now) (build s) (C.rules challenger.old)
+        (C.history challenger.old)) (kept_in F.number EF.number built) →
+        Answers F.number EF.number None
+        (asked_to (job_in fitting.now) (build s) (C.rules challenger.old)
+        (C.history challenger.old)) result (C.history challenger.new) }
     ensures holds { IfOk result (λ r. r.verdict ≡ Verdict.Holds) }
 {
     let Built {
@@ -84,6 +116,7 @@ fn replay<F: Field, EF: ExtensionField<F>, C: Challenger<F>>(
         challenges,
         eval,
         weight,
+        grids,
     } = built;
     let mut residual = claim;
     if let Err(error) = rounds.verify_rounds(
@@ -103,7 +136,7 @@ fn replay<F: Field, EF: ExtensionField<F>, C: Challenger<F>>(
         residual,
         eval,
         weight,
-        grids: Grids::empty(alloc),
+        grids,
         verdict: Verdict::Holds,
     })
 }

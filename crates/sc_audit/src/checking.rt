@@ -5,11 +5,11 @@ ghost use Rattle.sc_definitions.specs.Tables.{point_of};
 ghost use Rattle.sc_definitions.specs.Problem.{claim_of, residual_of};
 ghost use Rattle.sc_table.specs.Strategy.{order_of};
 ghost use Rattle.sc_transcript.specs.Data.{messages_in, witnesses_in};
-ghost use Rattle.sc_audit.specs.Cases.{asked_to, given_in, problem_in, check};
-ghost use Rattle.sc_audit.specs.Fitting.{job_in};
+ghost use Rattle.sc_audit.specs.Cases.{asked_to, given_in, check};
+ghost use Rattle.sc_audit.specs.Fitting.{job_in, stated_in};
 ghost use Rattle.sc_audit.specs.Refusals.{task_refusal};
 ghost use Rattle.sc_audit.specs.Figures.{report_in, figures_of, finding_by, finding_in, false_claim_of, lucky};
-ghost use Rattle.sc_audit.specs.Audits.{Answers, IsRefusedBy};
+ghost use Rattle.sc_audit.specs.Audits.{AnswersTask, IsRefusedBy};
 ghost use Rattle.sc_audit.specs.Checked.{LeavesReport, LeavesVerdict};
 
 use crate::common::refusal;
@@ -32,8 +32,7 @@ pub(crate) fn check<F: Field, EF: ExtensionField<F>, C: Challenger<F>>(
 ) -> Result<Report<F, EF>, AuditError>
     requires { (job_in fitting.now).pow_bits ≤ (C.rules challenger.old).max_bits }
     ensures rules { C.rules challenger.new ≡ C.rules challenger.old }
-    ensures answers { Answers F.number EF.number
-        (task_refusal (asked_to (job_in fitting.now) (check (option_map (given_in F.number EF.number) proof.now)) (C.rules challenger.old) (C.history challenger.old)))
+    ensures answers { AnswersTask F.number EF.number
         (asked_to (job_in fitting.now) (check (option_map (given_in F.number EF.number) proof.now)) (C.rules challenger.old) (C.history challenger.old)) result (C.history challenger.new) }
     ensures refused { IsRefusedBy (task_refusal (asked_to (job_in fitting.now) (check (option_map (given_in F.number EF.number) proof.now)) (C.rules challenger.old) (C.history challenger.old))) result }
 {
@@ -51,8 +50,7 @@ fn check_none<F: Field, EF: ExtensionField<F>, C: Challenger<F>>(
 ) -> Result<Report<F, EF>, AuditError>
     requires { (job_in fitting.now).pow_bits ≤ (C.rules challenger.old).max_bits }
     ensures rules { C.rules challenger.new ≡ C.rules challenger.old }
-    ensures answers { Answers F.number EF.number
-        (task_refusal (asked_to (job_in fitting.now) (check None) (C.rules challenger.old) (C.history challenger.old)))
+    ensures answers { AnswersTask F.number EF.number
         (asked_to (job_in fitting.now) (check None) (C.rules challenger.old) (C.history challenger.old)) result (C.history challenger.new) }
     ensures refused { IsRefusedBy (task_refusal (asked_to (job_in fitting.now) (check None) (C.rules challenger.old) (C.history challenger.old))) result }
 {
@@ -74,8 +72,7 @@ fn check_rounds<F: Field, EF: ExtensionField<F>, C: Challenger<F>>(
 ) -> Result<Report<F, EF>, AuditError>
     requires { (job_in fitting.now).pow_bits ≤ (C.rules challenger.old).max_bits }
     ensures rules { C.rules challenger.new ≡ C.rules challenger.old }
-    ensures answers { Answers F.number EF.number
-        (task_refusal (asked_to (job_in fitting.now) (check (Some (given_in F.number EF.number proof.now))) (C.rules challenger.old) (C.history challenger.old)))
+    ensures answers { AnswersTask F.number EF.number
         (asked_to (job_in fitting.now) (check (Some (given_in F.number EF.number proof.now))) (C.rules challenger.old) (C.history challenger.old)) result (C.history challenger.new) }
     ensures refused { IsRefusedBy (task_refusal (asked_to (job_in fitting.now) (check (Some (given_in F.number EF.number proof.now))) (C.rules challenger.old) (C.history challenger.old))) result }
 {
@@ -106,10 +103,10 @@ fn report_on<F: Field, EF: ExtensionField<F>>(
     residual: EF,
     challenges: Point<EF>,
 ) -> Result<Report<F, EF>, AuditError>
-    requires count { length challenges ≡ (problem_in (job_in fitting.now)).variables }
-    requires claim { EF.number claim ≡ claim_of EF.ops (problem_in (job_in fitting.now)) }
-    requires residual { EF.number residual ≡ residual_of EF.ops (problem_in (job_in fitting.now)) (messages_in EF.number proof.now) (map EF.number challenges) }
-    ensures { LeavesReport F.number EF.number (figures_of EF.ops (problem_in (job_in fitting.now))
+    requires count { length challenges ≡ (stated_in fitting.now).variables }
+    requires claim { EF.number claim ≡ claim_of EF.ops (stated_in fitting.now) }
+    requires residual { EF.number residual ≡ residual_of EF.ops (stated_in fitting.now) (messages_in EF.number proof.now) (map EF.number challenges) }
+    ensures { LeavesReport F.number EF.number (figures_of EF.ops (stated_in fitting.now)
         (messages_in EF.number proof.now) (witnesses_in F.number proof.now) (map EF.number challenges)) result }
 {
     let job = fitting.job;
@@ -136,7 +133,7 @@ fn verdict_on<F: Field, EF: ExtensionField<F>>(
     fitting: &FittingJob<'_, F, EF>,
     matched: bool,
 ) -> Result<Verdict<EF>, AuditError>
-    ensures { LeavesVerdict (finding_by matched (false_claim_of EF.ops (problem_in (job_in fitting.now)))) result }
+    ensures { LeavesVerdict (finding_by matched (false_claim_of EF.ops (stated_in fitting.now))) result }
 {
     if !matched {
         return Ok(Verdict::Refuted);

@@ -3,7 +3,7 @@ use sc_field::NoMemory;
 use thiserror::Error;
 
 /// Why there is no report. The refusals are tested in this order, but that [`AuditError::NoMemory`] may come before any other, and that
-/// [`AuditError::Unbuilt`] has a place for each of its forms. Rounds and statements are counted from 0.
+/// [`AuditError::Unbuilt`] has a place for each of its forms. Rounds and statements are counted from 0; a statement's number stands still at 2^64 - 1.
 #[derive(Clone, Copy, Debug, PartialEq, Eq, Error)]
 pub enum AuditError {
     /// Table, difficulty and statements do not fit together.
@@ -50,7 +50,7 @@ pub enum AuditError {
     /// A call wanted more memory than there was.
     #[error("out of memory")]
     NoMemory,
-    /// The job asks for something that is not built yet. A mode is refused before everything else, a verdict behind everything else.
+    /// The job asks for something that is not built yet. Groups are refused behind [`AuditError::StrategyUnfit`], a verdict behind everything else.
     #[error("the job asks for what is not built yet: {0}")]
     Unbuilt(Form),
 }
@@ -69,7 +69,7 @@ pub enum ShapeFault {
     Arity { expected: usize, actual: usize },
 }
 
-/// Why a small-value strategy does not fit a job.
+/// Why a small-value strategy does not fit a job. They are tested in this order, but of a select and a selector the first statement is told.
 #[derive(Clone, Copy, Debug, PartialEq, Eq, Error)]
 pub enum FitFault {
     /// It is asked for no variable, or for more than the table has or than 12.
@@ -86,10 +86,7 @@ pub enum FitFault {
 /// What is not built yet.
 #[derive(Clone, Copy, Debug, PartialEq, Eq, Error)]
 pub enum Form {
-    /// The strategy of a build.
-    #[error("the strategy")]
-    Mode,
-    /// Successor statements in rounds on small values. It is not answered yet, since no such rounds are built: they are refused for their mode.
+    /// Successor statements in rounds on small values.
     #[error("the statements of a group")]
     Groups,
     /// The verdict on rounds whose residual is right although a statement is false.

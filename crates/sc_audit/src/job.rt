@@ -9,7 +9,8 @@ use sc_table::{Strategy, VariableOrder};
 /// What is done with a table and its statements.
 #[derive(Drop)]
 pub enum Mode<F, EF> {
-    /// The rounds are built. Each statement has to be true of the table.
+    /// The rounds are built. Each statement has to be true of the table, and the strategy has to
+    /// fit the statements.
     Build(Strategy),
     /// The rounds of a proof are checked. A table without a variable needs no proof.
     Check(Option<SumcheckData<F, EF>>),

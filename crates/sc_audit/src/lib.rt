@@ -8,10 +8,12 @@ mod building;
 mod checking;
 mod common;
 mod error;
+mod fit;
 mod job;
 pub mod laws;
 mod report;
 mod shape;
+mod small_value;
 mod strategies;
 
 pub use audits::audit;

@@ -4,8 +4,9 @@ ghost use Rattle.sc_definitions.specs.declared.events.Event.{Event};
 ghost use Rattle.sc_definitions.specs.Events.{Rules};
 ghost use Rattle.sc_rounds.specs.ProverViews.{shown_by, image_shown_by};
 ghost use Rattle.sc_rounds.specs.BaseViews.{base_shown};
-ghost use Rattle.sc_audit.specs.Cases.{asked_of, problem_in};
-ghost use Rattle.sc_audit.specs.Fitting.{job_in};
+ghost use Rattle.sc_table.specs.declared.strategy.Strategy.TheVariants.{Plain, Represented};
+ghost use Rattle.sc_audit.specs.Cases.{asked_to, build};
+ghost use Rattle.sc_audit.specs.Fitting.{job_in, stated_in};
 ghost use Rattle.sc_audit.specs.Figures.{false_claim_of};
 ghost use Rattle.sc_audit.specs.Built.{LeavesBuild, prover_for};
 
@@ -15,11 +16,12 @@ use crate::shape::FittingJob;
 use sc_challenger::Challenger;
 use sc_field::{ExtensionField, Field, IntoTranscriptField, NoMemory};
 use sc_rounds::{BaseProduct, ProductPolynomial, ReprSumcheckProver, SumcheckData, SumcheckProver};
+use sc_svo::Grids;
 use sc_table::{Point, Poly};
 use std::alloc::Global;
 
 // Rounds that were built, with the claim that they began with, their challenges in drawing order,
-// and what the table and the weights are there.
+// what the table and the weights are there, and the grids of small-value rounds.
 #[derive(Drop)]
 pub(crate) struct Built<F, EF> {
     pub(crate) claim: EF,
@@ -27,6 +29,7 @@ pub(crate) struct Built<F, EF> {
     pub(crate) challenges: Point<EF>,
     pub(crate) eval: EF,
     pub(crate) weight: EF,
+    pub(crate) grids: Grids<EF>,
 }
 
 // Builds the rounds of a job whose statements are true, in the transcript of a copy of the
@@ -38,9 +41,9 @@ pub(crate) fn plain<F: Field, EF: ExtensionField<F>, C: Challenger<F>>(
     challenger: &C,
 ) -> Result<Built<F, EF>, AuditError>
     requires difficulty { (job_in fitting.now).pow_bits ≤ (C.rules challenger.now).max_bits }
-    requires all_true { false_claim_of EF.ops (problem_in (job_in fitting.now)) ≡ None }
-    ensures { LeavesBuild F.number EF.number
-        (asked_of (job_in fitting.now) (C.rules challenger.now) (C.history challenger.now)) result }
+    requires all_true { false_claim_of EF.ops (stated_in fitting.now) ≡ None }
+    ensures { LeavesBuild F.number EF.number (asked_to (job_in fitting.now) (build Plain)
+        (C.rules challenger.now) (C.history challenger.now)) result }
 {
     let variables = fitting.job.constraint.num_variables();
     if variables == 0 {
@@ -68,6 +71,7 @@ pub(crate) fn plain<F: Field, EF: ExtensionField<F>, C: Challenger<F>>(
         challenges,
         eval,
         weight,
+        grids: Grids::empty(alloc),
     })
 }
 
@@ -77,9 +81,9 @@ fn roundless<F: Field, EF: ExtensionField<F>>(
     alloc: Global,
     fitting: &FittingJob<'_, F, EF>,
 ) -> Result<Built<F, EF>, AuditError>
-    requires { (problem_in (job_in fitting.now)).variables ≡ 0 }
+    requires { (stated_in fitting.now).variables ≡ 0 }
     ensures { (R : Rules) (h : List Event) → LeavesBuild F.number EF.number
-        (asked_of (job_in fitting.now) R h) result }
+        (asked_to (job_in fitting.now) (build Plain) R h) result }
 {
     let job = fitting.job;
     let (weights, claim) = job.constraint.combine_new(alloc)?;
@@ -91,6 +95,7 @@ fn roundless<F: Field, EF: ExtensionField<F>>(
         challenges: Point::new(Vec::new(alloc)),
         eval,
         weight,
+        grids: Grids::empty(alloc),
     })
 }
 
@@ -106,9 +111,9 @@ pub(crate) fn represented<
     challenger: &C,
 ) -> Result<Built<F, EF>, AuditError>
     requires difficulty { (job_in fitting.now).pow_bits ≤ (C.rules challenger.now).max_bits }
-    requires all_true { false_claim_of EF.ops (problem_in (job_in fitting.now)) ≡ None }
-    ensures { LeavesBuild F.number EF.number
-        (asked_of (job_in fitting.now) (C.rules challenger.now) (C.history challenger.now)) result }
+    requires all_true { false_claim_of EF.ops (stated_in fitting.now) ≡ None }
+    ensures { LeavesBuild F.number EF.number (asked_to (job_in fitting.now) (build Represented)
+        (C.rules challenger.now) (C.history challenger.now)) result }
 {
     let mut prover: ReprSumcheckProver<F, EF, R> = ReprSumcheckProver::new(
         alloc,
@@ -134,6 +139,7 @@ pub(crate) fn represented<
         challenges,
         eval,
         weight,
+        grids: Grids::empty(alloc),
     })
 }
 
@@ -157,9 +163,9 @@ fn base_of<'a, F: Field, EF: ExtensionField<F>>(
     alloc: Global,
     fitting: &FittingJob<'a, F, EF>,
 ) -> Result<BaseProduct<'a, F, EF>, NoMemory>
-    requires { false_claim_of EF.ops (problem_in (job_in fitting.now)) ≡ None }
+    requires { false_claim_of EF.ops (stated_in fitting.now) ≡ None }
     ensures { IfOk result
-        (λ p. base_shown p ≡ prover_for EF.ops (problem_in (job_in fitting.now))) }
+        (λ p. base_shown p ≡ prover_for EF.ops (stated_in fitting.now)) }
 {
     let job = fitting.job;
     let (weights, claim) = job.constraint.combine_new(alloc)?;
@@ -171,8 +177,8 @@ fn prover_of<F: Field, EF: ExtensionField<F>>(
     alloc: Global,
     fitting: &FittingJob<'_, F, EF>,
 ) -> Result<SumcheckProver<F, EF>, NoMemory>
-    requires { false_claim_of EF.ops (problem_in (job_in fitting.now)) ≡ None }
-    ensures { IfOk result (λ p. shown_by p ≡ prover_for EF.ops (problem_in (job_in fitting.now))) }
+    requires { false_claim_of EF.ops (stated_in fitting.now) ≡ None }
+    ensures { IfOk result (λ p. shown_by p ≡ prover_for EF.ops (stated_in fitting.now)) }
 {
     let job = fitting.job;
     let (weights, claim) = job.constraint.combine_new(alloc)?;

@@ -5,7 +5,7 @@ ghost use Rattle.sc_statements.specs.EqStatements.{eq_arity};
 mod representations;
 mod traced;
 
-use sc_audit::{AuditError, Job, Mode, Report, Strategy, Verdict, audit};
+use sc_audit::{AuditError, Grid, Job, Mode, Report, Strategy, Verdict, audit};
 use sc_challenger::{Challenger, ScriptedChallenger};
 use sc_definitions::Event;
 use sc_definitions::Event::Word;
@@ -21,7 +21,10 @@ type Claim = (&'static [u64], u64);
 // The two values that a round sends.
 type Pair = (u64, u64);
 
-// The figures of a report; its grids are empty.
+// The values of a grid, those at 0 and those at infinity.
+type Lists = (&'static [u64], &'static [u64]);
+
+// The figures of a report, its grids aside.
 #[derive(Clone, Copy)]
 struct Figures {
     claim: u64,
@@ -35,7 +38,7 @@ struct Figures {
 }
 
 // A job that builds rounds: a table, and claims, which are batched under the challenge 1 with a group of none behind them; a challenger's draws; and
-// what is answered, and appended to the history: the words of a seed, each a hexadecimal digit, and events behind them.
+// what is answered, with the grids of a report, and appended to the history: the words of a seed, each a hexadecimal digit, and events behind them.
 #[derive(Clone, Copy)]
 struct Case {
     name: &'static str,
@@ -46,6 +49,7 @@ struct Case {
     strategy: Strategy,
     draws: &'static [u64],
     answer: Result<Figures, AuditError>,
+    grids: &'static [Lists],
     seed: &'static [&'static str],
     events: &'static [Event],
 }
@@ -141,6 +145,15 @@ fn is_verdict<F>(verdict: &Verdict<F>, holds: bool) -> bool {
     }
 }
 
+// Whether grids have these values.
+fn are_grids<F: Field>(grids: &[Grid<F>], wanted: &[Lists]) -> bool {
+    grids.len() == wanted.len()
+        && grids.iter().zip(wanted).all(|(grid, lists)| {
+            have_numbers(grid.zero.as_slice(), lists.0)
+                && have_numbers(grid.infinity.as_slice(), lists.1)
+        })
+}
+
 // Asserts that a report has these figures.
 fn assert_figures<F: Field, EF: ExtensionField<F>, A: Abort>(
     rt: &A,
@@ -153,14 +166,9 @@ fn assert_figures<F: Field, EF: ExtensionField<F>, A: Abort>(
         report.residual.index(),
         report.eval.index(),
         report.weight.index(),
-        report.grids.rounds.len(),
     );
-    let figures = (wanted.claim, wanted.residual, wanted.eval, wanted.weight, 0);
-    assert_eq!(rt;
-        values,
-        figures,
-        "{name}: claim, residual, eval, weight, grids"
-    );
+    let figures = (wanted.claim, wanted.residual, wanted.eval, wanted.weight);
+    assert_eq!(rt; values, figures, "{name}: claim, residual, eval, weight");
     let are_lists = (
         are_pairs(report.rounds.polynomial_evaluations(), wanted.rounds),
         have_numbers(&report.rounds.pow_witnesses, wanted.witnesses),
@@ -182,7 +190,11 @@ fn assert_answer<F: Field, EF: ExtensionField<F>, A: Abort>(
 ) {
     let name = case.name;
     match (answer, &case.answer) {
-        (Ok(report), Ok(figures)) => assert_figures(rt, report, figures, name),
+        (Ok(report), Ok(figures)) => {
+            assert_figures(rt, report, figures, name);
+            let grids = report.grids.rounds.as_slice();
+            assert!(rt; are_grids(grids, case.grids), "{name}: grids");
+        }
         (Err(error), Err(refusal)) => assert_eq!(rt; error, refusal, "{name}"),
         (Ok(_), Err(_)) => panic!(rt; "{name}: a report"),
         (Err(error), Ok(_)) => panic!(rt; "{name}: {error}"),

@@ -1,18 +1,21 @@
 //! Whole audits, with figures from a script that is no part of this.
 ghost use Rattle.std.specs.Prelude.{◌≡◌};
 ghost use Rattle.sc_statements.specs.EqStatements.{eq_arity};
+ghost use Rattle.sc_statements.specs.Groups.{group_arity};
+ghost use Rattle.sc_statements.specs.NextStatements.{next_arity};
+ghost use Rattle.sc_statements.specs.SelectStatements.{select_arity};
 
 mod refusals;
 mod reports;
 mod seventeen;
 mod texts;
 
-use sc_audit::{AuditError, Job, Mode, Report, Strategy, Verdict, audit};
+use sc_audit::{AuditError, Grid, Job, Mode, Report, Strategy, Verdict, audit};
 use sc_challenger::{Challenger, Event, ScriptedChallenger};
 use sc_definitions::Event::{Draw, Test, Word};
 use sc_field::Field;
 use sc_rounds::SumcheckData;
-use sc_statements::{Constraint, EqStatement, Statements};
+use sc_statements::{Constraint, EqStatement, NextStatement, SelectStatement, Statements};
 use sc_table::{Point, RoundMessage, VariableOrder};
 use sc_tests_common::{are_pairs, have_numbers, of};
 use std::process::Abort;
@@ -23,6 +26,18 @@ type Claim = (&'static [u64], u64);
 // The two values that a round sends.
 type Pair = (u64, u64);
 
+// The values of a grid, those at 0 and those at infinity.
+type Lists = (&'static [u64], &'static [u64]);
+
+// A group behind two groups of claims: none, a scalar that selects a value, or a value through the
+// successor map at a selector and a point.
+#[derive(Clone, Copy)]
+enum Last {
+    Nothing,
+    Select(u64, u64),
+    Successor(&'static [u64], &'static [u64], u64),
+}
+
 // What is done: rounds are built, or those of a proof, and its witnesses, are checked.
 #[derive(Clone, Copy)]
 enum Task {
@@ -31,7 +46,7 @@ enum Task {
     Check(&'static [Pair], &'static [u64]),
 }
 
-// The figures of a report; its grids are empty.
+// The figures of a report, its grids aside.
 #[derive(Clone, Copy)]
 struct Figures {
     claim: u64,
@@ -44,8 +59,9 @@ struct Figures {
     holds: bool,
 }
 
-// A job, whose table is filled up to `rows` rows with zeros and whose claims are two groups; a challenger, by its draws, the witnesses that pass and its
-// history; and what is answered, and appended to the history: the words of a seed, each a hexadecimal digit, and events behind them.
+// A job, whose table is filled up to `rows` rows with zeros and whose claims are two groups, with one behind them; a challenger, by its draws, the
+// witnesses that pass and its history; and what is answered, with the grids of a report, and appended to the history: the words of a seed, each a
+// hexadecimal digit, and events behind them.
 #[derive(Clone, Copy)]
 struct Case {
     name: &'static str,
@@ -54,6 +70,7 @@ struct Case {
     variables: usize,
     claims: &'static [Claim],
     further: &'static [Claim],
+    last: Last,
     batching: u64,
     order: VariableOrder,
     pow_bits: usize,
@@ -62,6 +79,7 @@ struct Case {
     good: &'static [&'static [u64]],
     past: &'static [Event],
     answer: Result<Figures, AuditError>,
+    grids: &'static [Lists],
     seed: &'static [&'static str],
     events: &'static [Event],
 }
@@ -117,6 +135,7 @@ const PREFIX: Case = Case {
     variables: 2,
     claims: &[(&[2, 5], 14), (&[11, 3], 15)],
     further: &[],
+    last: Last::Nothing,
     batching: 4,
     order: VariableOrder::Prefix,
     pow_bits: 0,
@@ -134,6 +153,7 @@ const PREFIX: Case = Case {
         weight: 16,
         holds: true,
     }),
+    grids: &[],
     seed: &TWO_ROUNDS,
     events: &[Word(15), Word(7), Draw, Word(5), Word(11), Draw],
 };
@@ -161,6 +181,59 @@ fn statements<F: Field, R: Abort + AllocGlobal>(
         }
     }
     statements
+}
+
+// The statement that a scalar selects a value.
+fn select<F: Field, R: Abort + AllocGlobal>(
+    rt: &R,
+    variables: usize,
+    scalar: u64,
+    value: u64,
+) -> SelectStatement<F, F>
+    ensures { select_arity result ≡ variables }
+{
+    let mut statement = SelectStatement::initialize(rt.alloc(), variables);
+    statement
+        .add_constraint(of(scalar), of(value))
+        .expect(rt, "a select");
+    statement
+}
+
+// The statement of a value through the successor map, in prefix order. One on another number of
+// variables is left out.
+fn successor<F: Field, R: Abort + AllocGlobal>(
+    rt: &R,
+    variables: usize,
+    selector: &[u64],
+    point: &[u64],
+    value: u64,
+) -> NextStatement<F>
+    ensures { next_arity result ≡ variables }
+{
+    let mut statement = NextStatement::initialize(rt.alloc(), variables);
+    let selector = Point::new(elements(rt, selector));
+    let point = Point::new(elements(rt, point));
+    if variables.checked_sub(selector.num_variables()) == Some(point.num_variables()) {
+        statement
+            .add_evaluated_constraint(selector, point, of(value), VariableOrder::Prefix)
+            .expect(rt, "a successor");
+    }
+    statement
+}
+
+// A case's last group.
+fn last_group<F: Field, R: Abort + AllocGlobal>(rt: &R, case: &Case) -> Statements<F, F>
+    ensures { group_arity result ≡ case.now.variables }
+{
+    match case.last {
+        Last::Nothing => Statements::Eq(EqStatement::initialize(rt.alloc(), case.variables)),
+        Last::Select(scalar, value) => {
+            Statements::Select(select(rt, case.variables, scalar, value))
+        }
+        Last::Successor(selector, point, value) => {
+            Statements::Next(successor(rt, case.variables, selector, point, value))
+        }
+    }
 }
 
 // The messages of these rounds.
@@ -201,6 +274,7 @@ fn constraint<F: Field, R: Abort + AllocGlobal>(rt: &R, case: &Case) -> Constrai
     let groups = vec![in rt.alloc();
         Statements::Eq(statements(rt, case.variables, case.claims)),
         Statements::Eq(statements(rt, case.variables, case.further)),
+        last_group(rt, case),
     ]
     .expect(rt, "groups");
     Constraint::new(of(case.batching), case.variables, groups)
@@ -256,6 +330,15 @@ fn is_verdict<F>(verdict: &Verdict<F>, holds: bool) -> bool {
     }
 }
 
+// Whether grids have these values.
+fn are_grids<F: Field>(grids: &[Grid<F>], wanted: &[Lists]) -> bool {
+    grids.len() == wanted.len()
+        && grids.iter().zip(wanted).all(|(grid, lists)| {
+            have_numbers(grid.zero.as_slice(), lists.0)
+                && have_numbers(grid.infinity.as_slice(), lists.1)
+        })
+}
+
 // Asserts that a report has these figures.
 fn assert_figures<F: Field, A: Abort>(rt: &A, report: &Report<F, F>, wanted: &Figures, name: &str) {
     let values = (
@@ -263,14 +346,9 @@ fn assert_figures<F: Field, A: Abort>(rt: &A, report: &Report<F, F>, wanted: &Fi
         report.residual.index(),
         report.eval.index(),
         report.weight.index(),
-        report.grids.rounds.len(),
     );
-    let figures = (wanted.claim, wanted.residual, wanted.eval, wanted.weight, 0);
-    assert_eq!(rt;
-        values,
-        figures,
-        "{name}: claim, residual, eval, weight, grids"
-    );
+    let figures = (wanted.claim, wanted.residual, wanted.eval, wanted.weight);
+    assert_eq!(rt; values, figures, "{name}: claim, residual, eval, weight");
     let are_lists = (
         are_pairs(report.rounds.polynomial_evaluations(), wanted.rounds),
         have_numbers(&report.rounds.pow_witnesses, wanted.witnesses),
@@ -292,7 +370,11 @@ fn assert_answer<F: Field, A: Abort>(
 ) {
     let name = case.name;
     match (answer, &case.answer) {
-        (Ok(report), Ok(figures)) => assert_figures(rt, report, figures, name),
+        (Ok(report), Ok(figures)) => {
+            assert_figures(rt, report, figures, name);
+            let grids = report.grids.rounds.as_slice();
+            assert!(rt; are_grids(grids, case.grids), "{name}: grids");
+        }
         (Err(error), Err(refusal)) => assert_eq!(rt; error, refusal, "{name}"),
         (Ok(_), Err(_)) => panic!(rt; "{name}: a report"),
         (Err(error), Ok(_)) => panic!(rt; "{name}: {error}"),

@@ -10,8 +10,9 @@ use Rattle.sc_definitions.specs.Events.{Rules, Extension}
 use Rattle.sc_definitions.specs.Transcript.{Round, messages_of, round_events, challenge, challenges, IsBuilt}
 use Rattle.sc_definitions.specs.Problem.{Problem, weights_of, claim_of, residual_of, eval_of, weight_value_of}
 use Rattle.sc_definitions.proofs.RingLaws.{times-zero}
-use Rattle.sc_definitions.proofs.Sums.{sum-same, sum-plus, times-sum}
+use Rattle.sc_definitions.proofs.Sums.{sum-same}
 use Rattle.sc_definitions.proofs.Identity.{atom, nought, ◌⊕◌, ◌⊗◌, Agree, identity}
+use Rattle.sc_definitions.proofs.TableLaws.{inner-sum}
 use Rattle.sc_definitions.proofs.RoundLaws.{true_claim-inner, true_claim-next}
 
 module _ (o : Ops) (ring : IsRing o) where
@@ -29,15 +30,8 @@ module _ (o : Ops) (ring : IsRing o) where
   inner-powers_sum n f c p [] =
       sum-same o (2 ^ n) _ _ (λ b _. times-zero o ring (f b)) ∙ sum-zeros (2 ^ n)
   inner-powers_sum n f c p (s ∷ ss) =
-      let N = 2 ^ n in
-      let first : ℕ → ℕ = λ b. times o (power o c p) (times o (f b) (weight_of o s.kind b)) in
-      let others : ℕ → ℕ = λ b. times o (f b) (powers_sum o c (suc p) (weights_at o ss b)) in
-      let F = atom 0 in let P = atom 1 in let W = atom 2 in let R = atom 3 in
-      sum-same o N _ _ (λ b _. identity o ring (f b ∷ power o c p ∷ weight_of o s.kind b ∷ powers_sum o c (suc p) (weights_at o ss b) ∷ [])
-      (F ⊗ (P ⊗ W ⊕ R)) (P ⊗ (F ⊗ W) ⊕ F ⊗ R) tt tt refl)
-      ∙ sym (sum-plus o ring N first others)
-      ∙ ap (λ t. plus o t (sum_below o N others)) (sym (times-sum o ring (power o c p) N (λ b. times o (f b) (weight_of o s.kind b))))
-      ∙ ap (plus o (times o (power o c p) (sum_below o N (λ b. times o (f b) (weight_of o s.kind b))))) (inner-powers_sum n f c (suc p) ss)
+      inner-sum o ring n (power o c p) f (weight_of o s.kind) (λ b. powers_sum o c (suc p) (weights_at o ss b))
+      ∙ ap (plus o (times o (power o c p) (inner o n f (weight_of o s.kind)))) (inner-powers_sum n f c (suc p) ss)
 
   values_agree : (n : ℕ) (f : ℕ → ℕ) (ss : List Statement) → AllTrueOf o n f ss → true_values o n f ss ≡ claimed_values ss
   unfolding IsTrueOf

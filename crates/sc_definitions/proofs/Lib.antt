@@ -19,9 +19,13 @@ pub mod BuildLaws
 pub mod WorkedTables
 pub mod WorkedRounds
 pub mod WorkedSeeds
+pub mod WorkedGrids
 pub mod ReplayLaws
 pub mod Lengths
 pub mod Lists
 pub mod StandingLaws
 pub mod SameTables
+pub mod GridLaws
+pub mod PartialLaws
+pub mod PlacedSums
 pub mod HonestRounds

@@ -39,7 +39,7 @@ module _ (o : Ops) (ring : IsRing o) where
       ∙ sum-pairs (2 ^ m) (λ b. times o (f b) (w b))
 
   -- the products of two lines through their values at 0 and 1, in sum, at r
-  lines-sum : (n : ℕ) (f0 f1 w0 w1 : ℕ → ℕ) (r : ℕ) →
+  pub lines-sum : (n : ℕ) (f0 f1 w0 w1 : ℕ → ℕ) (r : ℕ) →
       sum_below o n (λ b. times o (plus o (f0 b) (times o (minus o (f1 b) (f0 b)) r)) (plus o (w0 b) (times o (minus o (w1 b) (w0 b)) r)))
       ≡ poly_at o (sent_pair evaluation o (plus o (sum_below o n (λ b. times o (f0 b) (w0 b))) (sum_below o n (λ b. times o (f1 b) (w1 b))))
       (sum_below o n (λ b. times o (f0 b) (w0 b)))

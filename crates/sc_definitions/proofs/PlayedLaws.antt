@@ -10,12 +10,14 @@ use Rattle.sc_definitions.proofs.PlacedLaws.{placed_entry-bound_by}
 
 -- ---- tables that agree at each row
 
-low-same : (order : Order) (half b : ℕ) (f g : ℕ → ℕ) → b < half → ((k : ℕ) → k < half + half → f k ≡ g k) → low_entry order f b ≡ low_entry order g b
+-- their parts where the next variable is 0 agree
+pub low-same : (order : Order) (half b : ℕ) (f g : ℕ → ℕ) → b < half → ((k : ℕ) → k < half + half → f k ≡ g k) → low_entry order f b ≡ low_entry order g b
 unfolding low_entry
 low-same prefix half b f g low same = same b (omega (arith, low))
 low-same suffix half b f g low same = same (2 * b) (omega (arith, low))
 
-high-same : (order : Order) (half b : ℕ) (f g : ℕ → ℕ) → b < half → ((k : ℕ) → k < half + half → f k ≡ g k) → high_entry order half f b ≡ high_entry order half g b
+-- their parts where the next variable is 1 agree
+pub high-same : (order : Order) (half b : ℕ) (f g : ℕ → ℕ) → b < half → ((k : ℕ) → k < half + half → f k ≡ g k) → high_entry order half f b ≡ high_entry order half g b
 unfolding high_entry
 high-same prefix half b f g low same = same (half + b) (omega (arith, low))
 high-same suffix half b f g low same = same (2 * b + 1) (omega (arith, low))

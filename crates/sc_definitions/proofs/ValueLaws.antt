@@ -1,12 +1,12 @@
--- The values, at a point, of tables of powers and of products of coordinates.
-use Rattle.std.proofs.Common.{◌≡◌, ℕ, ◌+◌, ◌^◌, ◌<◌, List, [], ◌∷◌, length, sym, ◌∙◌, ap, refl, arith}
+-- The values, at a point, of tables of equality weights, of powers and of products of coordinates.
+use Rattle.std.proofs.Common.{◌≡◌, ℕ, ◌+◌, ◌^◌, ◌<◌, List, [], ◌∷◌, length, sym, ◌∙◌, ap, refl, subst, arith}
 use Rattle.sc_definitions.specs.Ring.{Ops, IsRing, element, plus, times, minus, power}
-use Rattle.sc_definitions.specs.Tables.{weight, monomial, value}
+use Rattle.sc_definitions.specs.Tables.{weight, eq_product, monomial, value}
 use Rattle.sc_definitions.proofs.RingLaws.{element-one, times-element_left}
 use Rattle.sc_definitions.proofs.Sums.{sum-same, times-sum, element-sum}
 use Rattle.sc_definitions.proofs.Identity.{atom, unit, ◌⊕◌, ◌⊗◌, ◌⊖◌, Agree, identity}
 use Rattle.sc_definitions.proofs.Power.{power-zero, power-plus}
-use Rattle.sc_definitions.proofs.TableLaws.{value-line, value-none}
+use Rattle.sc_definitions.proofs.TableLaws.{weight-low, weight-high, value-line, value-none}
 use Rattle.sc_definitions.proofs.PlacedLaws.{monomial-low, monomial-high}
 
 module _ (o : Ops) (ring : IsRing o) where
@@ -34,6 +34,30 @@ module _ (o : Ops) (ring : IsRing o) where
   line-multiple v z x =
       let V = atom 0 in let Z = atom 1 in let X = atom 2 in
       identity o ring (v ∷ z ∷ x ∷ []) (V ⊕ (Z ⊗ V ⊖ V) ⊗ X) ((unit ⊕ X ⊗ (Z ⊖ unit)) ⊗ V) tt tt refl
+
+  -- ---- equality weights
+
+  -- the value at xs of the weights of zs is the equality weight of the two points
+  pub value-weight : (zs xs : List ℕ) → length zs ≡ length xs → value o (weight o zs) xs ≡ eq_product o zs xs
+  unfolding eq_product weight Agree
+  value-weight [] [] e = value-none o ring (weight o []) ∙ element-one o ring
+  value-weight [] (x ∷ xs) e = absurd (omega (arith, e))
+  value-weight (z ∷ zs) [] e = absurd (omega (arith, e))
+  value-weight (z ∷ zs) (x ∷ xs) e =
+      let same : length zs ≡ length xs = omega (arith, e) in
+      let low : ℕ → ℕ = λ b. times o (minus o 1 z) (weight o zs b) in
+      let high : ℕ → ℕ = λ b. times o z (weight o zs b) in
+      let V = value o (weight o zs) xs in
+      let Z = atom 0 in let X = atom 1 in let W = atom 2 in
+      value-line o ring (weight o (z ∷ zs)) low high x xs
+      (λ b in_half. sym (weight-low o ring z zs b (subst (λ n. b < 2 ^ n) (sym same) in_half)))
+      (λ b in_half. sym (ap (λ n. weight o (z ∷ zs) (2 ^ n + b)) (sym same) ∙ weight-high o ring z zs b (subst (λ n. b < 2 ^ n) (sym same) in_half)))
+      ∙ ap (λ v. plus o v (times o (minus o (value o high xs) v) x)) (value-times (minus o 1 z) (weight o zs) xs)
+      ∙ ap (λ v. plus o (times o (minus o 1 z) V) (times o (minus o v (times o (minus o 1 z) V)) x)) (value-times z (weight o zs) xs)
+      ∙ identity o ring (z ∷ x ∷ V ∷ [])
+      ((unit ⊖ Z) ⊗ W ⊕ (Z ⊗ W ⊖ (unit ⊖ Z) ⊗ W) ⊗ X)
+      ((Z ⊗ X ⊕ (unit ⊖ Z) ⊗ (unit ⊖ X)) ⊗ W) tt tt refl
+      ∙ ap (times o (plus o (times o z x) (times o (minus o 1 z) (minus o 1 x)))) (value-weight zs xs same)
 
   -- ---- powers
 

@@ -16,3 +16,6 @@ pub mod Seeds
 pub mod Replays
 pub mod Channels
 pub mod Standings
+pub mod Grids
+pub mod Partials
+pub mod Combined

@@ -1,10 +1,11 @@
 -- The steps of a fold in place.
-use Rattle.std.proofs.Common.{◌≡◌, ◌≢◌, ℕ, ◌+◌, ◌*◌, ◌<◌, ◌≤◌, List, length, set, ◌-◌, sym, ◌∙◌, ap, refl, arith, ⊎_elim}
+use Rattle.std.proofs.Common.{◌≡◌, ◌≢◌, ℕ, ◌+◌, ◌*◌, ◌<◌, ◌≤◌, List, ◌++◌, length, set, take, drop, ◌-◌, sym, ◌∙◌, ap, refl, arith, ⊎_elim}
 use Rattle.std.proofs.lemmas.Bool.{cases_lt}
+use Rattle.std.proofs.lemmas.List.{length-take-le}
 use Rattle.sc_definitions.specs.Ring.{Ops}
 use Rattle.sc_definitions.specs.Tables.{entries, bound, bound_low}
 use Rattle.sc_table.specs.Blocks.{HasWritten}
-use Rattle.sc_table.proofs.EntryLaws.{entry-set_same, entry-set_other}
+use Rattle.sc_table.proofs.EntryLaws.{entry-set_same, entry-set_other, entry-take, entry-drop, entry-append_left, entry-append_right}
 
 module _ {X : Type 0} (number : X → ℕ) where
   -- before the first row
@@ -104,3 +105,29 @@ pairs-more number o r m n old new newer first second =
     let lo = first.behind (2 * b) (omega arith) in
     let hi = first.behind (2 * b + 1) (omega arith) in
     cc (lo, hi))
+
+-- n rows of a list, from the given one on, were written as a part of it
+pub written-part : {X : Type 0} (number : X → ℕ) (table : ℕ → ℕ) (from n k : ℕ) (rows part : List X) → k ≡ n → from + n ≤ length rows →
+    length part ≡ n →
+    ((c : ℕ) → c < n → entries number part c ≡ table (from + c)) →
+    HasWritten number table from n rows (take from rows ++ (part ++ drop k (drop from rows)))
+written-part number table from n k rows part same within size part_is =
+    let first : length (take from rows) ≡ from = length-take-le from rows (omega (arith, within)) in
+    let post = drop k (drop from rows) in
+    let new = entries number (take from rows ++ (part ++ post)) in
+    let after : (c : ℕ) → new (from + c) ≡ entries number (part ++ post) c = λ c. sym (ap (λ j. new (j + c)) first)
+    ∙ entry-append_right number (take from rows) (part ++ post) c in
+    record {
+      written = λ b least low.
+          let c = b - from in
+          let at : from + c ≡ b = omega (arith, least) in
+          let inside : c < n = omega (arith, low, least) in
+          sym (ap new at) ∙ after c ∙ entry-append_left number part post c (omega (arith, inside, size)) ∙ part_is c inside ∙ ap table at;
+      before = λ b low. entry-append_left number (take from rows) (part ++ post) b (omega (arith, low, first)) ∙ entry-take number rows from b low;
+      behind = λ b high.
+          let c = b - (from + n) in
+          let at : from + (n + c) ≡ b = omega (arith, high) in
+          let row : from + (k + c) ≡ b = omega (arith, high, same) in
+          sym (ap new at) ∙ after (n + c) ∙ sym (ap (λ j. entries number (part ++ post) (j + c)) size) ∙ entry-append_right number part post c
+          ∙ entry-drop number (drop from rows) k c ∙ entry-drop number rows from (k + c) ∙ ap (entries number rows) row;
+    }

@@ -13,3 +13,6 @@ pub mod PointLaws
 pub mod HonestLaws
 pub mod KernelLaws
 pub mod FixedLaws
+pub mod SumLaws
+pub mod SplitLaws
+pub mod PlaceLaws

@@ -1,7 +1,8 @@
 -- Lengths that are powers of two.
 use Rattle.std.proofs.Common.{◌≡◌, ℕ, zero, suc, ◌+◌, ◌*◌, ◌/◌, ◌%◌, ◌^◌, ◌<◌, ◌≤◌, sym, ◌∙◌, ap, refl, arith, ⊎_elim}
 use Rattle.std.proofs.lemmas.Bool.{cases_lt}
-use Rattle.std.proofs.Math.Nat.{pow-suc}
+use Rattle.std.proofs.lemmas.Nat.{pow_below}
+use Rattle.std.proofs.Math.Nat.{pow-suc, mod-eq_of_lt}
 use Rattle.std.proofs.Math.Pow.{pow_mono}
 use lib.Count.{count_trailing_zeros, under}
 
@@ -41,3 +42,10 @@ variables_of_length n len is fits =
     (λ low. is ∙ ap (λ k. 2 ^ k) (sym (ap (count_trailing_zeros 64) is ∙ zeros-power 64 n low)))
     (λ high. let big : 2 ^ 64 ≤ 2 ^ n = pow_mono high in absurd (omega arith))
     (cases_lt n 64)
+
+-- a shift of one
+pub one-shifted : (n : ℕ) → n ≤ 40 → 1 * 2 ^ n % 18446744073709551616 ≡ 2 ^ n
+one-shifted n low =
+    let fits : 2 ^ n < 18446744073709551616 = pow_below n 64 (omega (arith, low)) in
+    let once : 1 * 2 ^ n ≡ 2 ^ n = omega arith in
+    ap (λ k. k % 18446744073709551616) once ∙ mod-eq_of_lt fits

@@ -12,19 +12,23 @@ mod laws;
 mod point;
 mod poly;
 mod slices;
+mod split_eq;
 mod strategy;
+mod sums;
 
 pub use blocks::{
     BLOCK_COORDINATES, add_equality, block_weights, eval_blocks, eval_slice, joined_block_weights,
 };
 pub use fused::{fold_and_round_coefficients_prefix, fold_and_round_coefficients_suffix};
-pub use lagrange::{extrapolate_01inf, lagrange_weights_01inf};
+pub use lagrange::{extrapolate_01inf, lagrange_weights_01inf, lagrange_weights_01inf_multi};
 pub use laws::strategy_laws;
 pub use point::Point;
 pub use poly::Poly;
 pub use sc_memory::Row;
 pub use slices::{fix_prefix_var_slice, fix_suffix_var_slice};
+pub use split_eq::SplitEq;
 pub use strategy::{
     Basis, RoundMessage, Strategy, VariableOrder, sumcheck_coefficients_prefix,
     sumcheck_coefficients_prefix_projective, sumcheck_coefficients_suffix,
 };
+pub use sums::{add_scaled, dot_slices};

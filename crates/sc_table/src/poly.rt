@@ -210,7 +210,7 @@ impl<A: Field> Poly<A> {
 
 // The weights with one more coordinate, z, before the others: the first half, for its digit 0, and the
 // second half, for its digit 1. There is room for both.
-fn push_weighted<A: Field>(weights: &mut Vec<A>, z: A)
+pub(crate) fn push_weighted<A: Field>(weights: &mut Vec<A>, z: A)
     requires { vec_len weights.old + vec_len weights.old ≤ vec_capacity weights.old }
     ensures room { vec_capacity weights.new ≡ vec_capacity weights.old }
     ensures size { length weights.new.items ≡ length weights.old.items + length weights.old.items }

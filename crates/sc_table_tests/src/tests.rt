@@ -3,6 +3,7 @@
 ghost use Rattle.std.specs.Prelude.{◌≡◌, suc, ◌^◌, length, IfOk};
 
 mod kernels;
+mod split_eq;
 
 use sc_field::{Algebra, F257, F257x2, F65537, Field, NoMemory};
 use sc_table::{

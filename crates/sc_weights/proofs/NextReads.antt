@@ -10,7 +10,7 @@ use Rattle.sc_table.proofs.EntryLaws.{entry-embedded}
 use Rattle.sc_definitions.specs.Statements.{successor, next_row, successor_weight, slot_weight, weight_of, true_value}
 use Rattle.sc_definitions.proofs.RingLaws.{times_comm}
 use Rattle.sc_definitions.proofs.BlockLaws.{slot-prefix, slot-suffix, value-slot_prefix, value-slot_suffix, true_value-prefix, true_value-suffix}
-use Rattle.sc_weights.proofs.EqualityValues.{value-weight}
+use Rattle.sc_definitions.proofs.ValueLaws.{value-weight}
 use Rattle.sc_weights.proofs.Written.{by-blocks}
 
 -- the coordinates of both parts

@@ -7,7 +7,9 @@ ghost use Rattle.sc_table.specs.Blocks.{block_weight};
 
 use crate::row_weights::RowWeights;
 use sc_field::{Algebra, Field};
-use sc_table::{BLOCK_COORDINATES, Point, Poly, add_equality, block_weights, eval_slice};
+use sc_table::{
+    BLOCK_COORDINATES, Point, Poly, add_equality, add_scaled, block_weights, eval_slice,
+};
 
 impl<EF: Field> RowWeights<EF> for Point<EF> {
     ghost use Rattle.sc_definitions.specs.Statements.{equality};
@@ -67,16 +69,4 @@ pub(crate) fn add_blocks<EF: Field>(rows: &mut [EF], outer: &[EF], weights: &[EF
     let at_one = scale.mul(*first);
     add_blocks(&mut rows[..half], rest, weights, scale.sub(at_one));
     add_blocks(&mut rows[half..], rest, weights, at_one);
-}
-
-/// Adds `scale` times a weight to each row.
-pub(crate) fn add_scaled<EF: Field>(rows: &mut [EF], weights: &[EF], scale: EF)
-    requires { length rows.old ≡ length weights.now }
-    ensures { (b : ℕ) → b < length rows.old →
-        entries EF.number rows.new b ≡ entries EF.number rows.old b +⟨ EF.ops ⟩ EF.number scale
-        *⟨ EF.ops ⟩ entries EF.number weights.now b }
-{
-    for b in 0..rows.len() {
-        rows[b] = rows[b].add(scale.mul(weights[b]));
-    }
 }

@@ -4,10 +4,9 @@ ghost use Rattle.std.specs.Prelude.{◌≡◌, ℕ, ◌-◌, ◌*◌, ◌^◌, �
 ghost use Rattle.sc_definitions.specs.Ring.{power, ◌+⟨◌⟩◌, ◌*⟨◌⟩◌};
 ghost use Rattle.sc_definitions.specs.Tables.{entries, monomial, sum_below, inner, value};
 
-use crate::equality::add_scaled;
 use crate::row_weights::RowWeights;
 use sc_field::{Algebra, ExtensionField, Field};
-use sc_table::{BLOCK_COORDINATES, Point, Poly};
+use sc_table::{BLOCK_COORDINATES, Point, Poly, add_scaled};
 
 /// What selects in a table.
 #[derive(Drop)]
@@ -115,7 +114,7 @@ fn add_powers_by_blocks<F: Field, EF: Algebra<F>>(
         *⟨ EF.ops ⟩ power EF.ops (EF.embedding (F.number var)) (length rows.old) }
 {
     if halvings == 0 {
-        add_scaled(rows, weights, scale);
+        add_scaled::<EF, EF>(rows, weights, scale);
         return scale.mul(weights[weights.len() - 1]).mul_base(var);
     }
     let half = rows.len() / 2;
@@ -233,7 +232,7 @@ fn add_products_by_blocks<F: Field, EF: Algebra<F>>(
         *⟨ EF.ops ⟩ monomial EF.ops (map (λ x. EF.embedding (F.number x)) z.now) b }
 {
     if z.len() == BLOCK_COORDINATES {
-        add_scaled(rows, weights, scale);
+        add_scaled::<EF, EF>(rows, weights, scale);
         return;
     }
     let half = rows.len() / 2;

@@ -12,9 +12,9 @@ ghost use Rattle.sc_field.specs.Products.{products};
 ghost use Rattle.sc_table.specs.Blocks.{block_weight};
 ghost use Rattle.sc_weights.specs.Moved.{moved_up, moved_down};
 
-use crate::equality::{add_point, add_scaled};
+use crate::equality::add_point;
 use sc_field::{Algebra, Field};
-use sc_table::{BLOCK_COORDINATES, eval_slice, joined_block_weights};
+use sc_table::{BLOCK_COORDINATES, add_scaled, eval_slice, joined_block_weights};
 
 // ---- weights that are added to rows
 

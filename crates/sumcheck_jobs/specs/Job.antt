@@ -1,19 +1,18 @@
--- The job that a value describes, or why it describes none that is built.
-use Rattle.std.specs.Prelude.{ℕ, ◌<◌, ◌≤◌, List, All, ⊤, codes, bytes_eq, if◌then◌else◌, Option, Some, None, is_some, option_map, option_and_then, Result, Ok, Err}
+-- The job that a value describes, or the first member for which it describes none.
+use Rattle.std.specs.Prelude.{ℕ, ◌<◌, ◌≤◌, List, All, ⊤, codes, bytes_eq, if◌then◌else◌, Option, Some, None, is_some, option_map, Result, Ok, Err}
 use Rattle.serde_json.specs.Data.{Data}
 use Rattle.serde_json.specs.Find.{get, as_null, as_str}
-use Rattle.sc_forms.specs.Forms.{at_most_form, is_object, list_form, literal_form, no_form, pair_form}
+use Rattle.sc_forms.specs.Forms.{at_most_form, is_object, list_form, literal_form, member_form, pair_form}
 use Rattle.sumcheck_jobs.specs.Members.{needed, unless_misfit}
 use Rattle.sumcheck_jobs.specs.Elements.{with_member, element_form, field_form, order_form, sizes_of}
 use Rattle.sumcheck_jobs.specs.Groups.{groups_form}
 use Rattle.sumcheck_jobs.specs.Statements.{GroupFits}
+use Rattle.sumcheck_jobs.specs.declared.member.Member.{Member}
 use Rattle.sumcheck_jobs.specs.declared.member.Member.TheVariants.{Whole, Field, Challenger as ChallengerMember, Order, Bits, Table, Variables, Groups, Batching, Mode as ModeMember}
-use Rattle.sumcheck_jobs.specs.declared.member.Misfit.{Misfit}
-use Rattle.sumcheck_jobs.specs.declared.member.Misfit.TheVariants.{Bad}
 use Rattle.sumcheck_jobs.specs.declared.job.FieldName.{FieldName}
 use Rattle.sumcheck_jobs.specs.declared.job.Sizes.{Sizes}
 use Rattle.sc_table.specs.declared.strategy.Strategy.{Strategy}
-use Rattle.sc_table.specs.declared.strategy.Strategy.TheVariants.{Plain, Represented}
+use Rattle.sc_table.specs.declared.strategy.Strategy.TheVariants.{Plain, Represented, SmallValue}
 use Rattle.sumcheck_jobs.specs.declared.job.Script.{Script}
 use Rattle.sumcheck_jobs.specs.declared.job.Challenger.{Challenger}
 use Rattle.sumcheck_jobs.specs.declared.job.Challenger.TheVariants.{Scripted, Hash}
@@ -48,9 +47,17 @@ check_form sizes d = if is_some (as_null d) then Some None else option_map (λ p
 abbrev pub strategy_named : List ℕ → Option Strategy
 strategy_named name = if bytes_eq name (codes "plain") then Some Plain else (if bytes_eq name (codes "represented") then Some Represented else None)
 
--- how rounds are built
+-- an object that names for how many variables rounds are built on small values
+abbrev pub small_value_form : Data → Option Strategy
+small_value_form d = option_map (λ n. SmallValue n) (member_form (at_most_form 64) (codes "small-value") d)
+
+abbrev pub strategy_by : Option (List ℕ) → Data → Option Strategy
+strategy_by (Some name) d = strategy_named name
+strategy_by None d = small_value_form d
+
+-- how rounds are built: a string that names a strategy, or such an object
 abbrev pub strategy_form : Data → Option Strategy
-strategy_form d = option_and_then strategy_named (as_str d)
+strategy_form d = strategy_by (as_str d) d
 
 abbrev pub mode_by : Sizes → Option Data → Option Data → Option Mode
 mode_by sizes (Some build) None = option_map (λ strategy. Build strategy) (strategy_form build)
@@ -58,40 +65,31 @@ mode_by sizes None (Some check) = option_map (λ proof. Check proof) (check_form
 mode_by sizes None None = None
 mode_by sizes (Some build) (Some check) = None
 
--- exactly one of a build, which is plain or represented, and a check
+-- exactly one of a build and a check
 abbrev pub mode_form : Sizes → Data → Option Mode
 mode_form sizes d = mode_by sizes (get (codes "build") d) (get (codes "check") d)
 
-abbrev pub later_build_by : Option Data → Option Data → Option ⊤
-later_build_by (Some build) None = if is_object build then Some tt else None
-later_build_by None check = None
-later_build_by (Some build) (Some check) = None
-
--- a build by a strategy that is not built yet
-abbrev pub later_build_form : Data → Option ⊤
-later_build_form d = later_build_by (get (codes "build") d) (get (codes "check") d)
-
 -- the members behind the field, in the order in which they are tested
-abbrev pub members_over : FieldName → Sizes → Data → Result Job Misfit
+abbrev pub members_over : FieldName → Sizes → Data → Result Job Member
 members_over field sizes d =
-    unless_misfit (needed (challenger_form sizes) no_form ChallengerMember d) (λ challenger.
-    unless_misfit (needed order_form no_form Order d) (λ order.
-    unless_misfit (needed (at_most_form 65535) no_form Bits d) (λ bits.
-    unless_misfit (needed (list_form (element_form sizes.base)) no_form Table d) (λ table.
-    unless_misfit (needed (at_most_form 64) no_form Variables d) (λ variables.
-    unless_misfit (needed (groups_form sizes variables) no_form Groups d) (λ groups.
-    unless_misfit (needed (element_form sizes.extension) no_form Batching d) (λ batching.
-    unless_misfit (needed (mode_form sizes) later_build_form ModeMember d) (λ mode.
+    unless_misfit (needed (challenger_form sizes) ChallengerMember d) (λ challenger.
+    unless_misfit (needed order_form Order d) (λ order.
+    unless_misfit (needed (at_most_form 65535) Bits d) (λ bits.
+    unless_misfit (needed (list_form (element_form sizes.base)) Table d) (λ table.
+    unless_misfit (needed (at_most_form 64) Variables d) (λ variables.
+    unless_misfit (needed (groups_form sizes variables) Groups d) (λ groups.
+    unless_misfit (needed (element_form sizes.extension) Batching d) (λ batching.
+    unless_misfit (needed (mode_form sizes) ModeMember d) (λ mode.
     Ok (record { field = field; challenger = challenger; order = order; bits = bits; table = table; variables = variables; groups = groups; batching = batching; mode = mode })))))))))
 
 -- the members, the field first
-abbrev pub members_of : Data → Result Job Misfit
-members_of d = unless_misfit (needed field_form no_form Field d) (λ field. members_over field (sizes_of field) d)
+abbrev pub members_of : Data → Result Job Member
+members_of d = unless_misfit (needed field_form Field d) (λ field. members_over field (sizes_of field) d)
 
 -- the job that a value describes: one over one of three fields under a scripted or the hash challenger, in either order, at
--- any difficulty, with statements of every kind; else its first member that is not of its form
-abbrev pub job_of : Data → Result Job Misfit
-job_of d = if is_object d then members_of d else Err (Bad Whole)
+-- any difficulty, with statements of every kind; else its first member that is missing or not of its form
+abbrev pub job_of : Data → Result Job Member
+job_of d = if is_object d then members_of d else Err Whole
 
 -- ---- what the numbers of a job that was read have
 

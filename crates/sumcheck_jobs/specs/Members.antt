@@ -1,11 +1,10 @@
--- The members of a job, and what is said of one that is not of the form that is built.
-use Rattle.std.specs.Prelude.{ℕ, List, ◌++◌, codes, Option, Some, None, Result, Ok, Err}
+-- The members of a job, and what is said of one that is missing or not of its form.
+use Rattle.std.specs.Prelude.{ℕ, List, ◌++◌, codes, Option, Result, Ok, Err}
+use Rattle.std.specs.Option.{ok_or}
 use Rattle.serde_json.specs.Data.{Data}
 use Rattle.sc_forms.specs.Forms.{member_form}
 use Rattle.sumcheck_jobs.specs.declared.member.Member.{Member}
 use Rattle.sumcheck_jobs.specs.declared.member.Member.TheVariants.{Whole, Field, Challenger, Order, Bits, Table, Variables, Groups, Batching, Mode}
-use Rattle.sumcheck_jobs.specs.declared.member.Misfit.{Misfit}
-use Rattle.sumcheck_jobs.specs.declared.member.Misfit.TheVariants.{Bad, Unbuilt}
 
 abbrev pub member_name : Member → List ℕ
 member_name Whole = codes "job"
@@ -20,20 +19,14 @@ member_name Batching = codes "batching"
 member_name Mode = codes "mode"
 
 -- what a job is refused with for a member
-unfoldable pub misfit_text : Misfit → List ℕ
-misfit_text (Bad m) = codes "bad-job " ++ member_name m
-misfit_text (Unbuilt m) = codes "unbuilt " ++ member_name m
+unfoldable pub misfit_text : Member → List ℕ
+misfit_text m = codes "bad-job " ++ member_name m
 
--- what a member is, read in the form that is built; else whether it is of a form that is built later, or of none
-abbrev pub fitted : {A B : Type 0} → Member → Option A → Option B → Result A Misfit
-fitted m (Some x) later = Ok x
-fitted m None (Some y) = Err (Unbuilt m)
-fitted m None None = Err (Bad m)
-
-abbrev pub needed : {A B : Type 0} → (Data → Option A) → (Data → Option B) → Member → Data → Result A Misfit
-needed form later m d = fitted m (member_form form (member_name m) d) (member_form later (member_name m) d)
+-- what a member is read as in its form, or else the member
+abbrev pub needed : {A : Type 0} → (Data → Option A) → Member → Data → Result A Member
+needed form m d = ok_or (member_form form (member_name m) d) m
 
 -- what goes on where there was no misfit
-abbrev pub unless_misfit : {A B : Type 0} → Result A Misfit → (A → Result B Misfit) → Result B Misfit
+abbrev pub unless_misfit : {A B : Type 0} → Result A Member → (A → Result B Member) → Result B Member
 unless_misfit (Ok x) rest = rest x
-unless_misfit (Err e) rest = Err e
+unless_misfit (Err m) rest = Err m

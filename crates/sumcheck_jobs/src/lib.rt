@@ -1,4 +1,4 @@
-//! The job that a JSON value describes, or the first member for which it describes none that is built.
+//! The job that a JSON value describes, or the first member for which it describes none.
 //!
 //! What a value is read as is one function of the definitions, `job_of` in `specs/Job.antt`, and what the numbers of a job have that was read is one
 //! relation, `JobFits`. Elements stand by their numbers; which statements the claims make is said in `specs/Statements.antt`.
@@ -13,5 +13,5 @@ pub use job::{
     Challenger, EqualityClaim, FieldName, Group, Job, Mode, ProductClaim, Proof, ScalarClaim,
     Script, Sizes, SuccessorClaim,
 };
-pub use member::{Member, Misfit, Unread};
+pub use member::{Member, Unread};
 pub use reading::read_job;

@@ -1,18 +1,18 @@
-//! The job that a JSON value describes, or the first member that is not of its built form.
+//! The job that a JSON value describes, or the first member that is not of its form.
 ghost use Rattle.std.specs.Prelude.{◌≡◌, ◌<◌, Option, Some, None, Ok, Err, IfOk};
 ghost use Rattle.serde_json.specs.View.{view};
 ghost use Rattle.sumcheck_jobs.specs.Elements.{field_form, order_form, sizes_of};
-ghost use Rattle.sumcheck_jobs.specs.Job.{JobFits, ProofFits, ModeFits, ScriptFits, ChallengerFits, challenger_form, check_form, job_of, later_build_form, members_over, mode_form, proof_form, script_form, strategy_form};
+ghost use Rattle.sumcheck_jobs.specs.Job.{JobFits, ProofFits, ModeFits, ScriptFits, ChallengerFits, challenger_form, check_form, job_of, members_over, mode_form, proof_form, script_form, strategy_form};
 
 use crate::groups::GroupsForm;
 use crate::job::{Challenger, FieldName, Job, Mode, Proof, Script, Sizes};
-use crate::member::{Member, Misfit, Unread, need};
-use sc_forms::{AtMost, Below, Form, ListOf, Misread, NoForm, PairOf, is_object, member};
+use crate::member::{Member, Unread, need};
+use sc_forms::{AtMost, Below, Form, ListOf, Misread, PairOf, is_object, member};
 use sc_table::{Strategy, VariableOrder};
 use serde_json::Value;
 use std::alloc::Global;
 
-// The greatest number of a point's coordinates.
+// The greatest number of a point's coordinates, and of small-value rounds that can be named.
 const MOST_VARIABLES: u64 = 64;
 
 // The greatest difficulty that a job can name.
@@ -155,7 +155,7 @@ impl Form for CheckForm {
     }
 }
 
-// How rounds are built, by the strategy's name.
+// How rounds are built: by the strategy's name, or for so many variables on small values.
 #[derive(Clone, Copy)]
 struct StrategyForm;
 
@@ -164,11 +164,20 @@ impl Form for StrategyForm {
 
     ghost reads = { λ _. strategy_form };
 
-    fn read(&self, _alloc: Global, value: &Value) -> Result<Strategy, Misread> {
+    fn read(&self, alloc: Global, value: &Value) -> Result<Strategy, Misread> {
         match value.as_str() {
             Some(name) if name == "plain" => Ok(Strategy::Plain),
             Some(name) if name == "represented" => Ok(Strategy::Represented),
-            _ => Err(Misread::NotOfForm),
+            Some(_) => Err(Misread::NotOfForm),
+            None => {
+                let most = AtMost {
+                    most: MOST_VARIABLES,
+                };
+                let variables = member(alloc, &most, value, "small-value")?;
+                Ok(Strategy::SmallValue {
+                    variables: variables as usize,
+                })
+            }
         }
     }
 }
@@ -200,74 +209,51 @@ impl Form for ModeForm {
     }
 }
 
-// A build by a strategy that is not built yet, which is an object.
-#[derive(Clone, Copy)]
-struct LaterBuildForm;
-
-impl Form for LaterBuildForm {
-    type Out = ();
-
-    ghost reads = { λ _. later_build_form };
-
-    fn read(&self, _alloc: Global, value: &Value) -> Result<(), Misread> {
-        match (value.get("build"), value.get("check")) {
-            (Some(build), None) if is_object(build) => Ok(()),
-            _ => Err(Misread::NotOfForm),
-        }
-    }
-}
-
-/// The job that a value describes, or its first member that is not of its built form.
+/// The job that a value describes, or its first member that is missing or not of its form.
 pub fn read_job(alloc: Global, value: &Value) -> Result<Job, Unread>
     ensures job { IfOk result (λ job. job_of (view value.now) ≡ Ok job) }
-    ensures misfit { (fault : Misfit) → result ≡ Err (Unread.Misfit fault)
-        → job_of (view value.now) ≡ Err fault }
+    ensures misfit { (m : Member) → result ≡ Err (Unread.Misfit m)
+        → job_of (view value.now) ≡ Err m }
     ensures fits { IfOk result (λ job. JobFits (sizes_of job.field) job) }
 {
     if !is_object(value) {
-        return Err(Unread::Misfit(Misfit::Bad(Member::Whole)));
+        return Err(Unread::Misfit(Member::Whole));
     }
-    let field = need(alloc, &FieldForm, &NoForm, value, Member::Field)?;
+    let field = need(alloc, &FieldForm, value, Member::Field)?;
     read_members(alloc, value, field, field.sizes())
 }
 
 // The members behind the field, which has these sizes.
 fn read_members(alloc: Global, value: &Value, field: FieldName, sizes: Sizes) -> Result<Job, Unread>
     ensures job { IfOk result (λ job. members_over field sizes (view value.now) ≡ Ok job) }
-    ensures misfit { (fault : Misfit) → result ≡ Err (Unread.Misfit fault)
-        → members_over field sizes (view value.now) ≡ Err fault }
+    ensures misfit { (m : Member) → result ≡ Err (Unread.Misfit m)
+        → members_over field sizes (view value.now) ≡ Err m }
     ensures field { IfOk result (λ job. job.field ≡ field) }
     ensures fits { IfOk result (λ job. JobFits sizes job) }
 {
     let challenger = ChallengerForm { sizes };
-    let challenger = need(alloc, &challenger, &NoForm, value, Member::Challenger)?;
-    let order = need(alloc, &OrderForm, &NoForm, value, Member::Order)?;
+    let challenger = need(alloc, &challenger, value, Member::Challenger)?;
+    let order = need(alloc, &OrderForm, value, Member::Order)?;
     let most = AtMost { most: MOST_BITS };
-    let bits = need(alloc, &most, &NoForm, value, Member::Bits)?;
+    let bits = need(alloc, &most, value, Member::Bits)?;
     let entries = ListOf {
         item: Below { bound: sizes.base },
     };
-    let table = need(alloc, &entries, &NoForm, value, Member::Table)?;
+    let table = need(alloc, &entries, value, Member::Table)?;
     let most = AtMost {
         most: MOST_VARIABLES,
     };
-    let variables = need(alloc, &most, &NoForm, value, Member::Variables)?;
+    let variables = need(alloc, &most, value, Member::Variables)?;
     let groups = GroupsForm {
         sizes,
         variables: variables as usize,
     };
-    let groups = need(alloc, &groups, &NoForm, value, Member::Groups)?;
+    let groups = need(alloc, &groups, value, Member::Groups)?;
     let challenge = Below {
         bound: sizes.extension,
     };
-    let batching = need(alloc, &challenge, &NoForm, value, Member::Batching)?;
-    let mode = need(
-        alloc,
-        &ModeForm { sizes },
-        &LaterBuildForm,
-        value,
-        Member::Mode,
-    )?;
+    let batching = need(alloc, &challenge, value, Member::Batching)?;
+    let mode = need(alloc, &ModeForm { sizes }, value, Member::Mode)?;
     Ok(Job {
         field,
         challenger,

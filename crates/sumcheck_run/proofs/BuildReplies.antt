@@ -12,8 +12,8 @@ use Rattle.sc_statements.specs.FalseClaims.{capped}
 use Rattle.sc_table.specs.declared.strategy.Strategy.{Strategy}
 use Rattle.sc_audit.specs.declared.error.AuditError.{AuditError}
 use Rattle.sc_audit.specs.Cases.{build, Asked, start_of}
-use Rattle.sc_audit.specs.Refusals.{or_later, mode_refusal, shape_refusal, refusal_for, false_refusal, refusal_of}
-use Rattle.sc_audit.specs.Figures.{Figures, holds, finding_by, false_claim_of, is_matched, figures_of}
+use Rattle.sc_audit.specs.Refusals.{or_later, strategy_refusal, shape_refusal, refusal_for, false_refusal, refusal_of}
+use Rattle.sc_audit.specs.Figures.{Reported, holds, finding_by, false_claim_of, is_matched, figures_of}
 use Rattle.sc_audit.specs.Audits.{figures_from}
 use Rattle.sc_field.specs.ResiduesLaws.{residues_field}
 use Rattle.sc_field.specs.F257x2Laws.{f257x2_field}
@@ -25,7 +25,7 @@ use Rattle.sumcheck_jobs.specs.declared.job.Mode.TheVariants.{Build}
 use Rattle.sumcheck_run.specs.declared.reply.Outcome.TheVariants.{Holds, NoWitness}
 use Rattle.sumcheck_run.specs.Reply.{no_witness}
 use Rattle.sumcheck_run.specs.Witnesses.{honest_rounds}
-use Rattle.sumcheck_run.specs.Report.{Fields, fields_of, judge, task_of, asked_by, finding_reply, figure_lines, or_no_witness, rounds_of, rounds_reply, reply_by, case_reply, judge_over}
+use Rattle.sumcheck_run.specs.Report.{Fields, fields_of, judge, task_of, asked_by, finding_reply, report_lines, or_no_witness, rounds_of, report_from, rounds_reply, reply_by, case_reply, judge_over}
 use Rattle.sumcheck_run.proofs.WitnessLaws.{IsBuiltOr, honest_rounds-built}
 
 capped-none : (found : Option FalseClaim) → false_refusal (capped found) ≡ None → found ≡ None
@@ -39,7 +39,8 @@ or_later-none (Some x) later e = cc
 -- the statements of a build that is not refused are true
 pub all-true : (q : Asked) (strategy : Strategy) → q.case.task ≡ build strategy → refusal_of q ≡ None → false_claim_of q.ops q.case.problem ≡ None
 all-true q strategy task none =
-    capped-none _ (sym (ap (refusal_for q) task) ∙ or_later-none (shape_refusal q) _ (or_later-none (mode_refusal q.case.task) _ none))
+    let done : refusal_for q (build strategy) ≡ None = sym (ap (refusal_for q) task) ∙ or_later-none (shape_refusal q) _ none in
+    capped-none _ (or_later-none (strategy_refusal q.case.problem strategy) _ done)
 
 module _ (q : Asked) (ring : IsRing q.ops) (offered : IsOffered q.case.problem.basis q.case.problem.order) (none : false_claim_of q.ops q.case.problem ≡ None) where
   -- rounds that are built on true statements hold
@@ -58,16 +59,16 @@ module _ (q : Asked) (ring : IsRing q.ops) (offered : IsOffered q.case.problem.b
       ap (λ b. finding_by b (false_claim_of o p)) matched ∙ ap (finding_by true) none
 
   -- so that is the outcome, unless a round has no witness
-  built-outcome : (lines : Figures → List ℕ) (r : Result (List Round) ℕ) →
+  built-outcome : (lines : Reported → List ℕ) (r : Result (List Round) ℕ) →
       IsBuiltOr q.channel.rules q.channel.extension q.channel.base_size (honest_of q.ops q.case.problem) q.channel.bits (start_of q).history [] q.case.problem.variables r →
       ((rounds_reply lines q (or_no_witness r)).outcome ≡ Holds) ⊎ ((0 < q.channel.bits) × ((rounds_reply lines q (or_no_witness r)).outcome ≡ NoWitness))
   unfolding no_witness
   built-outcome lines (Ok rounds) built =
-      inl (ap (λ finding. (finding_reply finding (lines (figures_from q rounds))).outcome) (built-finding rounds built.0 built.1))
+      inl (ap (λ finding. (finding_reply finding (lines (report_from q rounds))).outcome) (built-finding rounds built.0 built.1))
   built-outcome lines (Err i) positive = inr (positive, refl)
 
 -- a build that is not refused holds, unless a round at a difficulty has no witness
-pub case_holds : (lines : Figures → List ℕ) (q : Asked) → IsRing q.ops → IsOffered q.case.problem.basis q.case.problem.order → (strategy : Strategy) → q.case.task ≡ build strategy →
+pub case_holds : (lines : Reported → List ℕ) (q : Asked) → IsRing q.ops → IsOffered q.case.problem.basis q.case.problem.order → (strategy : Strategy) → q.case.task ≡ build strategy →
     refusal_of q ≡ None → ((case_reply lines q).outcome ≡ Holds) ⊎ ((0 < q.channel.bits) × ((case_reply lines q).outcome ≡ NoWitness))
 unfolding case_reply
 case_holds lines q ring offered strategy task none =
@@ -82,7 +83,7 @@ case_holds lines q ring offered strategy task none =
 pub built_holds : (k : Fields) → IsRing k.ops → (job : Job) (strategy : Strategy) → job.mode ≡ Build strategy → refusal_of (asked_by k job) ≡ None →
     ((judge_over k job).outcome ≡ Holds) ⊎ ((0 < job.bits) × ((judge_over k job).outcome ≡ NoWitness))
 unfolding judge_over
-built_holds k ring job strategy mode none = case_holds figure_lines (asked_by k job) ring tt strategy (ap task_of mode) none
+built_holds k ring job strategy mode none = case_holds report_lines (asked_by k job) ring tt strategy (ap task_of mode) none
 
 -- the fields of each name are lawful
 fields_ring : (name : FieldName) → IsRing (fields_of name).ops

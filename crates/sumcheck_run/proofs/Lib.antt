@@ -1,5 +1,6 @@
 pub mod GroupLaws
 pub mod LineLaws
+pub mod GridLines
 pub mod WitnessLaws
 pub mod BuildReplies
 pub mod ReportLaws

@@ -52,7 +52,7 @@ round_lines-append i (p ∷ messages) (w ∷ ws) (s ∷ rs) m r e =
     ∙ ap (λ k. round_line i p (Some w) s ++ round_lines (suc i) messages ws rs ++ round_line k m found r) more
 
 -- the first k + 1 of some images
-mapped-more : {X Y : Type 0} (f : X → Y) (xs : List X) (k : ℕ) (x : X) → k < length xs → x ≡ get_or xs k x →
+pub mapped-more : {X Y : Type 0} (f : X → Y) (xs : List X) (k : ℕ) (x : X) → k < length xs → x ≡ get_or xs k x →
     map f (take (k + 1) xs) ≡ map f (take k xs) ++ f x ∷ []
 mapped-more f xs k x low is = ap (map f) (take_more xs k x low ∙ ap (λ t. take k xs ++ t ∷ []) (sym is)) ∙ map-append f (take k xs) (x ∷ [])
 

@@ -11,6 +11,7 @@ use Rattle.sc_definitions.specs.Statements.{Kind, equality, successor, Statement
 use Rattle.sc_definitions.specs.Events.{Rules, own_extension}
 use Rattle.sc_definitions.specs.Scripted.{scripted_rules}
 use Rattle.sc_definitions.specs.Channels.{channel}
+use Rattle.sc_definitions.specs.Problem.{Problem}
 use Rattle.sc_definitions.proofs.Lengths.{pow-same}
 use Rattle.sc_definitions.proofs.StatementLaws.{first_false_claim-true, first_false_claim-none}
 use Rattle.sc_field.specs.ResiduesLaws.{residues_field}
@@ -25,13 +26,13 @@ use Rattle.sc_statements.specs.NextStatements.{next_statements}
 use Rattle.sc_statements.specs.Groups.{all_statements}
 use Rattle.sc_statements.specs.FalseClaims.{capped}
 use Rattle.sc_audit.specs.Cases.{build, Asked}
-use Rattle.sc_audit.specs.Refusals.{or_later, mode_refusal, exponent_from, arity_of, shape_by, false_refusal, refusal_of}
+use Rattle.sc_audit.specs.Refusals.{or_later, strategy_refusal, exponent_from, arity_of, shape_by, false_refusal, refusal_of}
 use Rattle.sc_audit.proofs.ShapeLaws.{exponent-next, exponent-found}
 use Rattle.sumcheck_run.specs.declared.command.Recipe.{Recipe}
 use Rattle.sumcheck_run.specs.declared.reply.Outcome.TheVariants.{Holds}
 use Rattle.sumcheck_run.specs.Report.{case_reply}
-use Rattle.sumcheck_run.specs.Words.{IsBuiltBy, IsMade}
-use Rattle.sumcheck_run.specs.Made.{value_at, Parts, parts_of, parts_end, PartsFit, true_statement, true_statements, asked_about, values_behind, made_asked, made_reply, summary_lines}
+use Rattle.sumcheck_run.specs.Words.{IsNamed, IsMade}
+use Rattle.sumcheck_run.specs.Made.{value_at, Parts, parts_of, parts_end, PartsFit, true_statement, true_statements, problem_about, asked_about, values_behind, made_asked, made_reply, summary_lines}
 use Rattle.sumcheck_run.proofs.BuildReplies.{case_holds}
 use Rattle.sumcheck_run.proofs.MadeLaws.{values-none, values-more}
 
@@ -114,10 +115,10 @@ power-arity : (n : ℕ) → n < 25 → arity_of (2 ^ n) ≡ Some n
 unfolding arity_of
 power-arity n low = exponent-at 0 n 25 (omega arith) (omega arith)
 
-unrefused-mode : (strategy : Strategy) → IsBuiltBy strategy → mode_refusal (build strategy) ≡ None
-unrefused-mode Plain built = refl
-unrefused-mode Represented built = refl
-unrefused-mode (SmallValue n) built = absurd built
+unrefused-strategy : (p : Problem) (strategy : Strategy) → IsNamed strategy → strategy_refusal p strategy ≡ None
+unrefused-strategy p Plain named = refl
+unrefused-strategy p Represented named = refl
+unrefused-strategy p (SmallValue n) named = absurd named
 
 unrefused-shape : (rows n : ℕ) → n < 25 → rows ≡ 2 ^ n → shape_by (arity_of rows) 16 rows 0 n ≡ None
 unrefused-shape rows n low is =
@@ -135,10 +136,12 @@ made-unrefused r made =
     let count : n ≡ r.variables = values-count r.number (2 ^ r.variables) r.variables in
     let rows : length p.table ≡ 2 ^ n = (parts-fit r.number r.variables).rows in
     let low : n < 25 = omega (arith, made.few) in
-    ap (λ first. or_later first (or_later (shape_by (arity_of (length p.table)) 16 (length p.table) 0 n) (false_refusal (capped (first_false_claim (residues 65537) n (rows_of p.table) 0 (true_statements (residues 65537) p))))))
-    (unrefused-mode r.strategy made.strategy)
-    ∙ ap (λ first. or_later first (false_refusal (capped (first_false_claim (residues 65537) n (rows_of p.table) 0 (true_statements (residues 65537) p))))) (unrefused-shape (length p.table) n low rows)
-    ∙ ap (λ found. false_refusal (capped found)) (all_true (residues 65537) n (rows_of p.table) 0 (equality p.point ∷ successor prefix [] p.successor ∷ []))
+    let o = residues 65537 in
+    let q = problem_about o p in
+    let falsehood = false_refusal (capped (first_false_claim o n (rows_of p.table) 0 (true_statements o p))) in
+    ap (λ first. or_later first (or_later (strategy_refusal q r.strategy) falsehood)) (unrefused-shape (length p.table) n low rows)
+    ∙ ap (λ first. or_later first falsehood) (unrefused-strategy q r.strategy made.strategy)
+    ∙ ap (λ found. false_refusal (capped found)) (all_true o n (rows_of p.table) 0 (equality p.point ∷ successor prefix [] p.successor ∷ []))
 
 -- what is replied to a recipe holds
 pub made-holds : (r : Recipe) → IsMade r → (made_reply r).outcome ≡ Holds

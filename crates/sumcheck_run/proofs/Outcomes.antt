@@ -8,15 +8,14 @@ use Rattle.sumcheck_run.specs.declared.command.Command.TheVariants.{Audit, Make}
 use Rattle.sumcheck_jobs.specs.declared.job.Job.{Job}
 use Rattle.sumcheck_run.specs.Reply.{Reply, code_of, no_witness, proof_refused, refused, usage}
 use Rattle.sumcheck_jobs.specs.Job.{job_of}
-use Rattle.sumcheck_jobs.specs.declared.member.Misfit.{Misfit}
+use Rattle.sumcheck_jobs.specs.declared.member.Member.{Member}
 use Rattle.sc_audit.specs.declared.error.AuditError.{AuditError}
 use Rattle.sc_audit.specs.declared.error.AuditError.TheVariants.{Unbuilt, JobShape, StrategyUnfit, FalseClaim, MissingSumcheckData, RoundCountMismatch, PowWitnessCountMismatch, InvalidPowWitness, NoWitness, NoMemory}
 use Rattle.sc_audit.specs.Refusals.{refusal_of}
-use Rattle.sc_audit.specs.Figures.{Figures, Finding, holds, refuted, lucky}
+use Rattle.sc_audit.specs.Figures.{Reported, Finding, holds, refuted, lucky}
 use Rattle.sc_definitions.specs.Transcript.{Round}
 use Rattle.sc_audit.specs.Cases.{Asked}
-use Rattle.sc_audit.specs.Audits.{figures_from}
-use Rattle.sumcheck_run.specs.Report.{Fields, fields_of, asked_by, figure_lines, refusal_reply, finding_reply, rounds_of, rounds_reply, reply_by, case_reply, judge_over}
+use Rattle.sumcheck_run.specs.Report.{Fields, fields_of, asked_by, report_lines, refusal_reply, finding_reply, rounds_of, report_from, rounds_reply, reply_by, case_reply, judge_over}
 use Rattle.sumcheck_run.specs.Made.{made_asked}
 use Rattle.sumcheck_run.specs.Program.{max_input, too_long, bad_json, job_reply, audit_reply, value_reply, json_reply, reply_of}
 
@@ -53,15 +52,15 @@ finding-answer holds lines = λ e. cc
 finding-answer refuted lines = λ e. cc
 finding-answer lucky lines = refused-answer _
 
-rounds-answer : (lines : Figures → List ℕ) (q : Asked) (r : Result (List Round) AuditError) → IsAnswer (rounds_reply lines q r)
+rounds-answer : (lines : Reported → List ℕ) (q : Asked) (r : Result (List Round) AuditError) → IsAnswer (rounds_reply lines q r)
 rounds-answer lines q (Err e) = refusal-answer e
-rounds-answer lines q (Ok rounds) = let report = figures_from q rounds in finding-answer report.finding (lines report)
+rounds-answer lines q (Ok rounds) = let report = report_from q rounds in finding-answer report.figures.finding (lines report)
 
 reply-answer : (first : Option AuditError) (reply : Reply) → IsAnswer reply → IsAnswer (reply_by first reply)
 reply-answer (Some e) reply answer = refusal-answer e
 reply-answer None reply answer = answer
 
-case-answer : (lines : Figures → List ℕ) (q : Asked) → IsAnswer (case_reply lines q)
+case-answer : (lines : Reported → List ℕ) (q : Asked) → IsAnswer (case_reply lines q)
 unfolding case_reply
 case-answer lines q =
     let rounds = rounds_of q q.case.task in
@@ -69,9 +68,9 @@ case-answer lines q =
 
 judge-answer : (k : Fields) (job : Job) → IsAnswer (judge_over k job)
 unfolding judge_over
-judge-answer k job = case-answer figure_lines (asked_by k job)
+judge-answer k job = case-answer report_lines (asked_by k job)
 
-job-answer : (r : Result Job Misfit) → IsAnswer (job_reply r)
+job-answer : (r : Result Job Member) → IsAnswer (job_reply r)
 job-answer (Err fault) = refused-answer _
 job-answer (Ok job) = judge-answer (fields_of job.field) job
 

@@ -14,14 +14,14 @@ use Rattle.sc_definitions.specs.Problem.{honest_of}
 use Rattle.sc_table.specs.Strategy.{order_of}
 use Rattle.sc_audit.specs.declared.error.AuditError.{AuditError}
 use Rattle.sc_audit.specs.declared.error.AuditError.TheVariants.{Unbuilt, InvalidPowWitness, NoWitness, NoMemory}
-use Rattle.sc_audit.specs.declared.error.Form.TheVariants.{Mode, Groups, Verdict}
+use Rattle.sc_audit.specs.declared.error.Form.TheVariants.{Verdict}
 use Rattle.sc_audit.specs.Cases.{Task, build, check, Asked, start_of}
 use Rattle.sc_audit.specs.Refusals.{refusal_of}
 use Rattle.sc_audit.specs.Figures.{Figures, Reported, holds, figures_of}
-use Rattle.sc_audit.specs.Audits.{AreRounds, IsPlayed, IsAudited, IsLucky, WitnessFails, FindsNoWitness, IsCaused, IsRefusedBy, figures_from}
+use Rattle.sc_audit.specs.Audits.{AreRounds, IsPlayed, IsAudited, IsLucky, WitnessFails, FindsNoWitness, IsCaused, IsRefusedBy, figures_from, grids_for}
 use Rattle.sumcheck_jobs.specs.declared.job.Job.{Job}
 use Rattle.sumcheck_jobs.specs.Statements.{all_claims}
-use Rattle.sumcheck_run.specs.Report.{Fields, task_of, asked_with, rules_of, refusal_reply, finding_reply, figures_reply, figure_lines, or_no_witness, unless_failing, passing_rounds, rounds_of, rounds_reply, reply_by, case_reply, judge_over}
+use Rattle.sumcheck_run.specs.Report.{Fields, task_of, asked_with, rules_of, refusal_reply, finding_reply, report_lines, report_reply, or_no_witness, unless_failing, passing_rounds, rounds_of, rounds_reply, reply_by, case_reply, judge_over}
 use Rattle.sumcheck_run.proofs.WitnessLaws.{AreLow, honest_rounds-whole, honest_rounds-none, none_passes, first_failing-at, first_failing-none}
 use Rattle.sumcheck_run.proofs.BuildReplies.{all-true, built-finding}
 
@@ -47,7 +47,7 @@ asked-same k number xs bits n ss c i t job R h is eb en es ec ei et =
     let rows : length xs ≡ length job.table = sym (length-map xs number) ∙ ap length is in
     rw (rows, eb, entries-numbers number xs job.table is, en, es, ec, ei, et) refl
 
-module _ (lines : Figures → List ℕ) (q : Asked) where
+module _ (lines : Reported → List ℕ) (q : Asked) where
   -- a refusal before a round is the answer
   refused-reply : (e : AuditError) → refusal_of q ≡ Some e → refusal_reply e ≡ case_reply lines q
   unfolding case_reply
@@ -73,8 +73,15 @@ module _ (lines : Figures → List ℕ) (q : Asked) where
       ap (passing_rounds q.channel.rules q.channel.extension q.channel.bits (start_of q).history) (sym are)
       ∙ ap (λ failing. unless_failing failing q.channel.bits rounds) (first_failing-none q.channel.rules q.channel.extension q.channel.bits (start_of q).history rounds passes)
 
-  played-whole : (figures : Figures) (h' : List Event) → refusal_of q ≡ None → (a : IsPlayed q figures h') → AreLowIfBuilt q.case.task a.rounds → figures_reply lines figures ≡ case_reply lines q
-  played-whole figures h' none a low = ap (figures_reply lines) a.is ∙ played-reply (Ok a.rounds) none (rounds-whole q.case.task a.rounds low a.count a.passes a.are)
+  -- figures with the grids of what is done, as a report
+  abbrev reported : Figures → Reported
+  reported figures = record { figures = figures; grids = grids_for q }
+
+  played-whole : (figures : Figures) (h' : List Event) → refusal_of q ≡ None → (a : IsPlayed q figures h') → AreLowIfBuilt q.case.task a.rounds →
+      report_reply lines (reported figures) ≡ case_reply lines q
+  played-whole figures h' none a low =
+      ap (λ (f : Figures). report_reply lines (reported f)) a.is
+      ∙ played-reply (Ok a.rounds) none (rounds-whole q.case.task a.rounds low a.count a.passes a.are)
 
   -- the witnesses of figures are those of their rounds
   low-if_built : (task : Task) (figures : Figures) (rounds : List Round) → figures ≡ figures_from q rounds → All (λ w. w < q.channel.base_size) figures.witnesses → AreLowIfBuilt task rounds
@@ -84,8 +91,10 @@ module _ (lines : Figures → List ℕ) (q : Asked) where
 
   -- a report whose witnesses are numbers of elements is the answer
   pub reported-reply : (report : Reported) (h' : List Event) → refusal_of q ≡ None → All (λ w. w < q.channel.base_size) report.figures.witnesses → IsAudited q report h' →
-      figures_reply lines report.figures ≡ case_reply lines q
-  reported-reply report h' none low a = played-whole report.figures h' none a.played (low-if_built q.case.task report.figures a.played.rounds a.played.is low)
+      report_reply lines report ≡ case_reply lines q
+  reported-reply report h' none low a =
+      ap (λ (grids : List (List ℕ × List ℕ)). report_reply lines (record { figures = report.figures; grids = grids })) a.grids
+      ∙ played-whole report.figures h' none a.played (low-if_built q.case.task report.figures a.played.rounds a.played.is low)
 
   module _ (ring : IsRing q.ops) (offered : IsOffered q.case.problem.basis q.case.problem.order) where
     -- no build is lucky
@@ -99,7 +108,8 @@ module _ (lines : Figures → List ℕ) (q : Asked) where
     -- where a report has no verdict yet, that is refused
     lucky-reply : (h' : List Event) → refusal_of q ≡ None → IsLucky q h' → refusal_reply (Unbuilt Verdict) ≡ case_reply lines q
     lucky-reply h' none l =
-        sym (ap (λ finding. finding_reply finding (lines l.figures)) l.lucky) ∙ played-whole l.figures h' none l.played (unlucky q.case.task h' refl none l l.played.are)
+        sym (ap (λ finding. finding_reply finding (lines (reported l.figures))) l.lucky)
+        ∙ played-whole l.figures h' none l.played (unlucky q.case.task h' refl none l l.played.are)
 
   -- the rounds of a proof whose witness fails are refused for the first that does
   rounds-failing : (task : Task) (i : ℕ) (h' : List Event) → WitnessFails q task i h' → rounds_of q task ≡ Err (InvalidPowWitness i q.channel.bits)
@@ -133,8 +143,6 @@ module _ (lines : Figures → List ℕ) (q : Asked) where
   module _ (ring : IsRing q.ops) (offered : IsOffered q.case.problem.basis q.case.problem.order) where
     -- an answer without a report
     caused-reply : (e : AuditError) (h' : List Event) → e ≢ NoMemory → refusal_of q ≡ None → IsCaused (refusal_of q) q h' e → refusal_reply e ≡ case_reply lines q
-    caused-reply (Unbuilt Mode) h' some none cause = refused-reply (Unbuilt Mode) cause.0
-    caused-reply (Unbuilt Groups) h' some none cause = absurd cause
     caused-reply (Unbuilt Verdict) h' some none cause = lucky-reply ring offered h' none cause
     caused-reply (InvalidPowWitness i bits) h' some none cause =
         ap (λ b. refusal_reply (InvalidPowWitness i b)) cause.0 ∙ played-reply (Err (InvalidPowWitness i q.channel.bits)) none (rounds-failing q.case.task i h' cause.1)
@@ -161,6 +169,6 @@ unrefused x result None is told = refl
 unrefused x result (Some e) is told = elim told [ inl t ↦ cc (is, t) | inr t ↦ cc (is, t) ]
 
 -- the answer to what a job asks of its challenger is the job's
-pub judged : (k : Fields) (job : Job) (R : Rules) (h : List Event) (q : Asked) → R ≡ rules_of k job → h ≡ [] → q ≡ asked_with k job R h → case_reply figure_lines q ≡ judge_over k job
+pub judged : (k : Fields) (job : Job) (R : Rules) (h : List Event) (q : Asked) → R ≡ rules_of k job → h ≡ [] → q ≡ asked_with k job R h → case_reply report_lines q ≡ judge_over k job
 unfolding judge_over
-judged k job R h q rules start is = ap (case_reply figure_lines) (is ∙ ap (λ r. asked_with k job r h) rules ∙ ap (asked_with k job (rules_of k job)) start)
+judged k job R h q rules start is = ap (case_reply report_lines) (is ∙ ap (λ r. asked_with k job r h) rules ∙ ap (asked_with k job (rules_of k job)) start)

@@ -10,7 +10,7 @@ use Rattle.sc_table.specs.declared.strategy.Strategy.{Strategy}
 use Rattle.sc_table.specs.declared.strategy.Strategy.TheVariants.{Plain, Represented}
 use Rattle.sumcheck_run.specs.declared.command.Recipe.{Recipe}
 use Rattle.sumcheck_run.specs.Witnesses.{least_below}
-use Rattle.sumcheck_run.specs.Words.{written_below, recipe_by, recipe_of, IsBuiltBy, IsMade}
+use Rattle.sumcheck_run.specs.Words.{written_below, recipe_by, recipe_of, IsNamed, IsMade}
 use Rattle.sumcheck_run.proofs.WitnessLaws.{least_below-first, least_below-none}
 
 unequal : (xs ys : List ℕ) → xs ≢ ys → bytes_eq xs ys ≡ false
@@ -57,27 +57,27 @@ written-low : (bound : ℕ) (word : List ℕ) (n : ℕ) → written_below bound 
 unfolding written_below
 written-low bound word n is = least_below-low bound (λ k. bytes_eq word (decimal k)) n is
 
-built_by : (plain represented : Bool) (s : Strategy) → (if plain then Some Plain else (if represented then Some Represented else None)) ≡ Some s → IsBuiltBy s
-built_by true represented s is = subst IsBuiltBy (same_Some Plain s is) tt
-built_by false true s is = subst IsBuiltBy (same_Some Represented s is) tt
-built_by false false s is = cc
+named_by : (plain represented : Bool) (s : Strategy) → (if plain then Some Plain else (if represented then Some Represented else None)) ≡ Some s → IsNamed s
+named_by true represented s is = subst IsNamed (same_Some Plain s is) tt
+named_by false true s is = subst IsNamed (same_Some Represented s is) tt
+named_by false false s is = cc
 
 not_zero : (n : ℕ) → (suc n == 0) ≡ false
 not_zero n = grind arith
 
 made_by : (variables number : Option ℕ) (strategy : Option Strategy) (r : Recipe) → ((n : ℕ) → variables ≡ Some n → n < 25) → ((n : ℕ) → number ≡ Some n → n < 65537) →
-    ((s : Strategy) → strategy ≡ Some s → IsBuiltBy s) → recipe_by variables number strategy ≡ Some r → IsMade r
-made_by None number strategy r few low built is = cc
-made_by (Some n) None strategy r few low built is = cc
-made_by (Some n) (Some number) None r few low built is = cc
-made_by (Some zero) (Some number) (Some strategy) r few low built is = cc
-made_by (Some (suc n)) (Some number) (Some strategy) r few low built is =
+    ((s : Strategy) → strategy ≡ Some s → IsNamed s) → recipe_by variables number strategy ≡ Some r → IsMade r
+made_by None number strategy r few low named is = cc
+made_by (Some n) None strategy r few low named is = cc
+made_by (Some n) (Some number) None r few low named is = cc
+made_by (Some zero) (Some number) (Some strategy) r few low named is = cc
+made_by (Some (suc n)) (Some number) (Some strategy) r few low named is =
     let below : suc n < 25 = few (suc n) refl in
     subst IsMade (same_Some (record { variables = suc n; number = number; strategy = strategy }) r
     (sym (ap (λ b. if b then None else Some (record { variables = suc n; number = number; strategy = strategy })) (not_zero n)) ∙ is))
-    (record { some = omega arith; few = omega arith; number = low number refl; strategy = built strategy refl })
+    (record { some = omega arith; few = omega arith; number = low number refl; strategy = named strategy refl })
 
 -- a recipe that words write makes a job
 pub recipe-made : (variables number strategy : List ℕ) (r : Recipe) → recipe_of variables number strategy ≡ Some r → IsMade r
 recipe-made variables number strategy r is =
-    made_by _ _ _ r (written-low 25 variables) (written-low 65537 number) (built_by (bytes_eq strategy (codes "plain")) (bytes_eq strategy (codes "represented"))) is
+    made_by _ _ _ r (written-low 25 variables) (written-low 65537 number) (named_by (bytes_eq strategy (codes "plain")) (bytes_eq strategy (codes "represented"))) is

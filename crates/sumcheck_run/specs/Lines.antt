@@ -1,7 +1,7 @@
 -- The lines of a report, and the texts of refusals, of the numbers in them. Each line ends with a line feed.
 use Rattle.std.specs.Prelude.{ℕ, suc, List, [], ◌∷◌, ◌++◌, codes, decimal, Option, Some, None}
 use Rattle.sc_audit.specs.declared.error.Form.{Form}
-use Rattle.sc_audit.specs.declared.error.Form.TheVariants.{Mode, Groups, Verdict}
+use Rattle.sc_audit.specs.declared.error.Form.TheVariants.{Groups, Verdict}
 use Rattle.sc_audit.specs.declared.error.ShapeFault.{ShapeFault}
 use Rattle.sc_audit.specs.declared.error.ShapeFault.TheVariants.{TableLength, Difficulty, Arity}
 use Rattle.sc_audit.specs.declared.error.FitFault.{FitFault}
@@ -49,6 +49,23 @@ eval_line x = codes "eval " ++ decimal x ++ codes "\n"
 unfoldable pub weight_line : ℕ → List ℕ
 weight_line x = codes "weight " ++ decimal x ++ codes "\n"
 
+-- a list of a grid by its round's number and the place of the round's variable
+unfoldable pub grid_name : ℕ → List ℕ → List ℕ
+grid_name i place = codes "grid " ++ decimal i ++ codes " " ++ place
+
+-- the same with its values
+abbrev pub grid_line : ℕ → List ℕ → List ℕ → List ℕ
+grid_line i place values = grid_name i place ++ spaced values ++ codes "\n"
+
+-- both lines of a round's grid: its variable at 0, and at infinity
+abbrev pub both_lines : ℕ → List ℕ × List ℕ → List ℕ
+both_lines i grid = grid_line i (codes "zero") grid.0 ++ grid_line i (codes "infinity") grid.1
+
+-- those of each round, numbered from i on
+abbrev pub grid_lines : ℕ → List (List ℕ × List ℕ) → List ℕ
+grid_lines i [] = []
+grid_lines i (grid ∷ grids) = both_lines i grid ++ grid_lines (suc i) grids
+
 unfoldable pub holds_line : List ℕ
 holds_line = codes "verdict holds\n"
 
@@ -57,7 +74,6 @@ refuted_line = codes "verdict refuted\n"
 
 -- what is not built yet
 unfoldable pub unbuilt_text : Form → List ℕ
-unbuilt_text Mode = codes "unbuilt mode"
 unbuilt_text Groups = codes "unbuilt groups"
 unbuilt_text Verdict = codes "unbuilt verdict"
 

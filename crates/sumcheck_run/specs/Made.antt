@@ -11,7 +11,7 @@ use Rattle.sc_definitions.specs.Channels.{channel}
 use Rattle.sc_definitions.specs.Problem.{Problem}
 use Rattle.sc_table.specs.declared.strategy.Strategy.{Strategy}
 use Rattle.sc_audit.specs.Cases.{build, Asked}
-use Rattle.sc_audit.specs.Figures.{Figures}
+use Rattle.sc_audit.specs.Figures.{Reported}
 use Rattle.sumcheck_run.specs.declared.command.Recipe.{Recipe}
 use Rattle.sumcheck_run.specs.declared.made.Parts.{Parts as PartsOf}
 use Rattle.sumcheck_run.specs.Reply.{Reply}
@@ -102,9 +102,10 @@ sum_of o (x ∷ xs) = x +⟨ o ⟩ sum_of o xs
 
 -- the lines of a report in short, up to the verdict: how many rows and statements there are, the claim, the sum of all values that the rounds sent, and
 -- what they leave of the claim
-unfoldable pub summary_lines : ℕ → ℕ → Ops → Figures → List ℕ
+unfoldable pub summary_lines : ℕ → ℕ → Ops → Reported → List ℕ
 summary_lines rows statements o r =
-    counts_lines rows statements ++ claim_line r.claim ++ pairs_line (sum_of o (map (sum_of o) r.messages)) ++ residual_line r.residual
+    counts_lines rows statements ++ claim_line r.figures.claim ++ pairs_line (sum_of o (map (sum_of o) r.figures.messages))
+    ++ residual_line r.figures.residual
 
 -- what is replied: the report in short
 abbrev pub made_reply : Recipe → Reply

@@ -6,7 +6,7 @@ use Rattle.sc_forms.specs.Values.{value_of}
 use Rattle.sumcheck_run.specs.Reply.{Reply, refused, usage}
 use Rattle.sumcheck_jobs.specs.Job.{job_of}
 use Rattle.sumcheck_jobs.specs.Members.{misfit_text}
-use Rattle.sumcheck_jobs.specs.declared.member.Misfit.{Misfit}
+use Rattle.sumcheck_jobs.specs.declared.member.Member.{Member}
 use Rattle.sumcheck_run.specs.Report.{judge}
 use Rattle.sumcheck_run.specs.Words.{recipe_of}
 use Rattle.sumcheck_run.specs.Made.{made_reply}
@@ -24,9 +24,9 @@ too_long = refused (codes "too-long")
 unfoldable pub bad_json : Reply
 bad_json = refused (codes "bad-json")
 
-abbrev pub job_reply : Result Job Misfit → Reply
+abbrev pub job_reply : Result Job Member → Reply
 job_reply (Ok job) = judge job
-job_reply (Err fault) = refused (misfit_text fault)
+job_reply (Err m) = refused (misfit_text m)
 
 -- what `audit` replies to a value
 abbrev pub audit_reply : Data → Reply

@@ -20,8 +20,8 @@ use Rattle.sc_audit.specs.declared.error.AuditError.TheVariants.{Unbuilt, JobSha
 use Rattle.sc_audit.specs.declared.error.Form.TheVariants.{Verdict}
 use Rattle.sc_audit.specs.Cases.{Case, Given, Task, build, check, Asked, start_of}
 use Rattle.sc_audit.specs.Refusals.{refusal_of}
-use Rattle.sc_audit.specs.Figures.{Figures, Finding, holds, refuted, lucky}
-use Rattle.sc_audit.specs.Audits.{figures_from}
+use Rattle.sc_audit.specs.Figures.{Figures, Finding, Reported, holds, refuted, lucky}
+use Rattle.sc_audit.specs.Audits.{figures_from, grids_for}
 use Rattle.sumcheck_run.specs.declared.reply.Outcome.TheVariants.{Holds, Refuted}
 use Rattle.sumcheck_jobs.specs.declared.job.FieldName.{FieldName}
 use Rattle.sumcheck_jobs.specs.declared.job.FieldName.TheVariants.{F65537, F257x2, F16}
@@ -34,7 +34,7 @@ use Rattle.sumcheck_jobs.specs.declared.job.Mode.TheVariants.{Build, Check}
 use Rattle.sumcheck_run.specs.Reply.{Reply, no_witness, proof_refused, refused}
 use Rattle.sumcheck_jobs.specs.Statements.{all_claims}
 use Rattle.sumcheck_run.specs.Witnesses.{honest_rounds, first_failing}
-use Rattle.sumcheck_run.specs.Lines.{claim_line, round_lines, residual_line, eval_line, weight_line, holds_line, refuted_line, unbuilt_text, shape_fault_text, fit_fault_text, false_claim_text, missing_text, rounds_text, witnesses_text, witness_text}
+use Rattle.sumcheck_run.specs.Lines.{claim_line, round_lines, residual_line, eval_line, weight_line, grid_lines, holds_line, refuted_line, unbuilt_text, shape_fault_text, fit_fault_text, false_claim_text, missing_text, rounds_text, witnesses_text, witness_text}
 
 -- ---- the case that a job is
 
@@ -108,10 +108,14 @@ asked_by k job = asked_with k job (rules_of k job) []
 
 -- ---- the reply to it
 
--- the lines of a report up to the verdict
+-- the lines of figures
 unfoldable pub figure_lines : Figures → List ℕ
 figure_lines r =
     claim_line r.claim ++ round_lines 0 r.messages r.witnesses r.challenges ++ residual_line r.residual ++ eval_line r.eval ++ weight_line r.weight
+
+-- the lines of a report up to the verdict
+unfoldable pub report_lines : Reported → List ℕ
+report_lines r = figure_lines r.figures ++ grid_lines 0 r.grids
 
 -- A refusal. Want of memory is a status of its own, and has no text.
 abbrev pub refusal_reply : AuditError → Reply
@@ -132,9 +136,9 @@ finding_reply holds lines = record { outcome = Holds; text = lines ++ holds_line
 finding_reply refuted lines = record { outcome = Refuted; text = lines ++ refuted_line }
 finding_reply lucky lines = refusal_reply (Unbuilt Verdict)
 
--- what is replied to figures that are shown by these lines
-abbrev pub figures_reply : (Figures → List ℕ) → Figures → Reply
-figures_reply lines r = finding_reply r.finding (lines r)
+-- what is replied to a report that is shown by these lines
+abbrev pub report_reply : (Reported → List ℕ) → Reported → Reply
+report_reply lines r = finding_reply r.figures.finding (lines r)
 
 -- rounds that are built, or the refusal of the one for which no witness is found
 abbrev pub or_no_witness : Result (List Round) ℕ → Result (List Round) AuditError
@@ -158,9 +162,13 @@ rounds_of q (check None) = Ok []
 rounds_of q (check (Some given)) =
     passing_rounds q.channel.rules q.channel.extension q.channel.bits (start_of q).history (given_rounds given.messages given.witnesses)
 
+-- the report on rounds of what is asked: what they and their challenges determine, and the grids of what is done
+abbrev pub report_from : Asked → List Round → Reported
+report_from q rounds = record { figures = figures_from q rounds; grids = grids_for q }
+
 -- the reply to rounds: their report, or why they cannot be played
-abbrev pub rounds_reply : (Figures → List ℕ) → Asked → Result (List Round) AuditError → Reply
-rounds_reply lines q (Ok rounds) = figures_reply lines (figures_from q rounds)
+abbrev pub rounds_reply : (Reported → List ℕ) → Asked → Result (List Round) AuditError → Reply
+rounds_reply lines q (Ok rounds) = report_reply lines (report_from q rounds)
 rounds_reply lines q (Err e) = refusal_reply e
 
 abbrev pub reply_by : Option AuditError → Reply → Reply
@@ -168,12 +176,12 @@ reply_by (Some e) reply = refusal_reply e
 reply_by None reply = reply
 
 -- what is answered: the first refusal before a round is played, or else the reply to the rounds
-unfoldable pub case_reply : (Figures → List ℕ) → Asked → Reply
+unfoldable pub case_reply : (Reported → List ℕ) → Asked → Reply
 case_reply lines q = reply_by (refusal_of q) (rounds_reply lines q (rounds_of q q.case.task))
 
 -- what a job is answered over these fields and under its own challenger
 unfoldable pub judge_over : Fields → Job → Reply
-judge_over k job = case_reply figure_lines (asked_by k job)
+judge_over k job = case_reply report_lines (asked_by k job)
 
 -- what a job is answered, over the fields that it names
 abbrev pub judge : Job → Reply

@@ -12,7 +12,7 @@ use Rattle.sumcheck_run.specs.Witnesses.{least_below}
 unfoldable pub written_below : ℕ → List ℕ → Option ℕ
 written_below bound word = least_below bound (λ n. bytes_eq word (decimal n))
 
--- the strategy that a word names, if it is built
+-- the strategy that a word names, if it names one
 abbrev pub strategy_of : List ℕ → Option Strategy
 strategy_of word = if bytes_eq word (codes "plain") then Some Plain else (if bytes_eq word (codes "represented") then Some Represented else None)
 
@@ -25,18 +25,18 @@ recipe_by variables number strategy = None
 abbrev pub recipe_of : List ℕ → List ℕ → List ℕ → Option Recipe
 recipe_of variables number strategy = recipe_by (written_below (most_variables + 1) variables) (written_below 65537 number) (strategy_of strategy)
 
--- the strategy is built
-abbrev pub IsBuiltBy : Strategy → Type 0
-IsBuiltBy Plain = Unit {0}
-IsBuiltBy Represented = Unit {0}
-IsBuiltBy (SmallValue variables) = ⊥
+-- a word names the strategy
+abbrev pub IsNamed : Strategy → Type 0
+IsNamed Plain = Unit {0}
+IsNamed Represented = Unit {0}
+IsNamed (SmallValue variables) = ⊥
 
 -- a job is made by it
 pub record IsMade (r : Recipe) : Type 0 where
   pub some : 0 < r.variables
   pub few : r.variables ≤ most_variables
   pub number : r.number < 65537
-  pub strategy : IsBuiltBy r.strategy
+  pub strategy : IsNamed r.strategy
 
 -- a recipe that a command has is one by which a job is made
 abbrev pub CommandFits : Option Command → Type 0

@@ -93,7 +93,7 @@ fn read_decimal(word: &str) -> Option<u64>
     }
 }
 
-// The strategy that a word names, if it is built.
+// The strategy that a word names, if it names one.
 fn read_strategy(word: &str) -> Option<Strategy>
     ensures { result ≡ strategy_of word.now }
 {

@@ -7,6 +7,7 @@
 mod asked;
 mod command;
 mod elements;
+mod grids;
 mod lines;
 mod made;
 mod program;
@@ -20,9 +21,9 @@ mod values;
 pub use command::{Command, Recipe, needs_input, read_command};
 pub use program::{Status, run};
 pub use reply::{Answer, Outcome};
-pub use report::judge_job;
+pub use report::{judge_job, show_report};
 pub use sc_streams::{Failed, MemSink, MemSource, PlainSource, Sink, Source, StdSink, StdSource};
 pub use sumcheck_jobs::{
-    Challenger, EqualityClaim, FieldName, Group, Job, Member, Misfit, Mode, ProductClaim, Proof,
+    Challenger, EqualityClaim, FieldName, Group, Job, Member, Mode, ProductClaim, Proof,
     ScalarClaim, Script, Sizes, SuccessorClaim, Unread, read_job,
 };

@@ -1,15 +1,15 @@
 //! The lines of a report, and the texts of refusals, of the numbers in them.
-ghost use Rattle.std.specs.Prelude.{◌≡◌, ◌++◌, [], ◌∷◌, OnOk, IfOk, string_bytes};
+ghost use Rattle.std.specs.Prelude.{◌≡◌, ◌++◌, [], ◌∷◌, OnOk, IfOk, codes, string_bytes};
 ghost use Rattle.sumcheck_run.specs.Lines.{claim_line, counts_lines, eval_line, false_claim_text};
-ghost use Rattle.sumcheck_run.specs.Lines.{fit_fault_text, holds_line, missing_text, pairs_line};
-ghost use Rattle.sumcheck_run.specs.Lines.{refuted_line, residual_line, round_line, rounds_text};
-ghost use Rattle.sumcheck_run.specs.Lines.{shape_fault_text, spaced, unbuilt_text, weight_line};
-ghost use Rattle.sumcheck_run.specs.Lines.{witness_text, witnesses_text};
+ghost use Rattle.sumcheck_run.specs.Lines.{fit_fault_text, grid_name, holds_line, missing_text};
+ghost use Rattle.sumcheck_run.specs.Lines.{pairs_line, refuted_line, residual_line, round_line};
+ghost use Rattle.sumcheck_run.specs.Lines.{rounds_text, shape_fault_text, spaced, unbuilt_text};
+ghost use Rattle.sumcheck_run.specs.Lines.{weight_line, witness_text, witnesses_text};
 ghost use Rattle.sumcheck_jobs.specs.Members.{misfit_text};
 
 use sc_audit::{FitFault, Form, ShapeFault};
 use std::alloc::{AllocError, Global};
-use sumcheck_jobs::Misfit;
+use sumcheck_jobs::Member;
 
 #[tactic(auto, unfolding(crate::specs::Lines::counts_lines))]
 pub(crate) fn push_counts(
@@ -79,6 +79,27 @@ pub(crate) fn push_weight(text: &mut String, x: u64) -> Result<(), AllocError>
     write!(text, "weight {x}\n")
 }
 
+#[tactic(auto, unfolding(crate::specs::Lines::grid_name))]
+pub(crate) fn push_grid_name(text: &mut String, i: usize, place: &str) -> Result<(), AllocError>
+    ensures { OnOk result (string_bytes text.new
+        ≡ string_bytes text.old ++ grid_name i place.now) }
+{
+    write!(text, "grid {i} {place}")
+}
+
+#[tactic(auto, unfolding(crate::specs::Lines::spaced))]
+pub(crate) fn push_spaced(text: &mut String, x: u64) -> Result<(), AllocError>
+    ensures { OnOk result (string_bytes text.new ≡ string_bytes text.old ++ spaced (x ∷ [])) }
+{
+    write!(text, " {x}")
+}
+
+pub(crate) fn push_end(text: &mut String) -> Result<(), AllocError>
+    ensures { OnOk result (string_bytes text.new ≡ string_bytes text.old ++ codes "\n") }
+{
+    text.push_str("\n")
+}
+
 #[tactic(auto, unfolding(crate::specs::Lines::holds_line))]
 pub(crate) fn push_holds(text: &mut String) -> Result<(), AllocError>
     ensures { OnOk result (string_bytes text.new ≡ string_bytes text.old ++ holds_line) }
@@ -94,19 +115,11 @@ pub(crate) fn push_refuted(text: &mut String) -> Result<(), AllocError>
 }
 
 #[tactic(auto, unfolding(sumcheck_jobs::specs::Members::misfit_text))]
-pub(crate) fn misfit_text(alloc: Global, fault: Misfit) -> Result<String, AllocError>
-    ensures { IfOk result (λ s. string_bytes s ≡ misfit_text fault) }
+pub(crate) fn misfit_text(alloc: Global, member: Member) -> Result<String, AllocError>
+    ensures { IfOk result (λ s. string_bytes s ≡ misfit_text member) }
 {
-    match fault {
-        Misfit::Bad(member) => {
-            let name = member.name();
-            format!(in alloc; "bad-job {name}")
-        }
-        Misfit::Unbuilt(member) => {
-            let name = member.name();
-            format!(in alloc; "unbuilt {name}")
-        }
-    }
+    let name = member.name();
+    format!(in alloc; "bad-job {name}")
 }
 
 #[tactic(auto, unfolding(crate::specs::Lines::unbuilt_text))]
@@ -114,7 +127,6 @@ pub(crate) fn unbuilt_text(alloc: Global, form: Form) -> Result<String, AllocErr
     ensures { IfOk result (λ s. string_bytes s ≡ unbuilt_text form) }
 {
     match form {
-        Form::Mode => String::from_str(alloc, "unbuilt mode"),
         Form::Groups => String::from_str(alloc, "unbuilt groups"),
         Form::Verdict => String::from_str(alloc, "unbuilt verdict"),
     }

@@ -13,7 +13,7 @@ ghost use Rattle.sc_transcript.specs.Data.{pair_of};
 ghost use Rattle.sumcheck_run.specs.Made.{PartsFit, asked_about, made_reply, parts_end, parts_in};
 ghost use Rattle.sumcheck_run.specs.Made.{parts_of, sum_of, summary_lines, true_statement};
 ghost use Rattle.sumcheck_run.specs.Made.{value_at};
-ghost use Rattle.sumcheck_run.specs.Report.{case_reply, figures_reply};
+ghost use Rattle.sumcheck_run.specs.Report.{case_reply, report_reply};
 ghost use Rattle.sumcheck_run.specs.Values.{last_of, number_of};
 ghost use Rattle.sumcheck_run.specs.Words.{IsMade};
 
@@ -183,8 +183,8 @@ fn show_in_short<F: Field, EF: ExtensionField<F>>(
     rows: usize,
     report: &Report<F, EF>,
 ) -> Result<Answer, NoMemory>
-    ensures { IfOk result (λ a. a ≡ figures_reply (summary_lines rows 2 EF.ops)
-        (report_in F.number EF.number report.now).figures) }
+    ensures { IfOk result (λ a. a ≡ report_reply (summary_lines rows 2 EF.ops)
+        (report_in F.number EF.number report.now)) }
 {
     let text = summary(alloc, rows, report)?;
     say_verdict(alloc, text, &report.verdict)
@@ -198,7 +198,7 @@ fn summary<F: Field, EF: ExtensionField<F>>(
     report: &Report<F, EF>,
 ) -> Result<String, NoMemory>
     ensures { IfOk result (λ s. string_bytes s
-        ≡ summary_lines rows 2 EF.ops (report_in F.number EF.number report.now).figures) }
+        ≡ summary_lines rows 2 EF.ops (report_in F.number EF.number report.now)) }
 {
     let sent = sent_sum(report.rounds.polynomial_evaluations());
     let mut text = String::new(alloc);

@@ -22,7 +22,7 @@ use sc_field::NoMemory;
 use sc_forms::{NoValue, read_value};
 use sc_streams::{ReadFault, Sink, Source, read_all, write_all};
 use std::alloc::Global;
-use sumcheck_jobs::{Misfit, Unread, read_job};
+use sumcheck_jobs::{Member, Unread, read_job};
 
 // The greatest number of bytes of an input.
 const MAX_INPUT: usize = 67_108_864;
@@ -53,15 +53,15 @@ fn audit(alloc: Global, input: Vec<u8>) -> Result<Answer, NoMemory>
     drop(value);
     match job {
         Ok(job) => judge_job(alloc, job),
-        Err(Unread::Misfit(fault)) => refuse_misfit(alloc, fault),
+        Err(Unread::Misfit(member)) => refuse_misfit(alloc, member),
         Err(Unread::NoMemory) => Err(NoMemory),
     }
 }
 
-fn refuse_misfit(alloc: Global, fault: Misfit) -> Result<Answer, NoMemory>
-    ensures { IfOk result (λ a. a ≡ refused (misfit_text fault)) }
+fn refuse_misfit(alloc: Global, member: Member) -> Result<Answer, NoMemory>
+    ensures { IfOk result (λ a. a ≡ refused (misfit_text member)) }
 {
-    let why = lines::misfit_text(alloc, fault)?;
+    let why = lines::misfit_text(alloc, member)?;
     Answer::refused(alloc, &why)
 }
 

@@ -8,9 +8,11 @@ ghost use Rattle.sc_audit.specs.Refusals.{refusal_of};
 ghost use Rattle.sumcheck_jobs.specs.Elements.{sizes_of};
 ghost use Rattle.sumcheck_jobs.specs.Job.{JobFits, ScriptFits};
 ghost use Rattle.sumcheck_run.specs.Lines.{round_lines};
-ghost use Rattle.sumcheck_run.specs.Report.{Fields, asked_by, case_reply, fields_of, figure_lines, figures_reply, finding_reply, judge, judge_over};
+ghost use Rattle.sumcheck_run.specs.Report.{Fields, asked_by, case_reply, fields_of, finding_reply};
+ghost use Rattle.sumcheck_run.specs.Report.{judge, judge_over, report_lines, report_reply};
 
 use crate::asked::audit_job;
+use crate::grids::push_grids;
 use crate::refusals::refuse;
 use crate::reply::{Answer, Outcome};
 use crate::{elements, lines};
@@ -88,20 +90,22 @@ fn answer_of<F: Field, EF: ExtensionField<F>, R: IntoTranscriptField<EF>, C: Cha
     asked: &AuditJob<F, EF>,
     challenger: &mut C,
 ) -> Result<Answer, NoMemory>
-    ensures { IfOk result (λ a. a ≡ case_reply figure_lines (asked_of asked.now (C.rules challenger.old) (C.history challenger.old))) }
+    ensures { IfOk result (λ a. a ≡ case_reply report_lines
+        (asked_of asked.now (C.rules challenger.old) (C.history challenger.old))) }
 {
     match audit::<F, EF, R, C>(alloc, asked, challenger) {
-        Ok(report) => show(alloc, &report),
+        Ok(report) => show_report(alloc, &report),
         Err(error) => refuse(alloc, error),
     }
 }
 
-// The answer that shows a report.
-fn show<F: Field, EF: ExtensionField<F>>(
+/// The answer that shows a report, with its grids.
+pub fn show_report<F: Field, EF: ExtensionField<F>>(
     alloc: Global,
     report: &Report<F, EF>,
 ) -> Result<Answer, NoMemory>
-    ensures { IfOk result (λ a. a ≡ figures_reply figure_lines (report_in F.number EF.number report.now).figures) }
+    ensures { IfOk result (λ a. a
+        ≡ report_reply report_lines (report_in F.number EF.number report.now)) }
 {
     let text = report_text(alloc, report)?;
     say_verdict(alloc, text, &report.verdict)
@@ -132,12 +136,13 @@ pub(crate) fn say_verdict<F: Field>(
 }
 
 // The lines of a report up to the verdict.
-#[tactic(auto, unfolding(crate::specs::Report::figure_lines))]
+#[tactic(auto, unfolding(crate::specs::Report::figure_lines, crate::specs::Report::report_lines))]
 fn report_text<F: Field, EF: ExtensionField<F>>(
     alloc: Global,
     report: &Report<F, EF>,
 ) -> Result<String, NoMemory>
-    ensures { IfOk result (λ s. string_bytes s ≡ figure_lines (report_in F.number EF.number report.now).figures) }
+    ensures { IfOk result (λ s. string_bytes s
+        ≡ report_lines (report_in F.number EF.number report.now)) }
 {
     let mut text = String::new(alloc);
     lines::push_claim(&mut text, report.claim.index())?;
@@ -150,6 +155,7 @@ fn report_text<F: Field, EF: ExtensionField<F>>(
     lines::push_residual(&mut text, report.residual.index())?;
     lines::push_eval(&mut text, report.eval.index())?;
     lines::push_weight(&mut text, report.weight.index())?;
+    push_grids(&mut text, &report.grids)?;
     Ok(text)
 }
 

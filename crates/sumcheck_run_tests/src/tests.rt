@@ -6,6 +6,7 @@ mod jobs;
 mod kinds;
 mod made;
 mod refusals;
+mod small_value;
 mod streams;
 
 use cases::{

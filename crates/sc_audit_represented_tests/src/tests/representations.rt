@@ -1,4 +1,4 @@
-//! Rounds that are built on a representation and without one, with figures from a script that is no part of this.
+//! Rounds that are built on a representation, without one and on small values, with figures from a script that is no part of this.
 use super::{BASIS, CHALLENGE_OF_TWO, Case, Figures, HEAD, TWO_ROUNDS, VALUES_OF_TWO, assert_over};
 use sc_audit::laws::build_laws;
 use sc_audit::{AuditError, Strategy};
@@ -25,6 +25,7 @@ const SIXTEEN: Case = Case {
         weight: 12,
         holds: true,
     }),
+    grids: &[],
     seed: &TWO_ROUNDS,
     events: &[Word(2), Word(6), Draw, Word(0), Word(6), Draw],
 };
@@ -60,7 +61,7 @@ const SIXTEEN_FALSE: Case = Case {
     ..SIXTEEN
 };
 
-static SIXTEEN_BUILDS: [Case; 6] = [
+static SIXTEEN_BUILDS: [Case; 9] = [
     SIXTEEN,
     SIXTEEN_SUFFIX,
     SIXTEEN_FALSE,
@@ -74,6 +75,20 @@ static SIXTEEN_BUILDS: [Case; 6] = [
     },
     Case {
         strategy: Strategy::Represented,
+        ..SIXTEEN_FALSE
+    },
+    Case {
+        strategy: Strategy::SmallValue { variables: 2 },
+        grids: &[(&[2], &[6]), (&[0, 0, 0], &[3, 0, 4])],
+        ..SIXTEEN
+    },
+    Case {
+        strategy: Strategy::SmallValue { variables: 2 },
+        grids: &[(&[0], &[3]), (&[0, 2, 3], &[0, 6, 4])],
+        ..SIXTEEN_SUFFIX
+    },
+    Case {
+        strategy: Strategy::SmallValue { variables: 2 },
         ..SIXTEEN_FALSE
     },
 ];
@@ -120,6 +135,7 @@ const PAIRS: Case = Case {
         weight: 519,
         holds: true,
     }),
+    grids: &[],
     seed: &ONE_ROUND_OF_TWO,
     events: &[Word(1), Word(256), Word(256), Word(2), Draw, Draw],
 };
@@ -172,7 +188,7 @@ const PAIRS_FALSE: Case = Case {
     ..PAIRS
 };
 
-static PAIR_BUILDS: [Case; 6] = [
+static PAIR_BUILDS: [Case; 9] = [
     PAIRS,
     PAIRS_SUFFIX,
     PAIRS_FALSE,
@@ -186,6 +202,23 @@ static PAIR_BUILDS: [Case; 6] = [
     },
     Case {
         strategy: Strategy::Represented,
+        ..PAIRS_FALSE
+    },
+    Case {
+        strategy: Strategy::SmallValue { variables: 1 },
+        grids: &[(&[65793], &[770])],
+        ..PAIRS
+    },
+    Case {
+        strategy: Strategy::SmallValue { variables: 2 },
+        grids: &[
+            (&[46505], &[54814]),
+            (&[47215, 49879, 1976], &[45017, 66033, 45426]),
+        ],
+        ..PAIRS_SUFFIX
+    },
+    Case {
+        strategy: Strategy::SmallValue { variables: 1 },
         ..PAIRS_FALSE
     },
 ];

@@ -33,6 +33,7 @@ const PLAIN: Case = Case {
         weight: 144,
         holds: true,
     }),
+    grids: &[],
     seed: &TWO_ROUNDS,
     events: &[Word(65533), Word(15), Draw, Word(65425), Word(160), Draw],
 };
@@ -40,6 +41,13 @@ const PLAIN: Case = Case {
 const REPRESENTED: Case = Case {
     name: "counts of a represented build",
     strategy: Strategy::Represented,
+    ..PLAIN
+};
+
+const SMALL: Case = Case {
+    name: "counts of a small-value build",
+    strategy: Strategy::SmallValue { variables: 2 },
+    grids: &[(&[65533], &[15]), (&[2, 65525, 65525], &[65532, 20, 15])],
     ..PLAIN
 };
 
@@ -88,4 +96,17 @@ fn rounds_are_made_from_folded_tables_in_their_field(rt: HostRuntime) {
     for (case, counts) in &BUILDS {
         assert_counts(&rt, case, *counts);
     }
+}
+
+// The two values of a round are weighted alike, each of a grid of as many nodes.
+#[test]
+fn both_values_of_a_round_are_read_off_grids(rt: HostRuntime) {
+    let draws = flagged(&rt, SMALL.draws);
+    let answer = assert_case::<Traced, Traced, Image, HostRuntime>(&rt, &SMALL, draws);
+    let report = answer.expect(&rt, "a report");
+    let messages = report.rounds.polynomial_evaluations();
+    assert!(rt; messages.len() == 2, "rounds");
+    let (zero, infinity) = (messages[1].c_a.count, messages[1].c_inf.count);
+    assert_eq!(rt; zero, infinity, "counts of the second round");
+    assert!(rt; zero >= 4, "a count of the second round");
 }

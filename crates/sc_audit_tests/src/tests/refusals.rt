@@ -1,17 +1,20 @@
 //! What is refused before a round is played, each behind a history.
 use super::seventeen::F17;
-use super::{Case, PREFIX, Task, assert_all};
-use sc_audit::{AuditError, Form, ShapeFault, Strategy};
+use super::{Case, Last, PREFIX, Task, assert_all};
+use sc_audit::{AuditError, FitFault, Form, ShapeFault, Strategy};
 use sc_definitions::Event::{Draw, Word};
 use std::process::Abort;
 
 // Nothing is appended to the history, which has a draw.
 const REFUSED: Case = Case {
-    name: "a strategy on small values",
-    task: Task::Build(Strategy::SmallValue { variables: 1 }),
+    name: "small values for no variable",
+    task: Task::Build(Strategy::SmallValue { variables: 0 }),
     draws: &[13, 8, 12],
     past: &[Word(3), Word(16), Draw],
-    answer: Err(AuditError::Unbuilt(Form::Mode)),
+    answer: Err(AuditError::StrategyUnfit(FitFault::Variables {
+        variables: 0,
+        bound: 2,
+    })),
     seed: &[],
     events: &[],
     ..PREFIX
@@ -36,6 +39,26 @@ const FALSE: Case = Case {
     ..BUILD
 };
 
+// A select behind a claim, in small-value rounds. Its value is false.
+const SELECT: Case = Case {
+    name: "a select in small-value rounds",
+    claims: &[(&[2, 5], 14)],
+    last: Last::Select(2, 0),
+    task: Task::Build(Strategy::SmallValue { variables: 2 }),
+    answer: Err(AuditError::StrategyUnfit(FitFault::Select { statement: 1 })),
+    ..REFUSED
+};
+
+// A successor alone, in small-value rounds. Its value is false.
+const SUCCESSOR: Case = Case {
+    name: "a successor in small-value rounds",
+    claims: &[],
+    last: Last::Successor(&[], &[2, 5], 0),
+    task: Task::Build(Strategy::SmallValue { variables: 2 }),
+    answer: Err(AuditError::Unbuilt(Form::Groups)),
+    ..REFUSED
+};
+
 // A proof of one round.
 const FEW_ROUNDS: Case = Case {
     name: "a round too few",
@@ -47,8 +70,35 @@ const FEW_ROUNDS: Case = Case {
     ..REFUSED
 };
 
-static REFUSALS: [Case; 18] = [
+static REFUSALS: [Case; 27] = [
     REFUSED,
+    Case {
+        name: "small values for more variables than there are",
+        task: Task::Build(Strategy::SmallValue { variables: 3 }),
+        answer: Err(AuditError::StrategyUnfit(FitFault::Variables {
+            variables: 3,
+            bound: 2,
+        })),
+        ..REFUSED
+    },
+    SELECT,
+    SUCCESSOR,
+    Case {
+        name: "a selector in small-value rounds",
+        last: Last::Successor(&[5], &[7], 0),
+        answer: Err(AuditError::StrategyUnfit(FitFault::Selector { statement: 0 })),
+        ..SUCCESSOR
+    },
+    Case {
+        name: "small values for no variable and a select",
+        last: Last::Select(2, 0),
+        ..REFUSED
+    },
+    Case {
+        name: "small values for no variable and a successor",
+        last: Last::Successor(&[], &[2, 5], 0),
+        ..REFUSED
+    },
     Case {
         name: "an empty table",
         table: &[],
@@ -97,6 +147,11 @@ static REFUSALS: [Case; 18] = [
     Case {
         name: "false claims under a representation",
         task: Task::Build(Strategy::Represented),
+        ..FALSE
+    },
+    Case {
+        name: "false claims in small-value rounds",
+        task: Task::Build(Strategy::SmallValue { variables: 2 }),
         ..FALSE
     },
     Case {
@@ -165,6 +220,22 @@ static REFUSALS: [Case; 18] = [
         answer: Err(AuditError::NoWitness { round: 1 }),
         ..BUILD
     },
+    Case {
+        name: "no witness passes in the second small-value round",
+        pow_bits: 1,
+        task: Task::Build(Strategy::SmallValue { variables: 2 }),
+        good: &[&[5]],
+        answer: Err(AuditError::NoWitness { round: 1 }),
+        ..BUILD
+    },
+    Case {
+        name: "no witness passes behind a small-value round",
+        pow_bits: 1,
+        task: Task::Build(Strategy::SmallValue { variables: 1 }),
+        good: &[&[5]],
+        answer: Err(AuditError::NoWitness { round: 1 }),
+        ..BUILD
+    },
 ];
 
 #[test]
@@ -206,10 +277,21 @@ static SHAPES: [(&str, &[u64], usize, usize, Option<ShapeFault>); 4] = [
 ];
 
 // What is done at fault, and what is told of it where the shape fits.
-static FAULTS: [(Task, AuditError); 6] = [
+static FAULTS: [(Task, AuditError); 7] = [
+    (
+        Task::Build(Strategy::SmallValue { variables: 3 }),
+        AuditError::StrategyUnfit(FitFault::Variables {
+            variables: 3,
+            bound: 2,
+        }),
+    ),
     (
         Task::Build(Strategy::SmallValue { variables: 1 }),
-        AuditError::Unbuilt(Form::Mode),
+        AuditError::FalseClaim {
+            statement: 0,
+            claimed: 9,
+            actual: 14,
+        },
     ),
     (
         Task::Build(Strategy::Represented),
@@ -255,10 +337,9 @@ static FALSE_EITHER_WAY: Case = Case {
 
 // Which of two faults comes first.
 fn first(fault: AuditError, shape_fault: Option<ShapeFault>) -> AuditError {
-    match (fault, shape_fault) {
-        (AuditError::Unbuilt(form), _) => AuditError::Unbuilt(form),
-        (_, Some(shape_fault)) => AuditError::JobShape(shape_fault),
-        (fault, None) => fault,
+    match shape_fault {
+        Some(shape_fault) => AuditError::JobShape(shape_fault),
+        None => fault,
     }
 }
 

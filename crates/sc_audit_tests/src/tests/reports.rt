@@ -1,10 +1,10 @@
 //! Rounds that are built or checked.
 use super::seventeen::F17;
 use super::{
-    Case, Figures, ONE_ROUND, PREFIX, TWO_TESTED_ROUNDS, Task, assert_all, assert_audit,
+    Case, Figures, Lists, ONE_ROUND, PREFIX, TWO_TESTED_ROUNDS, Task, assert_all, assert_audit,
     challenger, job,
 };
-use sc_audit::{AuditError, Form, Mode, Strategy, audit};
+use sc_audit::{AuditError, FitFault, Form, Mode, Strategy, audit};
 use sc_challenger::ScriptedChallenger;
 use sc_definitions::Event::{Draw, Test, Word};
 use sc_field::{F65537, Field};
@@ -117,6 +117,51 @@ const REPRESENTED_TESTED: Case = Case {
     name: "prefix order with tests on a representation",
     task: Task::Build(Strategy::Represented),
     ..TESTED
+};
+
+// The rounds for so many variables, from the first on, are read off their grids.
+const SMALL_GRIDS: [Lists; 2] = [(&[15], &[7]), (&[14, 5, 16], &[13, 0, 0])];
+
+const SMALL: Case = Case {
+    name: "prefix order on small values",
+    task: Task::Build(Strategy::SmallValue { variables: 2 }),
+    grids: &SMALL_GRIDS,
+    ..PREFIX
+};
+
+const SMALL_SUFFIX: Case = Case {
+    name: "suffix order on small values",
+    task: Task::Build(Strategy::SmallValue { variables: 2 }),
+    grids: &[(&[2], &[13]), (&[14, 1, 13], &[16, 8, 0])],
+    ..SUFFIX
+};
+
+const SMALL_TESTED: Case = Case {
+    name: "prefix order with tests on small values",
+    task: Task::Build(Strategy::SmallValue { variables: 2 }),
+    grids: &SMALL_GRIDS,
+    ..TESTED
+};
+
+const SMALL_FIRST: Case = Case {
+    name: "prefix order with the first round on small values",
+    task: Task::Build(Strategy::SmallValue { variables: 1 }),
+    grids: &[(&[15], &[7])],
+    ..PREFIX
+};
+
+const LARGE_SMALL: Case = Case {
+    name: "prefix order modulo 65537 on small values",
+    task: Task::Build(Strategy::SmallValue { variables: 2 }),
+    grids: &[(&[2], &[65535]), (&[0, 0, 0], &[1, 0, 0])],
+    ..LARGE_PREFIX
+};
+
+const LARGE_SMALL_SUFFIX: Case = Case {
+    name: "suffix order modulo 65537 on small values",
+    task: Task::Build(Strategy::SmallValue { variables: 2 }),
+    grids: &[(&[0], &[1]), (&[0, 2, 1], &[0, 65535, 0])],
+    ..LARGE_SUFFIX
 };
 
 // Rounds that were built, of which one was altered.
@@ -262,7 +307,7 @@ const POINT: Case = Case {
     ..PREFIX
 };
 
-static POINTS: [Case; 8] = [
+static POINTS: [Case; 9] = [
     POINT,
     Case {
         name: "no proof behind a history",
@@ -282,6 +327,15 @@ static POINTS: [Case; 8] = [
     Case {
         name: "a build on a representation",
         task: Task::Build(Strategy::Represented),
+        ..POINT
+    },
+    Case {
+        name: "a build on small values",
+        task: Task::Build(Strategy::SmallValue { variables: 1 }),
+        answer: Err(AuditError::StrategyUnfit(FitFault::Variables {
+            variables: 1,
+            bound: 0,
+        })),
         ..POINT
     },
     Case {
@@ -391,7 +445,7 @@ const FAILS_FIRST: Case = Case {
 };
 
 // The same behind a history with a draw.
-static BEHIND: [Case; 3] = [
+static BEHIND: [Case; 4] = [
     Case {
         name: "rounds that are built",
         draws: &[13, 8, 12],
@@ -406,6 +460,12 @@ static BEHIND: [Case; 3] = [
         ..PREFIX
     },
     Case {
+        name: "rounds that are built on small values",
+        draws: &[13, 8, 12],
+        past: &[Word(3), Word(16), Draw],
+        ..SMALL
+    },
+    Case {
         name: "a witness that fails",
         draws: &[13, 8, 12],
         past: &[Word(3), Word(16), Draw],
@@ -416,6 +476,10 @@ static BEHIND: [Case; 3] = [
 static HONEST: [Case; 4] = [PREFIX, SUFFIX, REPRESENTED, REPRESENTED_SUFFIX];
 
 static LARGE_HONEST: [Case; 2] = [LARGE_PREFIX, LARGE_SUFFIX];
+
+static SMALL_VALUES: [Case; 4] = [SMALL, SMALL_SUFFIX, SMALL_TESTED, SMALL_FIRST];
+
+static LARGE_SMALL_VALUES: [Case; 2] = [LARGE_SMALL, LARGE_SMALL_SUFFIX];
 
 static BUILT: [Case; 4] = [PREFIX, SUFFIX, TESTED, REPRESENTED_TESTED];
 
@@ -431,6 +495,12 @@ static FAILS: [Case; 2] = [FAILS_SECOND, FAILS_FIRST];
 fn honest_rounds_are_built_in_either_order(rt: HostRuntime) {
     assert_all::<F17, HostRuntime>(&rt, &HONEST);
     assert_all::<F65537, HostRuntime>(&rt, &LARGE_HONEST);
+}
+
+#[test]
+fn small_value_rounds_are_those_of_a_plain_build(rt: HostRuntime) {
+    assert_all::<F17, HostRuntime>(&rt, &SMALL_VALUES);
+    assert_all::<F65537, HostRuntime>(&rt, &LARGE_SMALL_VALUES);
 }
 
 // Asserts that each of these builds has its report and its history again where its rounds are checked.

@@ -11,7 +11,7 @@ use sc_table::{
 use sc_tests_common::{Traced, entry, have_numbers, table};
 use std::alloc::Global;
 
-fn list<F: Field>(alloc: Global, len: usize, factor: u64) -> Result<Vec<F>, NoMemory>
+pub(crate) fn list<F: Field>(alloc: Global, len: usize, factor: u64) -> Result<Vec<F>, NoMemory>
     ensures { IfOk result (λ v. length v.items ≡ len) }
 {
     let list = (0..len).map(|i| entry(i, factor)).collect(alloc)?;
@@ -169,7 +169,7 @@ fn passes_of_each_power_of_two(rt: HostRuntime) {
 }
 
 // The equality weight of a row, the last coordinate first.
-fn weight_at<F: Field>(z: &[F], row: usize) -> F {
+pub(crate) fn weight_at<F: Field>(z: &[F], row: usize) -> F {
     let mut weight = F::ONE;
     let mut digits = row;
     for z_i in z.iter().rev() {

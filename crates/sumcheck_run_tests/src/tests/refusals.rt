@@ -2,7 +2,7 @@
 use super::Refusal;
 use super::jobs::SCRIPT;
 
-pub(super) static CHANGES: [Refusal; 83] = [
+pub(super) static CHANGES: [Refusal; 86] = [
     // a member that is missing
     (r#""field":"65537","#, "", "bad-job field"),
     (
@@ -108,7 +108,18 @@ pub(super) static CHANGES: [Refusal; 83] = [
         "bad-job mode",
     ),
     (r#""plain""#, r#""Represented""#, "bad-job mode"),
-    (r#""plain""#, r#"{"small-value":2}"#, "unbuilt mode"),
+    (
+        r#""plain""#,
+        r#"{"small-value":3}"#,
+        "strategy-unfit variables 3 bound 2",
+    ),
+    (
+        r#""plain""#,
+        r#"{"small-value":64}"#,
+        "strategy-unfit variables 64 bound 2",
+    ),
+    (r#""plain""#, r#"{"small-value":65}"#, "bad-job mode"),
+    (r#""plain""#, "{}", "bad-job mode"),
     (r#""plain""#, r#""masked""#, "bad-job mode"),
     (r#""plain""#, "null", "bad-job mode"),
     // points of another length

@@ -18,8 +18,8 @@ returns-in-Build-clause-answers g c =
     let same : asked_to (job_in c.in_ok-fitting.fitting) task R H ≡ q =
     ap (λ j. asked_to j task R H) c.in_ok-fitting.ensures.same ∙ ap (λ m. asked_to job (task_in B N m) R H) (sym c.in-Build.is) in
     let shape = shape_as _ _ _ _ _ _ None job.table.ok.0 c.max_bits.ensures c.in_ok-fitting.ensures.shape in
-    let first = ap task_refusal same ∙ no_earlier q c.in_ok-check_mode.ensures shape in
-    answers_as B N _ _ _ _ c.build.result _ first same (c.build.ensures.answers c.in-Build.strategy)
+    let first = ap task_refusal same ∙ no_earlier q shape in
+    answers_as B N _ _ _ _ c.build.result _ first same c.build.ensures.answers
 
 pub returns-in-Build-clause-refused : goal.returns-in-Build-clause-refused
 returns-in-Build-clause-refused g c =
@@ -33,8 +33,8 @@ returns-in-Build-clause-refused g c =
     let same : asked_to (job_in c.in_ok-fitting.fitting) task R H ≡ q =
     ap (λ j. asked_to j task R H) c.in_ok-fitting.ensures.same ∙ ap (λ m. asked_to job (task_in B N m) R H) (sym c.in-Build.is) in
     let shape = shape_as _ _ _ _ _ _ None job.table.ok.0 c.max_bits.ensures c.in_ok-fitting.ensures.shape in
-    let first = ap task_refusal same ∙ no_earlier q c.in_ok-check_mode.ensures shape in
-    refused_by_name _ _ c.build.result first (c.build.ensures.refused c.in-Build.strategy)
+    let first = ap task_refusal same ∙ no_earlier q shape in
+    refused_by_name _ _ c.build.result first c.build.ensures.refused
 
 pub returns-in-Build-clause-answered : goal.returns-in-Build-clause-answered
 returns-in-Build-clause-answered g c = λ valid.
@@ -53,8 +53,8 @@ returns-in-Check-clause-answers g c =
     let same : asked_to (job_in c.in_ok-fitting.fitting) task R H ≡ q =
     ap (λ j. asked_to j task R H) c.in_ok-fitting.ensures.same ∙ ap (λ m. asked_to job (task_in B N m) R H) (sym c.in-Check.is) in
     let shape = shape_as _ _ _ _ _ _ None job.table.ok.0 c.max_bits.ensures c.in_ok-fitting.ensures.shape in
-    let first = ap task_refusal same ∙ no_earlier q c.in_ok-check_mode.ensures shape in
-    answers_as B N _ _ _ _ c.check.result _ first same (c.check.ensures.answers)
+    let first = ap task_refusal same ∙ no_earlier q shape in
+    answers_as B N _ _ _ _ c.check.result _ first same c.check.ensures.answers
 
 pub returns-in-Check-clause-refused : goal.returns-in-Check-clause-refused
 returns-in-Check-clause-refused g c =
@@ -68,8 +68,8 @@ returns-in-Check-clause-refused g c =
     let same : asked_to (job_in c.in_ok-fitting.fitting) task R H ≡ q =
     ap (λ j. asked_to j task R H) c.in_ok-fitting.ensures.same ∙ ap (λ m. asked_to job (task_in B N m) R H) (sym c.in-Check.is) in
     let shape = shape_as _ _ _ _ _ _ None job.table.ok.0 c.max_bits.ensures c.in_ok-fitting.ensures.shape in
-    let first = ap task_refusal same ∙ no_earlier q c.in_ok-check_mode.ensures shape in
-    refused_by_name _ _ c.check.result first (c.check.ensures.refused)
+    let first = ap task_refusal same ∙ no_earlier q shape in
+    refused_by_name _ _ c.check.result first c.check.ensures.refused
 
 pub returns-in-Check-clause-answered : goal.returns-in-Check-clause-answered
 returns-in-Check-clause-answered g c = λ valid.

@@ -1,10 +1,9 @@
-use Rattle.std.proofs.Common.{refl, sym, ap, map, subst}
+use Rattle.std.proofs.Common.{refl, sym, map, subst}
 use Rattle.sc_definitions.specs.Tables.{evaluation}
 use Rattle.sc_definitions.specs.Rounds.{next_claim}
 use Rattle.sc_definitions.specs.Replays.{given_rounds}
 use Rattle.sc_definitions.specs.Channels.{footing, IsReplayed}
-use Rattle.sc_audit.specs.Cases.{asked_of, with_task, build}
-use Rattle.sc_audit.specs.Figures.{grid_in}
+use Rattle.sc_audit.specs.Cases.{asked_to, build}
 use Rattle.sc_audit.specs.Built.{kept_in}
 use Rattle.sc_audit.proofs.CauseLaws.{caused_err}
 use Rattle.sc_audit.proofs.FigureLaws.{start_is}
@@ -13,24 +12,24 @@ use Rattle.sc_audit.proofs.building.replay.Goals as goal
 
 -- what was built is reported on
 pub returns-clause-answers : goal.returns-clause-answers
-returns-clause-answers g c = λ strategy.
+returns-clause-answers g c = λ strategy built.
     let job = c.args.fitting.now.job.now in
     let N = g.EF.Field.number in
-    let q = asked_of job (g.C.Challenger.rules c.args.challenger.now) (g.C.Challenger.history c.args.challenger.now) in
+    let q = asked_to job (build strategy) (g.C.Challenger.rules c.args.challenger.now) (g.C.Challenger.history c.args.challenger.now) in
     let kept = kept_in g.F.Field.number N c.args.built in
-    let start = start_is q _ _ _ (sym g.met.EF.ExtensionField.degree_is) c.num_variables.ensures c.requires.built.claim in
+    let start = start_is q _ _ _ (sym g.met.EF.ExtensionField.degree_is) c.num_variables.ensures built.claim in
     let end = footing (g.C.Challenger.history c.verify_rounds.new.challenger) (N c.verify_rounds.new.claimed_sum) in
     let replayed = subst (λ f. IsReplayed (next_claim evaluation g.EF.Field.ops) q.channel f end (given_rounds kept.wire.messages kept.wire.witnesses) (map N c.in_default.field-0)) start c.in_default.ensures.left.1 in
-    report_built q g.met.EF.Field.is_field.ring refl kept c.requires.built strategy end (map N c.in_default.field-0) (ap (map (grid_in N)) c.empty.ensures) c.requires.all_true replayed
+    report_built q g.met.EF.Field.is_field.ring refl kept built strategy end (map N c.in_default.field-0) built.grids c.requires.all_true replayed
 
 -- its replay is broken off for want of memory alone
 pub returns-in-Err-clause-answers : goal.returns-in-Err-clause-answers
-returns-in-Err-clause-answers g c = λ strategy.
+returns-in-Err-clause-answers g c = λ strategy built.
     let job = c.args.fitting.now.job.now in
     let N = g.EF.Field.number in
-    let q = asked_of job (g.C.Challenger.rules c.args.challenger.now) (g.C.Challenger.history c.args.challenger.now) in
+    let q = asked_to job (build strategy) (g.C.Challenger.rules c.args.challenger.now) (g.C.Challenger.history c.args.challenger.now) in
     let kept = kept_in g.F.Field.number N c.args.built in
-    let start = start_is q _ _ _ (sym g.met.EF.ExtensionField.degree_is) c.num_variables.ensures c.requires.built.claim in
+    let start = start_is q _ _ _ (sym g.met.EF.ExtensionField.degree_is) c.num_variables.ensures built.claim in
     let end = footing (g.C.Challenger.history c.verify_rounds.new.challenger) (N c.verify_rounds.new.claimed_sum) in
-    caused_err _ (with_task q (build strategy)) _ _ _ c.refusal.ensures
-    (replay_broken q g.met.EF.Field.is_field.ring refl kept c.requires.built strategy N _ _ _ end _ c.in-Err.error c.num_variables.ensures start (λ untouched. untouched) c.in-Err.ensures.left)
+    caused_err _ q _ _ _ c.refusal.ensures
+    (replay_broken q g.met.EF.Field.is_field.ring refl kept built strategy N _ _ _ end _ c.in-Err.error c.num_variables.ensures start (λ untouched. untouched) c.in-Err.ensures.left)

@@ -5,8 +5,9 @@ use Rattle.sc_definitions.specs.Statements.{batched_weight}
 use Rattle.sc_definitions.specs.Problem.{eval_of, weight_value_of}
 use Rattle.sc_table.specs.Strategy.{order_of}
 use Rattle.sc_transcript.specs.Data.{messages_in, witnesses_in}
+use Rattle.sc_svo.specs.Grids.{grid_shown}
 use Rattle.sc_audit.specs.Cases.{problem_in}
-use Rattle.sc_audit.specs.Figures.{finding_by, false_claim_of, is_matched, figures_of, grid_in}
+use Rattle.sc_audit.specs.Figures.{finding_by, false_claim_of, is_matched, figures_of}
 use Rattle.sc_audit.proofs.FigureLaws.{figures-are, finding-is, matched-by, eval-at_slice, weight-at, report_passed}
 use Rattle.sc_audit.proofs.checking.report_on.Goals as goal
 
@@ -48,5 +49,5 @@ returns g c =
       figures_are = figures-are o p _ ms _ (witnesses_in g.F.Field.number c.args.proof.now) _ rs _ _ _ _ _ (ap (λ (w : Wire). w.messages) c.in_ok-rounds.ensures) (ap (λ (w : Wire). w.witnesses) c.in_ok-rounds.ensures) refl
           c.requires.claim c.requires.residual eval weight (c.in_ok-verdict.ensures.0 ∙ ap (λ t. finding_by t (false_claim_of o p)) matched);
       no_luck = λ lucky_one. c.in_ok-verdict.ensures.1 (sym c.in_ok-verdict.ensures.0 ∙ lucky_one);
-      grids = ap (map (grid_in N)) c.empty.ensures;
+      grids = ap (map (grid_shown N)) c.empty.ensures;
     }

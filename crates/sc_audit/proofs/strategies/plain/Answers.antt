@@ -1,11 +1,13 @@
-use Rattle.std.proofs.Common.{◌≡◌, ◌∷◌, [], ◌^◌, ◌<◌, refl, sym, ◌∙◌, ap, subst, All, arith, length}
+use Rattle.std.proofs.Common.{◌≡◌, ◌∷◌, [], ◌^◌, ◌<◌, refl, sym, ◌∙◌, ap, subst, All, arith, length, map}
 use Rattle.std.proofs.lemmas.List.Elements.{All-map}
 use Rattle.sc_definitions.proofs.LoopLaws.{entry-read}
 use Rattle.sc_definitions.specs.Channels.{Wire}
 use Rattle.sc_rounds.specs.Provers.{Shown}
 use Rattle.sc_rounds.specs.ProverViews.{standing_of}
 use Rattle.sc_rounds.proofs.ShownLaws.{same_entries}
-use Rattle.sc_audit.specs.Cases.{asked_of}
+use Rattle.sc_table.specs.declared.strategy.Strategy.TheVariants.{Plain}
+use Rattle.sc_svo.specs.Grids.{grid_shown}
+use Rattle.sc_audit.specs.Cases.{build, asked_to}
 use Rattle.sc_audit.proofs.BuiltReports.{one_entry, same_setting, same_start, built_case, build_refused}
 use Rattle.sc_audit.proofs.strategies.plain.Goals as goal
 
@@ -14,7 +16,7 @@ pub returns : goal.returns
 returns g c =
     let N = g.EF.Field.number in
     let job = c.args.fitting.now.job.now in
-    let q = asked_of job (g.C.Challenger.rules c.args.challenger.now) (g.C.Challenger.history c.args.challenger.now) in
+    let q = asked_to job (build Plain) (g.C.Challenger.rules c.args.challenger.now) (g.C.Challenger.history c.args.challenger.now) in
     let ring = g.met.EF.Field.is_field.ring in
     let degree = sym g.met.EF.ExtensionField.degree_is in
     let setting = same_setting q ring refl _ _ _ _ _ _ c.in_ok-copied.ensures.rules c.in_ok-copied.ensures.history c.in_ok-base.ensures c.new-rounds.ensures degree c.num_variables-variables.ensures in
@@ -31,15 +33,15 @@ returns g c =
     let weights : after.weights ≡ N c.index-as_slice-0.result ∷ [] =
     sym (same_entries N c.in_ok-weights.field-0 _ c.as_slice.ensures.size c.as_slice.ensures.numbers ∙ c.in_ok-weights.ensures.table)
     ∙ one_entry N c.as_slice.result.now _ weights_one (entry-read N c.as_slice.result.now 0 c.index-as_slice-0.result (omega (arith, weights_one)) c.index-as_slice-0.is) in
-    built_case q ring refl _ setting start c.num_variables-variables.ensures after _ _ _ _ whole (c.claimed_sum-claim.ensures ∙ ap (λ (s : Shown). s.claim) c.in_ok-base.ensures) evals weights
-    (g.met.EF.Field.number_below _) (g.met.EF.Field.number_below _)
+    built_case q ring refl _ setting start c.num_variables-variables.ensures after _ _ _ _ _ whole (c.claimed_sum-claim.ensures ∙ ap (λ (s : Shown). s.claim) c.in_ok-base.ensures) evals weights
+    (g.met.EF.Field.number_below _) (g.met.EF.Field.number_below _) (ap (map (grid_shown N)) c.empty.ensures)
 
 -- they were refused
 pub returns-in-Err : goal.returns-in-Err
 returns-in-Err g c =
     let N = g.EF.Field.number in
     let job = c.args.fitting.now.job.now in
-    let q = asked_of job (g.C.Challenger.rules c.args.challenger.now) (g.C.Challenger.history c.args.challenger.now) in
+    let q = asked_to job (build Plain) (g.C.Challenger.rules c.args.challenger.now) (g.C.Challenger.history c.args.challenger.now) in
     let ring = g.met.EF.Field.is_field.ring in
     let degree = sym g.met.EF.ExtensionField.degree_is in
     let setting = same_setting q ring refl _ _ _ _ _ _ c.in_ok-copied.ensures.rules c.in_ok-copied.ensures.history c.in_ok-base.ensures c.new-rounds.ensures degree c.num_variables-variables.ensures in

@@ -1,8 +1,10 @@
-use Rattle.std.proofs.Common.{◌<◌, refl, sym, ◌∙◌, ap, arith}
+use Rattle.std.proofs.Common.{◌<◌, refl, sym, ◌∙◌, ap, arith, map}
 use Rattle.std.proofs.lemmas.List.Elements.{All-map}
 use Rattle.sc_rounds.specs.Provers.{Shown}
 use Rattle.sc_rounds.specs.ProverViews.{image_standing_of}
-use Rattle.sc_audit.specs.Cases.{asked_of}
+use Rattle.sc_table.specs.declared.strategy.Strategy.TheVariants.{Represented}
+use Rattle.sc_svo.specs.Grids.{grid_shown}
+use Rattle.sc_audit.specs.Cases.{build, asked_to}
 use Rattle.sc_audit.proofs.BuiltReports.{same_setting, same_start, built_case, build_refused}
 use Rattle.sc_audit.proofs.strategies.represented.Goals as goal
 
@@ -16,22 +18,23 @@ pub returns : goal.returns
 returns g c =
     let N = g.EF.Field.number in
     let job = c.args.fitting.now.job.now in
-    let q = asked_of job (g.C.Challenger.rules c.args.challenger.now) (g.C.Challenger.history c.args.challenger.now) in
+    let q = asked_to job (build Represented) (g.C.Challenger.rules c.args.challenger.now) (g.C.Challenger.history c.args.challenger.now) in
     let ring = g.met.EF.Field.is_field.ring in
     let degree = sym g.met.EF.ExtensionField.degree_is in
     let shows = c.in_ok-prover.ensures.shown ∙ c.in_ok-prover_of.ensures in
     let setting = same_setting q ring refl _ _ _ _ _ _ c.in_ok-copied.ensures.rules c.in_ok-copied.ensures.history shows c.new-rounds.ensures degree c.num_variables.ensures in
     let start = same_start q ring refl _ _ _ _ _ _ c.in_ok-copied.ensures.rules c.in_ok-copied.ensures.history shows c.new-rounds.ensures degree c.num_variables.ensures in
     let after = image_standing_of c.compute_sumcheck_polynomials.new.self c.compute_sumcheck_polynomials.new.sumcheck_data (g.C.Challenger.history c.compute_sumcheck_polynomials.new.challenger) in
-    built_case q ring refl _ setting start c.num_variables.ensures after _ _ _ _ c.in-Ok.ensures.batch (c.claimed_sum-claim.ensures ∙ ap (λ (s : Shown). s.claim) shows)
+    built_case q ring refl _ setting start c.num_variables.ensures after _ _ _ _ _ c.in-Ok.ensures.batch (c.claimed_sum-claim.ensures ∙ ap (λ (s : Shown). s.claim) shows)
     c.in_ok-eval.ensures.eval c.in_ok-eval.ensures.weight (g.met.EF.Field.number_below _) (g.met.EF.Field.number_below _)
+    (ap (map (grid_shown N)) c.empty.ensures)
 
 -- they were refused
 pub returns-in-Err : goal.returns-in-Err
 returns-in-Err g c =
     let N = g.EF.Field.number in
     let job = c.args.fitting.now.job.now in
-    let q = asked_of job (g.C.Challenger.rules c.args.challenger.now) (g.C.Challenger.history c.args.challenger.now) in
+    let q = asked_to job (build Represented) (g.C.Challenger.rules c.args.challenger.now) (g.C.Challenger.history c.args.challenger.now) in
     let ring = g.met.EF.Field.is_field.ring in
     let degree = sym g.met.EF.ExtensionField.degree_is in
     let shows = c.in_ok-prover.ensures.shown ∙ c.in_ok-prover_of.ensures in

@@ -5,7 +5,7 @@ use Rattle.serde_json.specs.Data.{Data}
 use Rattle.sc_forms.specs.Values.{value_of}
 use Rattle.sumcheck_jobs.specs.Job.{job_of}
 use Rattle.sumcheck_jobs.specs.declared.job.Job.{Job}
-use Rattle.sumcheck_jobs.specs.declared.member.Misfit.{Misfit}
+use Rattle.sumcheck_jobs.specs.declared.member.Member.{Member}
 use Rattle.sumcheck_run.specs.Program.{max_input, too_long, bad_json, job_reply, audit_reply, value_reply, json_reply}
 use Rattle.sumcheck_run.proofs.program.audit.Goals as goal
 
@@ -16,7 +16,7 @@ below input short = search rules
 not_json : (input : List ℕ) → length input ≤ max_input → value_of input ≡ None → json_reply audit_reply input ≡ bad_json
 not_json input short none = ap (λ b. if b then too_long else value_reply audit_reply (value_of input)) (below input short) ∙ ap (value_reply audit_reply) none
 
-replied : (input : List ℕ) (d : Data) (r : Result Job Misfit) → length input ≤ max_input → value_of input ≡ Some d → job_of d ≡ r → json_reply audit_reply input ≡ job_reply r
+replied : (input : List ℕ) (d : Data) (r : Result Job Member) → length input ≤ max_input → value_of input ≡ Some d → job_of d ≡ r → json_reply audit_reply input ≡ job_reply r
 replied input d r short read is =
     ap (λ b. if b then too_long else value_reply audit_reply (value_of input)) (below input short) ∙ ap (value_reply audit_reply) read ∙ ap job_reply is
 
@@ -30,8 +30,8 @@ returns-in-Err-Bad c =
 pub returns-in-Err-Misfit : goal.returns-in-Err-Misfit
 returns-in-Err-Misfit c =
     IfOk-weaker c.refuse_misfit.result _ _
-    (λ a is. is ∙ sym (replied c.args.input.items _ (Err c.in-Err-Misfit.fault) (omega arith) (ap value_of (sym c.deref.ensures.value) ∙ c.in-Ok.ensures.ok)
-    (c.read_job-job.ensures.misfit c.in-Err-Misfit.fault (search rules))))
+    (λ a is. is ∙ sym (replied c.args.input.items _ (Err c.in-Err-Misfit.member) (omega arith) (ap value_of (sym c.deref.ensures.value) ∙ c.in-Ok.ensures.ok)
+    (c.read_job-job.ensures.misfit c.in-Err-Misfit.member (search rules))))
     c.refuse_misfit.ensures
 
 pub returns-in-Ok-job : goal.returns-in-Ok-job

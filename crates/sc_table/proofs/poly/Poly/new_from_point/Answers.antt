@@ -1,16 +1,9 @@
-use Rattle.std.proofs.Common.{◌≡◌, ℕ, ◌+◌, ◌*◌, ◌%◌, ◌^◌, ◌<◌, ◌≤◌, ◌++◌, [], ◌∷◌, length, sym, ◌∙◌, ap, refl, subst, arith}
+use Rattle.std.proofs.Common.{◌≡◌, ◌+◌, ◌^◌, ◌≤◌, ◌++◌, [], ◌∷◌, length, sym, ◌∙◌, ap, refl, subst, arith}
 use Rattle.std.proofs.lemmas.Result.{IfOk-from_err}
-use Rattle.std.proofs.Math.Nat.{mod-eq_of_lt}
-use Rattle.std.proofs.lemmas.Nat.{pow_below}
 use Rattle.sc_definitions.proofs.RingLaws.{element-small}
+use Rattle.sc_table.proofs.PowerLaws.{one-shifted}
 use Rattle.sc_table.proofs.WeightLaws.{IsWeighted, weighted-none, weighted-more, weighted-room, weighted-all}
 use Rattle.sc_table.proofs.poly.Poly.new_from_point.Goals as goal
-
-shifted : (n : ℕ) → n ≤ 40 → (1 * 2 ^ n) % 18446744073709551616 ≡ 2 ^ n
-shifted n low =
-    let fits : 2 ^ n < 18446744073709551616 = pow_below n 64 (omega (arith, low)) in
-    let once : 1 * 2 ^ n ≡ 2 ^ n = omega arith in
-    ap (λ k. k % 18446744073709551616) once ∙ mod-eq_of_lt fits
 
 pub loop-z_i-init : goal.loop-z_i-init
 loop-z_i-init g c =
@@ -26,7 +19,7 @@ loop-z_i-init g c =
       ends = tt;
       weighted = subst (λ rest. IsWeighted a.number a.ops scale all rest items) (sym rest_is)
           (weighted-none a.number a.ops ring scale all c.args.scale items one refl (element-small a.ops ring scale (g.met.A.Field.number_below c.args.scale)));
-      room = c.push_reserved.ensures.capacity ∙ c.in_ok-evals.ensures.exact ∙ shifted (length all) c.requires;
+      room = c.push_reserved.ensures.capacity ∙ c.in_ok-evals.ensures.exact ∙ one-shifted (length all) c.requires;
     }
 
 pub push_weighted-requires : goal.push_weighted-requires

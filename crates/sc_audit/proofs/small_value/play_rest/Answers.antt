@@ -1,0 +1,103 @@
+use Rattle.std.proofs.Common.{◌≡◌, ◌+◌, ◌≤◌, map, vec_len, ap, sym, refl, arith, ◌∙◌}
+use Rattle.std.proofs.lemmas.List.{map-append}
+use Rattle.sc_transcript.proofs.ReplayedLaws.{same_channel}
+use Rattle.sc_transcript.specs.declared.transcript.SumcheckShape.{SumcheckShape}
+use Rattle.sc_rounds.specs.declared.product_polynomial.ProductPolynomial.{ProductPolynomial}
+use Rattle.sc_rounds.specs.Products.{variables_in}
+use Rattle.sc_rounds.proofs.BatchLaws.{fits, less_by_one, some_left, less_at, room_at, all_played, sum_at, same_setting, one_round_more, stops, begun_within}
+use Rattle.sc_audit.proofs.small_value.play_rest.Goals as goal
+
+pub loop-round-init : goal.loop-round-init
+loop-round-init g c =
+    let count : vec_len c.args.challenges.now ≡ c.args.transcript.now.played = c.args.challenges.now.ok.0 ∙ c.requires.begun.count in
+    record {
+      continues = record { lender = refl; rules = refl; values = refl; shape = refl };
+      played = sym (c.len-round.ensures ∙ count);
+      left = ap (λ k. variables_in c.args.left.now + k) (c.len-round.ensures ∙ count);
+      order = refl;
+      sum = c.requires.sum;
+      len = sym c.len-round.ensures;
+      room = c.requires.begun.fits;
+      batch = λ start before. before;
+    }
+
+pub loop-round-preserved : goal.loop-round-preserved
+loop-round-preserved g c =
+    let inv = c.loop-round.invariant in
+    let round = c.in-Ok.ensures in
+    let drawn = ap (map g.EF.Field.number) c.push_reserved.ensures.items ∙ map-append g.EF.Field.number _ _ in
+    record {
+      continues = record {
+        lender = round.continues.lender ∙ inv.continues.lender;
+        rules = round.continues.rules ∙ inv.continues.rules;
+        values = round.continues.values ∙ inv.continues.values;
+        shape = round.continues.shape ∙ inv.continues.shape;
+      };
+      played = round.counts ∙ ap (λ n. n + 1) inv.played;
+      left = less_by_one _ _ _ _ round.round.0.fewer inv.left;
+      order = round.order ∙ inv.order;
+      sum = round.sum;
+      len = c.push_reserved.ensures.len ∙ ap (λ n. n + 1) inv.len;
+      room = fits _ _ _ _ (ap (λ (s : SumcheckShape). s.num_rounds) round.continues.shape) c.push_reserved.ensures.capacity inv.room;
+      batch = λ start before. one_round_more _ _ g.met.EF.Field.is_field.ring tt _ _ _ _ _ _
+          (same_setting _ _ _ _ _ (same_channel _ _ _ g.F.Field.ops.size _ _ inv.continues.rules (ap (λ (s : SumcheckShape). s.pow_bits) inv.continues.shape)) inv.order)
+          drawn (inv.batch start before) round.round.0;
+    }
+
+-- a round is left, and so is a variable
+pub round-requires-clause-variables : goal.round-requires-clause-variables
+round-requires-clause-variables g c =
+    let enough : c.args.transcript.now.shape.num_rounds ≤ variables_in c.args.left.now + c.args.transcript.now.played = omega (arith, c.requires.variables) in
+    some_left _ _ _ _ c.loop-round.invariant.left enough (less_at _ _ _ _ refl c.loop-round-test.true (ap (λ (s : SumcheckShape). s.num_rounds) c.shape-round-end.ensures))
+
+-- the round of the loop is the transcript's
+pub round-requires-clause-left : goal.round-requires-clause-left
+round-requires-clause-left g c =
+    let inv = c.loop-round.invariant in
+    less_at _ _ _ _ inv.played c.loop-round-test.true (ap (λ (s : SumcheckShape). s.num_rounds) (c.shape-round-end.ensures ∙ sym inv.continues.shape))
+
+pub round-requires-clause-sum : goal.round-requires-clause-sum
+round-requires-clause-sum g c = c.loop-round.invariant.sum
+
+-- as many challenges as rounds so far, and there is room for one of each round
+pub push_reserved-requires : goal.push_reserved-requires
+push_reserved-requires g c =
+    let inv = c.loop-round.invariant in
+    room_at _ _ _ _ _ inv.len c.loop-round-test.true (ap (λ (s : SumcheckShape). s.num_rounds) (c.shape-round-end.ensures ∙ sym inv.continues.shape)) inv.room
+
+-- all rounds are played, and what the invariant says of them holds of all
+pub returns : goal.returns
+returns g c =
+    let inv = c.loop-round.invariant in
+    let count : vec_len c.args.challenges.now ≡ c.args.transcript.now.played = c.args.challenges.now.ok.0 ∙ c.requires.begun.count in
+    let enough : c.args.transcript.now.played ≤ c.args.transcript.now.shape.num_rounds = omega (arith, c.requires.variables) in
+    let below : c.len-round.result ≤ c.shape-round-end.result.num_rounds = begun_within _ _ _ _ _ c.len-round.ensures count enough (ap (λ (s : SumcheckShape). s.num_rounds) c.shape-round-end.ensures) in
+    record {
+      continues = inv.continues;
+      left = sum_at _ _ _ _ inv.played inv.left;
+      rounds = λ start before. (
+        all_played _ _ _ _ inv.played (ap (λ (s : SumcheckShape). s.num_rounds) (inv.continues.shape ∙ sym c.shape-round-end.ensures)) c.loop-round-test.false (c.loop-round.auto._round-end below),
+        inv.batch start before,
+      );
+    }
+
+-- a refused round leaves what the invariant says
+pub returns-in-Err : goal.returns-in-Err
+returns-in-Err g c =
+    let inv = c.loop-round.invariant in
+    let round = c.in-Err.ensures in
+    record {
+      continues = record {
+        lender = round.continues.lender ∙ inv.continues.lender;
+        rules = round.continues.rules ∙ inv.continues.rules;
+        values = round.continues.values ∙ inv.continues.values;
+        shape = round.continues.shape ∙ inv.continues.shape;
+      };
+      left = sum_at _ _ _ _ (round.counts ∙ inv.played) (ap (λ (p : ProductPolynomial g.row.F.Denot g.row.EF.Denot). variables_in p + c.loop-round._round) round.kept.0 ∙ inv.left);
+      rounds = λ start before. (
+        less_at _ _ _ _ (round.counts ∙ inv.played) c.loop-round-test.true (ap (λ (s : SumcheckShape). s.num_rounds) (c.shape-round-end.ensures ∙ sym inv.continues.shape ∙ sym round.continues.shape)),
+        stops _ _ _ _ _ _ _ _ c.in-Err.error
+            (same_setting _ _ _ _ _ (same_channel _ _ _ g.F.Field.ops.size _ _ inv.continues.rules (ap (λ (s : SumcheckShape). s.pow_bits) inv.continues.shape)) inv.order)
+            (sym round.counts) (inv.batch start before) round.round,
+      );
+    }

@@ -1,0 +1,107 @@
+-- Rounds that begin on the grids of a batch.
+use Rattle.std.specs.Prelude.{◌≡◌, ℕ, suc, ◌-◌, ◌≤◌, List, [], ◌∷◌, All, length, Result, Ok, Err}
+use Rattle.std.specs.declared.cmp.PartialEq.{Ghosts as PartialEqOf}
+use Rattle.sc_definitions.specs.declared.events.Event.{Event}
+use Rattle.sc_definitions.specs.Ring.{Ops, power}
+use Rattle.sc_definitions.specs.Tables.{rows_of, bound_by}
+use Rattle.sc_definitions.specs.Statements.{Kind, equality, Statement}
+use Rattle.sc_definitions.specs.Combined.{Scaled, combined_weight}
+use Rattle.sc_definitions.specs.Events.{Rules, Extension}
+use Rattle.sc_definitions.specs.Channels.{channel, Wire, Footing}
+use Rattle.sc_definitions.specs.Standings.{Setting, Standing, entries_of, IsPlayed}
+use Rattle.sc_definitions.specs.Problem.{Problem, weights_of}
+use Rattle.sc_field.specs.declared.field.Field.{Ghosts as FieldOf}
+use Rattle.sc_field.specs.declared.algebra.Algebra.{Ghosts as AlgebraOf}
+use Rattle.sc_field.specs.declared.algebra.ExtensionField.{Ghosts as ExtensionOf}
+use Rattle.sc_challenger.specs.declared.challenger.Challenger.{Ghosts as ChallengerOf}
+use Rattle.sc_table.specs.declared.strategy.Basis.TheVariants.{Evaluation}
+use Rattle.sc_statements.specs.Constraints.{constraint_arity}
+use Rattle.sc_transcript.specs.declared.error.SumcheckError.{SumcheckError}
+use Rattle.sc_transcript.specs.declared.transcript.ProverTranscript.{ProverTranscript}
+use Rattle.sc_transcript.specs.declared.data.SumcheckData.{SumcheckData}
+use Rattle.sc_transcript.specs.Shapes.{shape_of}
+use Rattle.sc_transcript.specs.Drivers.{Driver}
+use Rattle.sc_rounds.specs.Provers.{setting_at, standing_at}
+use Rattle.sc_rounds.specs.HeldProducts.{setting_over, standing_over}
+use Rattle.sc_rounds.specs.BaseProducts.{PlaysFrom, StopsFrom, BreaksOffAt}
+use Rattle.sc_rounds.specs.Standings.{Batch as Rounds, batch_at, PlaysWhole}
+use Rattle.sc_svo.specs.Batches.{Batch, IsTableOf}
+use Rattle.sc_audit.specs.declared.job.Job.{Job}
+use Rattle.sc_audit.specs.Cases.{problem_in}
+use Rattle.sc_audit.specs.Built.{prover_for}
+
+-- ---- the claims of a batch
+
+-- a value at a point is claimed
+abbrev pub IsEquality : Kind → Type 0
+IsEquality (equality zs) = Unit {0}
+IsEquality kind = ⊥
+
+-- so it is by each statement
+abbrev pub AreEqualities : List Statement → Type 0
+AreEqualities ss = All (λ s. IsEquality s.kind) ss
+
+-- the weights of statements, each times a power of a challenge, which is p for the first of them
+unfoldable pub scaled_from : Ops → ℕ → ℕ → List Statement → List Scaled
+scaled_from o challenge p [] = []
+scaled_from o challenge p (s ∷ ss) = record { kind = s.kind; coefficient = power o challenge p } ∷ scaled_from o challenge (suc p) ss
+
+-- A batch is on a problem's table, of no more rounds than it has variables, and its claims' weights are the batched ones.
+pub record IsBatchOf (o : Ops) (p : Problem) (b : Batch) : Type 0 where
+  pub order : b.order ≡ p.order
+  pub variables : b.variables ≡ p.variables
+  pub weights : combined_weight o b.claims ≡ weights_of o p
+  pub within : length b.grids ≤ p.variables
+  pub grids : IsTableOf o b p.table
+
+-- ---- its rounds
+
+module _ {C F EG : Type 0} {c : ChallengerOf C F} {f : FieldOf F} {q : PartialEqOf F} where
+  -- what stays while a problem's rounds are played in a transcript
+  abbrev pub setting_for : Extension → Ops → Problem → ProverTranscript C F EG c f q → Setting
+  setting_for E o p t = setting_over E o (prover_for o p) t
+
+  -- where they begin there, with data
+  abbrev pub begun_for : (EG → ℕ) → Ops → Problem → ProverTranscript C F EG c f q → SumcheckData F EG → Standing
+  begun_for number o p t d = standing_over number (prover_for o p) t d
+
+-- where rounds stand that have drawn rs, at a footing and with so much on the wire: the tables have rs bound
+abbrev pub with_drawn : Setting → Standing → List ℕ → Footing → Wire → Standing
+with_drawn s t rs at wire = record {
+  variables = t.variables - length rs;
+  evals = entries_of (t.variables - length rs) (bound_by s.basis s.order s.ops rs (t.variables - length rs) (rows_of t.evals));
+  weights = entries_of (t.variables - length rs) (bound_by s.basis s.order s.ops rs (t.variables - length rs) (rows_of t.weights));
+  claim = at.claim;
+  history = at.history;
+  wire = wire;
+}
+
+-- So many rounds of a driver were played, as many challenges are drawn, and there is room for those of all rounds.
+pub record HasPlayed {X : Type 0} (rounds : ℕ) (d : Driver) (drawn : List X) (room : ℕ) : Type 0 where
+  pub played : d.played ≡ rounds
+  pub count : length drawn ≡ rounds
+  pub fits : d.shape.num_rounds ≤ room
+
+-- what rounds leave whose tables are never in memory, by their result: they were played with the challenges rs and leave a claim, or they stop
+abbrev pub LeavesDrawn : {X : Type 0} → Setting → Standing → List ℕ → ℕ → Driver → Wire → Result X SumcheckError → Type 0
+LeavesDrawn s t rs claim d wire (Ok x) = IsPlayed s t (with_drawn s t rs (record { history = d.history; claim = claim }) wire) rs
+LeavesDrawn s t rs claim d wire (Err e) = StopsFrom s t d wire e
+
+-- what all rounds of a driver leave, by their result: they were played with the challenges rs, and stand where it says, or they stop
+abbrev pub LeavesPlayed : {X : Type 0} → Setting → Standing → (X → Standing) → List ℕ → Driver → Wire → Result X SumcheckError → Type 0
+LeavesPlayed s t after rs d wire (Ok x) = PlaysFrom s t (after x) rs d
+LeavesPlayed s t after rs d wire (Err e) = StopsFrom s t d wire e
+
+-- ---- all rounds
+
+module _ {F EF : Type 0} {f : FieldOf F} {p : PartialEqOf F} {x : ExtensionOf EF F} {a : AlgebraOf EF F} {e : FieldOf EF} {q : PartialEqOf EF} where
+  -- the rounds of a job, where so much is on the wire, a challenger answers by these rules and has this history
+  abbrev pub rounds_for : Job F EF f p x a e q → Wire → Rules → List Event → Rounds
+  rounds_for job on R h =
+      batch_at (setting_at (channel R x.extension f.ops.size job.pow_bits) e.ops (prover_for e.ops (problem_in job))) (standing_at (prover_for e.ops (problem_in job)) h on)
+      x.DEGREE (shape_of (constraint_arity job.constraint) job.pow_bits Evaluation)
+
+-- what they leave, by their result: they were played whole, with these challenges, and stand where it says, or they break off
+abbrev pub LeavesRounds : {X : Type 0} → Rounds → (X → Standing) → (X → List ℕ) → List Event → Wire → Result X SumcheckError → Type 0
+LeavesRounds b after challenges h wire (Ok x) = PlaysWhole b (after x) (challenges x)
+LeavesRounds b after challenges h wire (Err e) = BreaksOffAt b h wire e

@@ -1,0 +1,138 @@
+//! Which strategies fit the statements of a job.
+ghost use Rattle.std.specs.Prelude.{◌≡◌, Some, None, if◌then◌else◌};
+ghost use Rattle.sc_statements.specs.Constraints.{constraint_arity, constraint_statements};
+ghost use Rattle.sc_statements.specs.Groups.{group_statements};
+ghost use Rattle.sc_statements.specs.NextStatements.{next_statements};
+ghost use Rattle.sc_audit.specs.Fitting.{stated_in};
+ghost use Rattle.sc_audit.specs.Refusals.{
+  first_unfit,
+  first_unbuilt,
+  small_refusal,
+  strategy_refusal,
+  refusal_in,
+};
+
+use crate::error::{AuditError, FitFault, Form};
+use crate::shape::FittingJob;
+use sc_field::{ExtensionField, Field};
+use sc_statements::{Constraint, NextStatement, Statements};
+use sc_table::Strategy;
+
+// The greatest number of variables that small-value rounds bind.
+const MOST_SMALL_VARIABLES: usize = 12;
+
+// Refuses a strategy that does not fit the statements of a job.
+pub(crate) fn check_strategy<F: Field, EF: ExtensionField<F>>(
+    fitting: &FittingJob<'_, F, EF>,
+    strategy: Strategy,
+) -> Result<(), AuditError>
+    ensures { strategy_refusal (stated_in fitting.now) strategy ≡ refusal_in result }
+{
+    match strategy {
+        Strategy::Plain | Strategy::Represented => Ok(()),
+        Strategy::SmallValue { variables } => {
+            check_small_values(&fitting.job.constraint, variables)
+        }
+    }
+}
+
+// Refuses small-value rounds for so many variables.
+fn check_small_values<F: Field, EF: ExtensionField<F>>(
+    constraint: &Constraint<F, EF>,
+    variables: usize,
+) -> Result<(), AuditError>
+    ensures { small_refusal (constraint_arity constraint.now)
+        (constraint_statements (λ x. EF.embedding (F.number x)) EF.number constraint.now) variables
+        ≡ refusal_in result }
+{
+    let bound = constraint.num_variables().min(MOST_SMALL_VARIABLES);
+    if variables == 0 || variables > bound {
+        return Err(AuditError::StrategyUnfit(FitFault::Variables { variables, bound }));
+    }
+    if let Some(error) = unfit_statement(constraint) {
+        return Err(error);
+    }
+    if let Some(error) = unbuilt_statement(constraint) {
+        return Err(error);
+    }
+    Ok(())
+}
+
+// The refusal of the first statement that small-value rounds do not take, which is told by its
+// number over all groups.
+fn unfit_statement<F: Field, EF: ExtensionField<F>>(
+    constraint: &Constraint<F, EF>,
+) -> Option<AuditError>
+    ensures { result ≡ first_unfit 0
+        (constraint_statements (λ x. EF.embedding (F.number x)) EF.number constraint.now) }
+{
+    let mut passed: usize = 0;
+    for group in constraint.statements() {
+        if let Some(error) = unfit_of_group(group, passed) {
+            return Some(error);
+        }
+        passed = passed.saturating_add(group.len());
+    }
+    None
+}
+
+// The same in a group, of whose statements the first has this number.
+fn unfit_of_group<F: Field, EF: ExtensionField<F>>(
+    group: &Statements<F, EF>,
+    passed: usize,
+) -> Option<AuditError>
+    ensures { result ≡ first_unfit passed
+        (group_statements (λ x. EF.embedding (F.number x)) EF.number group.now) }
+{
+    match group {
+        Statements::Eq(_) => None,
+        Statements::Next(statement) => unfit_successor(statement, passed),
+        Statements::Select(statement) => {
+            if statement.is_empty() {
+                return None;
+            }
+            Some(AuditError::StrategyUnfit(FitFault::Select { statement: passed }))
+        }
+    }
+}
+
+// The same of successors, of which the first has this number.
+fn unfit_successor<EF: Field>(statement: &NextStatement<EF>, passed: usize) -> Option<AuditError>
+    ensures { result ≡ first_unfit passed (next_statements EF.number statement.now) }
+{
+    for i in 0..statement.len() {
+        if statement.has_selector(i) {
+            return Some(AuditError::StrategyUnfit(FitFault::Selector {
+                statement: passed.saturating_add(i),
+            }));
+        }
+    }
+    None
+}
+
+// The refusal of statements that small-value rounds are to take, and do not take yet.
+fn unbuilt_statement<F: Field, EF: ExtensionField<F>>(
+    constraint: &Constraint<F, EF>,
+) -> Option<AuditError>
+    ensures { result ≡ first_unbuilt
+        (constraint_statements (λ x. EF.embedding (F.number x)) EF.number constraint.now) }
+{
+    for group in constraint.statements() {
+        if holds_successor(group) {
+            return Some(AuditError::Unbuilt(Form::Groups));
+        }
+    }
+    None
+}
+
+// Whether a group has a successor.
+fn holds_successor<F: Field, EF: ExtensionField<F>>(group: &Statements<F, EF>) -> bool
+    ensures { first_unbuilt (group_statements (λ x. EF.embedding (F.number x)) EF.number group.now)
+        ≡ (if result then Some (AuditError.Unbuilt Form.Groups) else None) }
+{
+    match group {
+        Statements::Eq(_) => false,
+        Statements::Next(statement) => !statement.is_empty(),
+        Statements::Select(_) => false,
+    }
+}

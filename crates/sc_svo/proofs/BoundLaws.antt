@@ -1,0 +1,117 @@
+-- Tables with the variables of small-value rounds bound.
+use Rattle.std.proofs.Common.{◌≡◌, ℕ, ◌+◌, ◌*◌, ◌^◌, ◌<◌, List, [], ◌∷◌, ◌++◌, length, map, take, get_or, reverse, false, refl, sym, ◌∙◌, ap, subst, arith}
+use Rattle.std.proofs.lemmas.List.{append-nil}
+use Rattle.sc_definitions.specs.Ring.{Ops, IsRing, element, plus, times}
+use Rattle.sc_definitions.specs.Tables.{Order, prefix, suffix, evaluation, sum_below, entries, weight, value, digits, placed, point_of, bound_by}
+use Rattle.sc_definitions.specs.Statements.{weight_of}
+use Rattle.sc_definitions.specs.Rounds.{placed_entry}
+use Rattle.sc_definitions.specs.Partials.{summed_first, summed_last}
+use Rattle.sc_definitions.specs.Combined.{Scaled, combined_weight}
+use Rattle.sc_definitions.proofs.RingLaws.{plus_comm, plus_below}
+use Rattle.sc_definitions.proofs.Lengths.{pow-same}
+use Rattle.sc_definitions.proofs.Sums.{sum-same}
+use Rattle.sc_definitions.proofs.PlacedLaws.{placed_entry-bound_by}
+use Rattle.sc_definitions.proofs.PlacedSums.{bound_by-summed_first, bound_by-summed_last, bound_by-sum_element, bound_by-combined_none, element-bound_by}
+use Rattle.sc_table.specs.declared.poly.Poly.{Poly}
+use Rattle.sc_table.specs.Polys.{variables_of, table_of}
+use Rattle.sc_svo.specs.declared.claims.SvoClaim.{SvoClaim}
+use Rattle.sc_svo.specs.Partials.{joined}
+use Rattle.sc_svo.specs.Claims.{scaled_in, claims_in, AddsBound}
+use Rattle.sc_svo.specs.Bound.{IsBoundTable}
+use Rattle.sc_svo.proofs.BatchLaws.{combined-append, kind_weight, claims-next}
+
+module _ {EF : Type 0} (o : Ops) (ring : IsRing o) (number : EF → ℕ) (f w : ℕ → ℕ) (rows k : ℕ) (point rs : List ℕ) (p : Poly EF)
+    (below : (b : ℕ) → f b < o.size) (many : k ≡ length rs) (size : rows ≡ 2 ^ (k + variables_of p)) (weights : (b : ℕ) → b < 2 ^ k → w b ≡ weight o point b) where
+  whole : rows ≡ 2 ^ (length rs + variables_of p)
+  whole = size ∙ ap (λ n. 2 ^ (n + variables_of p)) many
+
+  -- summed over its first variables under the weights of challenges, it is the table that they leave in prefix order
+  pub bound-first : (order : Order) → order ≡ prefix → point ≡ point_of order rs →
+      ((c : ℕ) → c < 2 ^ variables_of p → table_of number p c ≡ summed_first o k (variables_of p) w f c) → IsBoundTable o number order f rows rs p
+  unfolding summed_first
+  bound-first order is point_is rows_are =
+      let m = variables_of p in
+      let same : point ≡ rs = point_is ∙ ap (λ t. point_of t rs) is ∙ append-nil rs in
+      record {
+        size = whole;
+        entries_are = λ b low.
+            rows_are b low
+            ∙ sum-same o (2 ^ k) _ (λ a. times o (f (a * 2 ^ m + b)) (weight o rs a)) (λ a small. ap (times o (f (a * 2 ^ m + b))) (weights a small ∙ ap (λ t. weight o t a) same))
+            ∙ ap (λ n. sum_below o (2 ^ n) (λ a. times o (f (a * 2 ^ m + b)) (weight o rs a))) many
+            ∙ sym (bound_by-summed_first o ring f rs m b)
+            ∙ element-bound_by o ring evaluation prefix f rs m b (λ j _. below j) low
+            ∙ ap (λ t. bound_by evaluation t o rs m f b) (sym is);
+      }
+
+  -- and over its last variables, in suffix order
+  pub bound-last : (order : Order) → order ≡ suffix → point ≡ point_of order rs →
+      ((a : ℕ) → a < 2 ^ variables_of p → table_of number p a ≡ summed_last o k w f a) → IsBoundTable o number order f rows rs p
+  unfolding summed_last
+  bound-last order is point_is rows_are =
+      let m = variables_of p in
+      let same : point ≡ reverse rs = point_is ∙ ap (λ t. point_of t rs) is in
+      record {
+        size = whole;
+        entries_are = λ b low.
+            rows_are b low
+            ∙ sum-same o (2 ^ k) _ (λ c. times o (f (b * 2 ^ k + c)) (weight o (reverse rs) c)) (λ c small. ap (times o (f (b * 2 ^ k + c))) (weights c small ∙ ap (λ t. weight o t c) same))
+            ∙ ap (λ n. sum_below o (2 ^ n) (λ c. times o (f (b * 2 ^ n + c)) (weight o (reverse rs) c))) many
+            ∙ sym (bound_by-summed_last o ring f rs m b)
+            ∙ element-bound_by o ring evaluation suffix f rs m b (λ j _. below j) low
+            ∙ ap (λ t. bound_by evaluation t o rs m f b) (sym is);
+      }
+
+-- ---- the weights of claims
+
+-- the rows are the weights of claims, bound at challenges
+pub AreBound : {EF : Type 0} → Ops → (EF → ℕ) → Order → ℕ → List ℕ → List (SvoClaim EF) → List EF → Type 0
+AreBound o number order m rs cs rows = (b : ℕ) → b < 2 ^ m → entries number rows b ≡ element o (bound_by evaluation order o rs m (combined_weight o (claims_in number cs)) b)
+
+module _ {EF : Type 0} (o : Ops) (ring : IsRing o) (number : EF → ℕ) (order : Order) (m : ℕ) where
+  joined_point : (o' : Order) (rs ds : List ℕ) → joined o' (point_of o' rs) ds ≡ placed o' rs ds
+  joined_point prefix rs ds = ap (λ t. t ++ ds) (append-nil rs)
+  joined_point suffix rs ds = refl
+
+  combined_below : (cs : List Scaled) (b : ℕ) → combined_weight o cs b < o.size
+  unfolding combined_weight
+  combined_below [] b = omega (arith, ring.at_least_two)
+  combined_below (c ∷ cs) b = plus_below o ring (times o c.coefficient (weight_of o c.kind b)) (combined_weight o cs b)
+
+  placed_entry_is : (g : ℕ → ℕ) (rs : List ℕ) (b : ℕ) → b < 2 ^ m → value o g (placed order rs (digits m b)) ≡ element o (bound_by evaluation order o rs m g b)
+  unfolding placed_entry
+  placed_entry_is g rs b low = placed_entry-bound_by o ring evaluation order g rs m b low
+
+  pub bound-none : (rs : List ℕ) (rows : List EF) → ((b : ℕ) → b < 2 ^ m → entries number rows b ≡ 0) → AreBound o number order m rs [] rows
+  unfolding AreBound
+  bound-none rs rows zeros b low = zeros b low ∙ sym (bound_by-combined_none o ring evaluation order rs m b)
+
+  pub bound-more : (rs : List ℕ) (claims : List (SvoClaim EF)) (i : ℕ) (c : SvoClaim EF) (old new : List EF) → i < length claims → c ≡ get_or claims i c → c.successor ≡ false →
+      AreBound o number order m rs (take i claims) old → AddsBound number o order c (point_of order rs) m old new → AreBound o number order m rs (take (i + 1) claims) new
+  unfolding AreBound
+  bound-more rs claims i c old new low read kind so_far gains b small =
+      let zs = map number c.point in
+      let x = number c.coefficient in
+      let cs = claims_in number (take i claims) in
+      let v = combined_weight o cs in
+      let at : (ℕ → ℕ) → ℕ = λ t. element o (bound_by evaluation order o rs m t b) in
+      let here : value o (weight o zs) (joined order (point_of order rs) (digits m b)) ≡ at (weight o zs) =
+      ap (value o (weight o zs)) (joined_point order rs (digits m b)) ∙ placed_entry_is (weight o zs) rs b small in
+      gains.rows b small
+      ∙ ap (λ t. plus o t (times o x (value o (weight o zs) (joined order (point_of order rs) (digits m b))))) (so_far b small)
+      ∙ ap (λ t. plus o (at v) (times o x t)) here
+      ∙ plus_comm o ring (at v) (times o x (at (weight o zs)))
+      ∙ sym (bound_by-sum_element o ring evaluation order x (weight o zs) v rs m b)
+      ∙ ap at (sym (ap (combined_weight o) (claims-next number claims i c low read) ∙ combined-append o ring cs (scaled_in number c)
+      ∙ ap (λ t. (λ k. plus o (times o x (t k)) (v k))) (kind_weight number o c kind)))
+
+  -- at the end, they are the table of all weights that the challenges leave
+  pub bound-all : (rs : List ℕ) (cs : List (SvoClaim EF)) (rows : List EF) (p : Poly EF) → length rows ≡ 2 ^ m → length rows ≡ 2 ^ variables_of p →
+      table_of number p ≡ entries number rows → AreBound o number order m rs cs rows → (b : ℕ) → b < 2 ^ variables_of p →
+      table_of number p b ≡ bound_by evaluation order o rs (variables_of p) (combined_weight o (claims_in number cs)) b
+  unfolding AreBound
+  bound-all rs cs rows p size p_size table is b low =
+      let same : m ≡ variables_of p = pow-same m (variables_of p) (sym size ∙ p_size) in
+      let small : b < 2 ^ m = subst (λ k. b < 2 ^ k) (sym same) low in
+      ap (λ t. t b) table ∙ is b small
+      ∙ element-bound_by o ring evaluation order (combined_weight o (claims_in number cs)) rs m b (λ k _. combined_below (claims_in number cs) k) small
+      ∙ ap (λ k. bound_by evaluation order o rs k (combined_weight o (claims_in number cs)) b) same

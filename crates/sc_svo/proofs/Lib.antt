@@ -1,0 +1,7 @@
+pub mod StagedLaws
+pub mod PartialTables
+pub mod SumLaws
+pub mod PointParts
+pub mod ClaimLaws
+pub mod BatchLaws
+pub mod BoundLaws
