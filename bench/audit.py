@@ -1,9 +1,9 @@
 #!/usr/bin/env python3
 """Measures `audit` on a job with one equality claim, for one program or for several side by side.
 
-usage: bench/audit.py [--variables N] [--repeats N] [--field NAME] [--represented] [--kinds] [--suffix] [--hash] [--bits N] [--seed N] [--check] PROGRAM [PROGRAM ..]
+usage: bench/audit.py [--variables N] [--repeats N] [--field NAME] [--represented | --small-value L] [--kinds] [--suffix] [--hash] [--bits N] [--seed N] [--check] PROGRAM [PROGRAM ..]
 
-The field is "65537", or by --field "257x2" or "16"; with --represented the build is so. With --kinds the job has one claim of each kind: an equality, a successor in the slot of a selector of one coordinate, a
+The field is "65537", or by --field "257x2" or "16"; with --represented the build is so, and with --small-value its first L rounds are from grids. With --kinds the job has one claim of each kind: an equality, a successor in the slot of a selector of one coordinate, a
 scalar and a direct point. The job is built in prefix order, or with --suffix in suffix order, under a script of draws, or with --hash under the hash challenger; with --bits each
 round has a test of N bits, which is for the hash challenger alone. With --check the rounds and witnesses that the first program builds are handed in as
 a proof. With --seed the claim's point is drawn from another seed: at 16 bits a round finds no witness in 37 of 100 cases, which ends a build, and 18
@@ -181,6 +181,7 @@ def main():
     arguments.add_argument("--repeats", type=int, default=7)
     arguments.add_argument("--field", choices=sorted(FIELDS), default="65537")
     arguments.add_argument("--represented", dest="build", action="store_const", const="represented", default="plain")
+    arguments.add_argument("--small-value", dest="build", type=lambda rounds: {"small-value": int(rounds)}, metavar="L")
     arguments.add_argument("--kinds", action="store_true")
     arguments.add_argument("--suffix", action="store_true")
     arguments.add_argument("--hash", action="store_true")
