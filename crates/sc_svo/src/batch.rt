@@ -175,7 +175,8 @@ fn gathered<F: Field, EF: ExtensionField<F>>(
 // Copies of these claims.
 fn copied<EF: Field>(alloc: Global, claims: &[SvoClaim<EF>]) -> Result<Vec<SvoClaim<EF>>, NoMemory>
     ensures same { IfOk result (λ v. claims_in EF.number v.items ≡ claims_in EF.number claims.now) }
-    ensures fit { (n : ℕ) → All (IsEquality n) claims.now → IfOk result (λ v. All (IsEquality n) v.items) }
+    ensures fit { (n : ℕ) → All (IsEquality n) claims.now →
+        IfOk result (λ v. All (IsEquality n) v.items) }
 {
     let mut copies = with_room(alloc, claims.len())?;
     for claim in claims {
@@ -214,8 +215,8 @@ fn bound_table<F: Field, EF: ExtensionField<F>>(
     requires few { length point.now ≤ 40 }
     requires size { (m : ℕ) × (length table.now ≡ 2 ^ (length point.now + m)) }
     ensures { (rs : List ℕ) → map EF.number point.now ≡ point_of (order_of order) rs → IfOk result
-        (IsBoundTable EF.ops EF.number (order_of order) (entries (λ x. EF.embedding (F.number x)) table.now)
-        (length table.now) rs) }
+        (IsBoundTable EF.ops EF.number (order_of order)
+        (entries (λ x. EF.embedding (F.number x)) table.now) (length table.now) rs) }
 {
     let split = SplitEq::<F, EF>::new_unpacked(alloc, point, EF::ONE)?;
     match order {

@@ -125,7 +125,8 @@ pub(crate) fn add_bound<F: Field, EF: ExtensionField<F>>(
     rows: &mut [EF],
 ) -> Result<(), NoMemory>
     requires few { length claim.now.point ≤ 40 }
-    requires rows { (m : ℕ) × (length rows.old ≡ 2 ^ m) × (length claim.now.point ≡ length at.now + m) }
+    requires rows { (m : ℕ) × (length rows.old ≡ 2 ^ m)
+        × (length claim.now.point ≡ length at.now + m) }
     ensures { (m : ℕ) → length claim.now.point ≡ length at.now + m → OnOk result (AddsBound EF.number
         EF.ops (order_of order) claim.now (map EF.number at.now) m rows.old rows.new) }
 {

@@ -71,8 +71,10 @@ pub(crate) fn push_partials<EF: Field>(
     rounds: &mut Vec<EqPartials<EF>>,
 ) -> Result<EF, NoMemory>
     requires { variables_of table ≡ length kept.now }
-    ensures { (f : ℕ → ℕ) (zs : List ℕ) → IsPartial (order_of order) EF.ops EF.number f zs (map EF.number kept.now) table
-        → IfOk result (Leaves (order_of order) EF.ops EF.number f zs (length kept.now) rounds.old.items rounds.new.items) }
+    ensures { (f : ℕ → ℕ) (zs : List ℕ) →
+        IsPartial (order_of order) EF.ops EF.number f zs (map EF.number kept.now) table
+        → IfOk result (Leaves (order_of order) EF.ops EF.number f zs (length kept.now)
+        rounds.old.items rounds.new.items) }
 {
     if kept.is_empty() {
         return Ok(table.as_slice()[0]);
@@ -108,7 +110,8 @@ fn sum_over<EF: Field>(
     z: EF,
 ) -> Result<Poly<EF>, NoMemory>
     requires { 0 < variables_of table.now }
-    ensures { IfOk result (IsFixedOf (other_order (order_of order)) EF.ops EF.number (EF.number z) (table_of EF.number table.now) (2 ^ variables_of table.now)) }
+    ensures { IfOk result (IsFixedOf (other_order (order_of order)) EF.ops EF.number (EF.number z)
+        (table_of EF.number table.now) (2 ^ variables_of table.now)) }
 {
     match order {
         VariableOrder::Prefix => fix_suffix_var_slice(alloc, table.as_slice(), z),

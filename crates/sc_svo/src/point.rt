@@ -24,7 +24,8 @@ pub struct SvoPoint<F: Field, EF: ExtensionField<F>> {
     split: SplitEq<F, EF>,
     ghost few: { length near + length far ≤ 40 },
     ghost sized: { split_variables split ≡ length far },
-    ghost weighs: { (b : ℕ) → b < 2 ^ length far → split_weight EF.number EF.ops split b ≡ weight EF.ops (map EF.number far) b },
+    ghost weighs: { (b : ℕ) → b < 2 ^ length far →
+        split_weight EF.number EF.ops split b ≡ weight EF.ops (map EF.number far) b },
 }
 
 impl<F: Field, EF: ExtensionField<F>> SvoPoint<F, EF> {
@@ -111,7 +112,8 @@ impl<F: Field, EF: ExtensionField<F>> SvoPoint<F, EF> {
     pub fn eval(&self, alloc: Global, poly: &Poly<F>) -> Result<(EF, EqSvoPartials<EF>), NoMemory>
         requires { variables_of poly.now ≡ length (point_in self.now) }
         ensures { IfOk result (λ r. sums_in EF.number r
-            ≡ sums_of (order_in self.now) EF.ops (λ b. EF.embedding (table_of F.number poly.now b)) (point_in self.now) (length (near_in self.now))) }
+            ≡ sums_of (order_in self.now) EF.ops (λ b. EF.embedding (table_of F.number poly.now b))
+            (point_in self.now) (length (near_in self.now))) }
     {
         self.eval_slice(alloc, poly.as_slice())
     }
@@ -120,7 +122,8 @@ impl<F: Field, EF: ExtensionField<F>> SvoPoint<F, EF> {
     pub fn eval_slice(&self, alloc: Global, rows: &[F]) -> Result<(EF, EqSvoPartials<EF>), NoMemory>
         requires { length rows.now ≡ 2 ^ length (point_in self.now) }
         ensures { IfOk result (λ r. sums_in EF.number r
-            ≡ sums_of (order_in self.now) EF.ops (entries (λ x. EF.embedding (F.number x)) rows.now) (point_in self.now) (length (near_in self.now))) }
+            ≡ sums_of (order_in self.now) EF.ops (entries (λ x. EF.embedding (F.number x)) rows.now)
+            (point_in self.now) (length (near_in self.now))) }
     {
         let table = self.compress(alloc, rows)?;
         let mut rounds = with_room(alloc, self.near.num_variables())?;
