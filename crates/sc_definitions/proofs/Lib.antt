@@ -27,5 +27,8 @@ pub mod StandingLaws
 pub mod SameTables
 pub mod GridLaws
 pub mod PartialLaws
+pub mod PartLaws
+pub mod NextPartialLaws
+pub mod NextPartialSteps
 pub mod PlacedSums
 pub mod HonestRounds

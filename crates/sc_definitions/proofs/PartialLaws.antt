@@ -33,7 +33,7 @@ length-behind_of prefix l zs = length-drop l zs
 length-behind_of suffix l zs = length-take-le (length zs - l) zs (omega arith)
 
 -- where none is kept, the others are all
-behind_of-none : (order : Order) (zs : List ℕ) → behind_of order 0 zs ≡ zs
+pub behind_of-none : (order : Order) (zs : List ℕ) → behind_of order 0 zs ≡ zs
 behind_of-none prefix zs = refl
 behind_of-none suffix zs = take_all (length zs - 0) zs (omega arith)
 

@@ -1,13 +1,15 @@
 -- Worked figures of grids, partial tables and bound weights, over the integers modulo 65537, by computation.
-use Rattle.std.proofs.Common.{◌≡◌, ℕ, List, [], ◌∷◌, map, refl}
+use Rattle.std.proofs.Common.{◌≡◌, ℕ, List, [], ◌∷◌, ◌++◌, map, refl}
 use Rattle.std.specs.List.{range_with_len}
 use Rattle.sc_definitions.specs.Ring.{Ops, plus, times, opposite}
 use Rattle.sc_definitions.specs.Residues.{residues}
-use Rattle.sc_definitions.specs.Tables.{evaluation, prefix, suffix, sum_below, rows_of, weight, inner, bound, bound_low, bound_by}
+use Rattle.sc_definitions.specs.Tables.{evaluation, prefix, suffix, sum_below, rows_of, weight, value, digits, inner, bound, bound_low, bound_by}
 use Rattle.sc_definitions.specs.Messages.{low_entry, high_entry}
+use Rattle.sc_definitions.specs.Shifts.{shifted, only_at}
 use Rattle.sc_definitions.specs.Statements.{next_row, successor_weight}
 use Rattle.sc_definitions.specs.Grids.{ternary, grid_value, grid_entry, grid_list, grids_of, digit_weight, place_weight, read_off, read_message}
 use Rattle.sc_definitions.specs.Partials.{summed_first, summed_last, partial, partials_of}
+use Rattle.sc_definitions.specs.Parts.{Carry, Done, Omega, part_weight, part_at, closing, next_partial, next_partials_of}
 
 abbrev o : Ops
 o = residues 65537
@@ -62,3 +64,35 @@ bound-weights :
     × (first_two (bound_by evaluation suffix o (5 ∷ []) 1 (successor_weight o two_three)) ≡ 10 ∷ 22 ∷ [])
 unfolding bound_by bound bound_low sum_below successor_weight next_row weight rows_of plus times opposite
 bound-weights = (refl, refl, refl)
+
+-- the three tables of (2, 3) in the first of its rounds, for both orders
+next-tables :
+    (next_partials_of prefix o four two_three 1 ≡ record { done = 65533 ∷ 65529 ∷ []; carry = 3 ∷ 9 ∷ []; omega = 6 ∷ 12 ∷ [] } ∷ [])
+    × (next_partials_of suffix o four two_three 1 ≡ record { done = 5 ∷ 6 ∷ []; carry = 65534 ∷ 65533 ∷ []; omega = 6 ∷ 8 ∷ [] } ∷ [])
+unfolding next_partials_of next_partial part_weight shifted only_at summed_first summed_last sum_below weight rows_of plus times opposite
+next-tables = (refl, refl)
+
+-- the value under the successor weights of (2, 3), by rows, and by the tables that keep no variable, for both orders
+next-values :
+    (inner o 2 four (successor_weight o two_three) ≡ 3)
+    × (plus o (next_partial prefix o (closing prefix) four two_three 0 0) (next_partial prefix o Omega four two_three 0 0) ≡ 3)
+    × (plus o (next_partial suffix o (closing suffix) four two_three 0 0) (next_partial suffix o Omega four two_three 0 0) ≡ 3)
+unfolding inner successor_weight next_row next_partial part_weight shifted only_at summed_first summed_last sum_below weight rows_of plus times opposite
+next-values = (refl, refl, refl)
+
+-- the successor weights of (2, 3) with the variable that is bound first at 5, by values at joined points
+next-residuals :
+    (first_two (λ b. value o (successor_weight o two_three) ((5 ∷ []) ++ digits 1 b)) ≡ 65522 ∷ 2 ∷ [])
+    × (first_two (λ b. value o (successor_weight o two_three) (digits 1 b ++ 5 ∷ [])) ≡ 10 ∷ 22 ∷ [])
+unfolding value digits sum_below successor_weight next_row weight plus times opposite
+next-residuals = (refl, refl)
+
+-- the parts of the successor weights of (2, 3) at rows
+parts-at :
+    (part_at o Carry two_three (0 ∷ 0 ∷ []) ≡ 6)
+    × (part_at o Done two_three (0 ∷ 0 ∷ []) ≡ 0)
+    × (part_at o Done two_three (0 ∷ 1 ∷ []) ≡ 2)
+    × (part_at o Done two_three (1 ∷ 1 ∷ []) ≡ 65533)
+    × (part_at o Omega two_three (1 ∷ 1 ∷ []) ≡ 6)
+unfolding part_at value part_weight shifted only_at sum_below weight plus times opposite
+parts-at = (refl, refl, refl, refl, refl)

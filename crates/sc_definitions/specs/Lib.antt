@@ -18,4 +18,5 @@ pub mod Channels
 pub mod Standings
 pub mod Grids
 pub mod Partials
+pub mod Parts
 pub mod Combined

@@ -9,3 +9,6 @@ pub mod PairLaws
 pub mod DotLaws
 pub mod DelayedLaws
 pub mod DelayedPairs
+pub mod EntryLaws
+pub mod WrittenLaws
+pub mod ColumnLaws

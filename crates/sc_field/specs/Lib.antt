@@ -10,3 +10,4 @@ pub mod QuadraticLaws
 pub mod ResiduesLaws
 pub mod SixteenLaws
 pub mod Tested
+pub mod Written

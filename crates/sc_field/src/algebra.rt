@@ -1,7 +1,7 @@
 //! Fields over fields.
-ghost use Rattle.std.specs.Prelude.{◌≡◌, ℕ, ◌*◌, ◌<◌, ◌≤◌, length, map, slice_index, slice_set, refl};
+ghost use Rattle.std.specs.Prelude.{◌≡◌, ℕ, ◌+◌, ◌*◌, ◌<◌, ◌≤◌, length, map, slice_index, slice_set, refl};
 ghost use Rattle.std.proofs.Common.{lit≤};
-ghost use Rattle.sc_definitions.specs.Ring.{IsRingMap, IsExtension, ◌*⟨◌⟩◌};
+ghost use Rattle.sc_definitions.specs.Ring.{IsRingMap, IsExtension, ◌+⟨◌⟩◌, ◌*⟨◌⟩◌};
 ghost use Rattle.sc_definitions.specs.Tables.{entries};
 ghost use Rattle.sc_definitions.specs.Events.{Extension, own_extension};
 ghost use Rattle.sc_field.specs.Own.{identity_map, own_extends};
@@ -75,6 +75,37 @@ pub trait Algebra<B: Field>: Field {
         (even, difference)
     }
 
+    /// Adds to each of a list of sums the image of the base element at the same place of a row, times
+    /// a factor.
+    fn add_row_base(sums: &mut [Self], row: &[B], factor: Self)
+        requires { length sums.old ≡ length row.now }
+        ensures { (c : ℕ) → c < length sums.old → entries Self.number sums.new c
+            ≡ entries Self.number sums.old c +⟨ Self.ops ⟩ entries (λ x. embedding (B.number x)) row.now c
+            *⟨ Self.ops ⟩ Self.number factor }
+    {
+        for c in 0..sums.len() {
+            sums[c] = sums[c].add(factor.mul_base(row[c]));
+        }
+    }
+
+    /// Adds to each of a list of sums the products of its column of a table of base elements, whose
+    /// rows are as long as the list: the image of the entry of each row, times the row's factor.
+    /// There are at most 512 rows.
+    fn add_columns_base(sums: &mut [Self], rows: &[B], factors: &[Self])
+        requires size { length rows.now ≡ length factors.now * length sums.old }
+        requires few { length factors.now ≤ 512 }
+        ensures { (c : ℕ) → c < length sums.old → entries Self.number sums.new c
+            ≡ entries Self.number sums.old c +⟨ Self.ops ⟩ products Self.ops (length factors.now)
+            (λ a. entries (λ x. embedding (B.number x)) rows.now (a * length sums.old + c))
+            (entries Self.number factors.now) }
+    {
+        let width = sums.len();
+        for a in 0..factors.len() {
+            let from = a * width;
+            Self::add_row_base(sums, &rows[from..from + width], factors[a]);
+        }
+    }
+
     ghost embeds: { IsRingMap B.ops Self.ops embedding };
 }
 
@@ -136,6 +167,14 @@ impl<F: Field> Algebra<F> for F {
 
     fn dot_base_pairs(pairs: usize, xs: &[F], ys: &[F]) -> (F, F) {
         F::dot_pairs(pairs, xs, ys)
+    }
+
+    fn add_row_base(sums: &mut [F], row: &[F], factor: F) {
+        F::add_row(sums, row, factor)
+    }
+
+    fn add_columns_base(sums: &mut [F], rows: &[F], factors: &[F]) {
+        F::add_columns(sums, rows, factors)
     }
 }
 

@@ -1,8 +1,11 @@
 //! The integers modulo 65537.
-ghost use Rattle.std.specs.Prelude.{◌≡◌, ◌%◌, ◌<◌, refl};
+ghost use Rattle.std.specs.Prelude.{◌≡◌, ℕ, ◌+◌, ◌-◌, ◌*◌, ◌%◌, ◌^◌, ◌<◌, ◌≤◌, length, refl};
 ghost use Rattle.std.proofs.Common.{lit<, lit≤};
-ghost use Rattle.sc_definitions.specs.Ring.{◌-⟨◌⟩◌};
+ghost use Rattle.sc_definitions.specs.Ring.{◌+⟨◌⟩◌, ◌-⟨◌⟩◌};
 ghost use Rattle.sc_definitions.specs.Residues.{residues};
+ghost use Rattle.sc_definitions.specs.Tables.{entries};
+ghost use Rattle.sc_field.specs.Products.{products};
+ghost use Rattle.sc_field.specs.Written.{HasWritten};
 ghost use Rattle.sc_field.specs.ResiduesLaws.{residues_field, residues_two};
 ghost use Rattle.sc_field.specs.PrimeLaws.{eqb_iff};
 
@@ -11,6 +14,12 @@ use crate::prime::inverse_modulo;
 
 // 2^16 + 1, a prime number.
 const MODULUS: u32 = 65537;
+
+// How many columns of a table are added up side by side.
+const COLUMNS: usize = 256;
+
+// From how many rows on this is faster than row by row.
+const SOME_ROWS: usize = 5;
 
 /// An integer modulo 65537, which is 2^16 + 1, a prime number. Element number n is n itself.
 #[derive(Clone, Copy, PartialEq, Eq, Debug)]
@@ -130,6 +139,18 @@ impl Field for F65537 {
         (reduced(even), reduced(difference))
     }
 
+    // Where there are few rows it is not worth while to reduce later.
+    fn add_columns(sums: &mut [F65537], rows: &[F65537], factors: &[F65537]) {
+        if factors.len() >= SOME_ROWS {
+            return add_blocks(sums, rows, factors);
+        }
+        let width = sums.len();
+        for a in 0..factors.len() {
+            let from = a * width;
+            F65537::add_row(sums, &rows[from..from + width], factors[a]);
+        }
+    }
+
     fn neg(self) -> F65537 {
         F65537 {
             value: if self.value == 0 {
@@ -168,4 +189,75 @@ fn above(x: F65537, y: F65537) -> u64
     ensures below { result < 131074 }
 {
     (x.value + MODULUS - y.value) as u64
+}
+
+// Adds up columns by blocks of them, whose sums stand in an array until all rows are added.
+fn add_blocks(sums: &mut [F65537], rows: &[F65537], factors: &[F65537])
+    requires size { length rows.now ≡ length factors.now * length sums.old }
+    requires few { length factors.now ≤ 512 }
+    ensures { (c : ℕ) → c < length sums.old → entries (λ x. x.value) sums.new c
+        ≡ entries (λ x. x.value) sums.old c +⟨ residues 65537 ⟩ products (residues 65537)
+        (length factors.now) (λ a. entries (λ x. x.value) rows.now (a * length sums.old + c))
+        (entries (λ x. x.value) factors.now) }
+{
+    let width = sums.len();
+    let mut from = 0;
+    while from < width {
+        let len = (width - from).min(COLUMNS);
+        let totals = column_totals(rows, factors, width, from, len);
+        add_reduced(sums, from, len, &totals);
+        from += len;
+    }
+}
+
+// The sums of so many columns of a table of this width, from the given one on; none is reduced.
+fn column_totals(
+    rows: &[F65537],
+    factors: &[F65537],
+    width: usize,
+    from: usize,
+    len: usize,
+) -> [u64; 256]
+    requires size { length rows.now ≡ length factors.now * width }
+    requires few { length factors.now ≤ 512 }
+    requires inside { from + len ≤ width }
+    requires fits { len ≤ 256 }
+    ensures { (c : ℕ) → c < len → entries (λ n. n) result c % 65537
+        ≡ products (residues 65537) (length factors.now)
+        (λ a. entries (λ x. x.value) rows.now (a * width + (from + c)))
+        (entries (λ x. x.value) factors.now) }
+{
+    let mut totals = [0; COLUMNS];
+    for a in 0..factors.len() {
+        let start = a * width + from;
+        add_products(&mut totals, &rows[start..start + len], factors[a]);
+    }
+    totals
+}
+
+// Adds to each number the value at the same place, times a factor; there may be fewer values.
+fn add_products(totals: &mut [u64], row: &[F65537], factor: F65537)
+    requires fits { length row.now ≤ length totals.old }
+    requires small { (c : ℕ) → entries (λ n. n) totals.old c < 2 ^ 63 }
+    ensures gained { (c : ℕ) → c < length row.now → entries (λ n. n) totals.new c
+        ≡ entries (λ n. n) totals.old c + entries (λ x. x.value) row.now c * factor.value }
+    ensures others { (c : ℕ) → length row.now ≤ c →
+        entries (λ n. n) totals.new c ≡ entries (λ n. n) totals.old c }
+{
+    for c in 0..row.len() {
+        totals[c] += row[c].value as u64 * factor.value as u64;
+    }
+}
+
+// Adds the elements of so many numbers to as many sums, from the given one on.
+fn add_reduced(sums: &mut [F65537], from: usize, len: usize, numbers: &[u64])
+    requires inside { from + len ≤ length sums.old }
+    requires fits { len ≤ length numbers.now }
+    ensures { HasWritten (λ x. x.value) (λ c. entries (λ x. x.value) sums.old c
+        +⟨ residues 65537 ⟩ entries (λ n. n) numbers.now (c - from) % 65537)
+        from len sums.old sums.new }
+{
+    for c in 0..len {
+        sums[from + c] = sums[from + c].add(reduced(numbers[c]));
+    }
 }

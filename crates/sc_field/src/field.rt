@@ -1,5 +1,5 @@
 //! What a field is.
-ghost use Rattle.std.specs.Prelude.{◌≡◌, ℕ, ◌*◌, ◌<◌, ◌≤◌, ◌^◌, ◌↔◌, true, IfSome, length};
+ghost use Rattle.std.specs.Prelude.{◌≡◌, ℕ, ◌+◌, ◌*◌, ◌<◌, ◌≤◌, ◌^◌, ◌↔◌, true, IfSome, length};
 ghost use Rattle.sc_definitions.specs.Ring.{Ops, IsField, opposite, power, ◌+⟨◌⟩◌, ◌-⟨◌⟩◌, ◌*⟨◌⟩◌};
 ghost use Rattle.sc_definitions.specs.Tables.{entries};
 ghost use Rattle.sc_field.specs.Products.{products, differences, even_rows, odd_rows};
@@ -149,6 +149,33 @@ pub trait Field: Copy + Eq {
             difference = difference.add(x1.sub(x0).mul(y1.sub(y0)));
         }
         (even, difference)
+    }
+
+    /// Adds to each of a list of sums the element at the same place of a row, times a factor.
+    fn add_row(sums: &mut [Self], row: &[Self], factor: Self)
+        requires { length sums.old ≡ length row.now }
+        ensures { (c : ℕ) → c < length sums.old → entries number sums.new c
+            ≡ entries number sums.old c +⟨ ops ⟩ entries number row.now c *⟨ ops ⟩ number factor }
+    {
+        for c in 0..sums.len() {
+            sums[c] = sums[c].add(row[c].mul(factor));
+        }
+    }
+
+    /// Adds to each of a list of sums the products of its column of a table, whose rows are as long
+    /// as the list: the entry of each row times the row's factor. There are at most 512 rows.
+    fn add_columns(sums: &mut [Self], rows: &[Self], factors: &[Self])
+        requires size { length rows.now ≡ length factors.now * length sums.old }
+        requires few { length factors.now ≤ 512 }
+        ensures { (c : ℕ) → c < length sums.old → entries number sums.new c
+            ≡ entries number sums.old c +⟨ ops ⟩ products ops (length factors.now)
+            (λ a. entries number rows.now (a * length sums.old + c)) (entries number factors.now) }
+    {
+        let width = sums.len();
+        for a in 0..factors.len() {
+            let from = a * width;
+            Self::add_row(sums, &rows[from..from + width], factors[a]);
+        }
     }
 
     /// Node number i of an interpolation, which is element number i. It is below the size.

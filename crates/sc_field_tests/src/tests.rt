@@ -2,6 +2,7 @@
 
 ghost use Rattle.std.specs.Prelude.{◌≡◌};
 
+mod columns;
 mod figures;
 mod integers;
 mod pairs;

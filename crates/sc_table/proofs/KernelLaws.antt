@@ -1,23 +1,14 @@
 -- Messages by blocks of rows.
-use Rattle.std.proofs.Common.{◌≡◌, ℕ, ◌+◌, ◌*◌, ◌<◌, ◌≤◌, List, length, get_or, take, drop, sym, ◌∙◌, ap, arith}
-use Rattle.std.proofs.lemmas.List.{length-drop, length-take-le}
+use Rattle.std.proofs.Common.{◌≡◌, ℕ, ◌+◌, ◌*◌, ◌<◌, get_or, sym, ◌∙◌, ap}
 use Rattle.sc_definitions.specs.Ring.{Ops, IsRing, plus}
-use Rattle.sc_definitions.specs.Tables.{Basis, evaluation, Order, prefix, suffix, entries}
+use Rattle.sc_definitions.specs.Tables.{Basis, evaluation, Order, prefix, suffix}
 use Rattle.sc_definitions.specs.Messages.{low_entry, high_entry, first_term, leading_term, message_first, message_leading}
 use Rattle.sc_definitions.proofs.LoopLaws.{IsMessageSoFar}
 use Rattle.sc_definitions.proofs.PlayedLaws.{message-same}
 use Rattle.sc_definitions.proofs.Sums.{sum-same, sum-split}
 use Rattle.sc_field.specs.Products.{products, differences, even_rows, odd_rows}
 use Rattle.sc_table.specs.Blocks.{sum_from}
-use Rattle.sc_table.proofs.EntryLaws.{entry-take, entry-drop}
-
--- an entry of a part of a list
-pub part-entry : {X : Type 0} (number : X → ℕ) (xs : List X) (n from k at : ℕ) → k < n → from + k ≡ at → entries number (take n (drop from xs)) k ≡ entries number xs at
-part-entry number xs n from k at low e = entry-take number (drop from xs) n k low ∙ entry-drop number xs from k ∙ ap (entries number xs) e
-
--- how long a part of a list is
-pub part-length : {X : Type 0} (xs : List X) (n from rows : ℕ) → n ≡ rows → from + rows ≤ length xs → length (take n (drop from xs)) ≡ rows
-part-length xs n from rows e within = length-take-le n (drop from xs) (omega (arith, e, length-drop from xs, within)) ∙ e
+pub use Rattle.sc_field.proofs.EntryLaws.{part-entry, part-length}
 
 -- sums over two tables that agree from a row on
 pub sum_from-same : (o : Ops) (from n : ℕ) (f g : ℕ → ℕ) → ((k : ℕ) → k < n → f (from + k) ≡ g (from + k)) → sum_from o from n f ≡ sum_from o from n g

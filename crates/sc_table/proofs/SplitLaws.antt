@@ -6,16 +6,18 @@ use Rattle.std.proofs.Math.Nat.{mod-lt, mul-div_cancel_left, add-mul}
 use Rattle.std.proofs.Math.Pow.{pow_mono}
 use Rattle.std.proofs.lemmas.Nat.{pow_pos, mul-le, div_below, div-mul-add, mod-mul-add}
 use Rattle.sc_definitions.specs.Ring.{Ops, IsRing, plus, times}
-use Rattle.sc_definitions.specs.Tables.{sum_below, weight}
+use Rattle.sc_definitions.specs.Tables.{sum_below, entries, weight}
 use Rattle.sc_definitions.specs.Shifts.{shifted}
 use Rattle.sc_definitions.specs.Partials.{summed_first, summed_last}
 use Rattle.sc_definitions.proofs.Lengths.{pow-same}
-use Rattle.sc_definitions.proofs.RingLaws.{times_assoc, times_comm, times-one, plus_comm, plus-zero}
+use Rattle.sc_definitions.proofs.RingLaws.{times_assoc, times_comm, times-one, times-zero, plus_comm, plus-zero, element-small}
 use Rattle.sc_definitions.proofs.Sums.{sum-same, times-sum, element-sum}
 use Rattle.sc_definitions.proofs.SuccessorLaws.{element-weight, sum-first, shifted-zero, shifted-suc}
 use Rattle.sc_definitions.proofs.BlockLaws.{weight-append}
 use Rattle.sc_definitions.proofs.Identity.{atom, nought, unit, ◌⊕◌, ◌⊗◌, Agree, identity}
 use Rattle.sc_field.specs.Products.{products}
+use Rattle.sc_field.specs.Written.{HasWritten}
+use Rattle.sc_field.proofs.EntryLaws.{entry-below}
 use Rattle.sc_table.specs.declared.split_eq.SplitEq.{SplitEq}
 use Rattle.sc_table.specs.Polys.{variables_of, table_of}
 use Rattle.sc_table.specs.SplitEqs.{split_variables, split_weight, factor_of, shifted_by}
@@ -85,6 +87,26 @@ module _ {F EF : Type 0} (s : SplitEq F EF) where
       let fits : suc a * rows ≤ blocks * rows = mul-le (suc a) rows blocks rows low (omega arith) in
       omega (arith, fits, all-rows blocks rows blocks_are rows_are)
 
+-- one row is within a table of so many
+pub row-within : (size rows row a : ℕ) → size ≡ rows * row → a < rows → a * row + row ≤ size
+row-within size rows row a whole low =
+    let fits : suc a * row ≤ rows * row = mul-le (suc a) row rows row low (omega arith) in
+    omega (arith, fits, whole)
+
+-- The rows behind the first one have gained weights, so all rows have gained the weights moved up.
+pub gained-shifted : {X : Type 0} (number : X → ℕ) (o : Ops) → IsRing o → ((x : X) → number x < o.size) → (factor n : ℕ) (w : ℕ → ℕ) (old new : List X) →
+    HasWritten number (λ b. plus o (entries number old b) (times o factor (w (b - 1)))) 1 n old new →
+    (b : ℕ) → b < 1 + n → entries number new b ≡ plus o (entries number old b) (times o factor (shifted 0 w b))
+gained-shifted number o ring below factor n w old new rows zero low =
+    let x = entries number old 0 in
+    rows.before 0 (omega arith)
+    ∙ sym (ap (λ k. plus o x (times o factor k)) (shifted-zero 0 w) ∙ ap (plus o x) (times-zero o ring factor) ∙ plus-zero o ring x
+    ∙ element-small o ring x (entry-below o number ring below old 0))
+gained-shifted number o ring below factor n w old new rows (suc b) low =
+    let before : suc b - 1 ≡ b = omega arith in
+    rows.written (suc b) (omega arith) (omega (arith, low))
+    ∙ ap (λ k. plus o (entries number old (suc b)) (times o factor k)) (ap w before ∙ sym (shifted-suc 0 w b))
+
 -- where there is no scale
 pub factor-unwrapped : {X : Type 0} (number : X → ℕ) (scale : Option X) (one used : X) → number one ≡ 1 → used ≡ unwrap_or scale one →
     number used ≡ factor_of number scale
@@ -98,6 +120,15 @@ module _ {F EF : Type 0} (number : EF → ℕ) (o : Ops) (ring : IsRing o) (s : 
   gain-at scale factor weight a c factor_is weight_is low =
       ap (λ k. times o k (table_of number s.inner c)) (factor_is ∙ ap (times o scale) weight_is)
       ∙ times_assoc o ring scale (table_of number s.outer a) (table_of number s.inner c) ∙ ap (times o scale) (sym (split-at number o s a c low))
+
+  -- What a row of a block gains; the last blocks may be cut, or empty.
+  pub gain-block : (size rows a from to : ℕ) → rows ≡ 2 ^ variables_of s.inner → from ≡ min (a * rows) size → to ≡ min (from + rows) size →
+      (scale factor weight : ℕ) → factor ≡ times o scale weight → weight ≡ table_of number s.outer a → (c : ℕ) → c < to - from →
+      times o factor (table_of number s.inner c) ≡ times o scale (split_weight number o s (from + c))
+  gain-block size rows a from to rows_are from_is to_is scale factor weight factor_is weight_is c low =
+      let inside : c < 2 ^ variables_of s.inner = omega (arith, low, from_is, to_is, rows_are) in
+      let row : a * 2 ^ variables_of s.inner + c ≡ from + c = ap (λ r. a * r + c) (sym rows_are) ∙ omega (arith, low, from_is, to_is) in
+      gain-at scale factor weight a c factor_is weight_is inside ∙ ap (λ b. times o scale (split_weight number o s b)) row
 
   -- a weight that is added to nothing
   pub weight-alone : (b : ℕ) → plus o 0 (times o 1 (split_weight number o s b)) ≡ split_weight number o s b
@@ -192,6 +223,15 @@ module _ (o : Ops) (ring : IsRing o) (n up count : ℕ) (within : up ≤ 2 ^ n) 
       ap (λ x. times o x (w k)) (part_is k low ∙ ap f at))
       ∙ ap (λ k. sum_below o k (λ b. times o (f (a * 2 ^ n + (up + b))) (w b))) count_is
       ∙ sym (shifted-sum o ring up (2 ^ n) (λ b. f (a * 2 ^ n + b)) w within)
+
+  -- the same, added to nothing
+  pub piece-gained : (start a : ℕ) → start ≡ 0 → ((k : ℕ) → k < count → part k ≡ f (a * 2 ^ n + up + k)) →
+      plus o start (sum_below o count (λ k. times o (part k) (w k))) ≡ summed_last o n (shifted_by up w) f a
+  unfolding products
+  piece-gained start a none part_is =
+      let S = sum_below o count (λ k. times o (part k) (w k)) in
+      ap (λ k. plus o k S) none ∙ plus_comm o ring 0 S ∙ plus-zero o ring S ∙ element-sum o ring count (λ k. times o (part k) (w k))
+      ∙ piece-summed a part_is
 
   -- the rows without the first ones, times the weights, added to nothing
   pub rows-summed : (m width start c : ℕ) → width ≡ 2 ^ m → start ≡ 0 → ((b : ℕ) → part b ≡ f (up * 2 ^ m + b)) →

@@ -3,7 +3,8 @@
 ghost use Rattle.std.specs.Prelude.{◌≡◌, ◌≤◌, ◌++◌, List, length, map, reverse, IfOk};
 ghost use Rattle.sc_definitions.specs.Ring.{power, ◌+⟨◌⟩◌};
 ghost use Rattle.sc_definitions.specs.Tables.{eq_product, value};
-ghost use Rattle.sc_definitions.specs.Statements.{successor_weight, next_carry, next_done, next_omega};
+ghost use Rattle.sc_definitions.specs.Statements.{successor_weight};
+ghost use Rattle.sc_definitions.specs.Parts.{Carry, Done, Omega, part_at};
 
 use sc_field::{Algebra, Field, NoMemory};
 use std::alloc::Global;
@@ -92,19 +93,25 @@ impl<EF: Field> Point<EF> {
         product
     }
 
-    /// The three sums that make the successor's value of two lists of coordinates of one length, by the equality weights of rows.
+    /// The three sums that make the successor's value of two lists of coordinates of one length, by
+    /// the equality weights of rows.
     ///
-    /// The first is the weight of `z` at the last row, times that of `x` at row 0. The second is the sum over all rows but the last of
-    /// the weight of `z` there, times that of `x` at the row after it. The third is the weights of both at the last row, multiplied. Of
-    /// no coordinates they are 1, 0 and 1.
+    /// The first is the weight of `z` at the last row, times that of `x` at row 0. The second is
+    /// the sum over all rows but the last of the weight of `z` there, times that of `x` at the row
+    /// after it. The third is the weights of both at the last row, multiplied. Of no coordinates
+    /// they are 1, 0 and 1. They are the values at `x` of three parts of the weights of `z`.
     pub fn eval_next(z: &[EF], x: &[EF]) -> (EF, EF, EF)
         requires { length z.now ≡ length x.now }
-        ensures carry { EF.number result.0 ≡ next_carry EF.ops (map EF.number z.now) (map EF.number x.now) }
-        ensures done { EF.number result.1 ≡ next_done EF.ops (map EF.number z.now) (map EF.number x.now) }
-        ensures omega { EF.number result.2 ≡ next_omega EF.ops (map EF.number z.now) (map EF.number x.now) }
+        ensures carry { EF.number result.0
+            ≡ part_at EF.ops Carry (map EF.number z.now) (map EF.number x.now) }
+        ensures done { EF.number result.1
+            ≡ part_at EF.ops Done (map EF.number z.now) (map EF.number x.now) }
+        ensures omega { EF.number result.2
+            ≡ part_at EF.ops Omega (map EF.number z.now) (map EF.number x.now) }
 
         // The last two make the value at `x` of the successor weights of `z`, as a table.
-        ensures value { EF.number result.1 +⟨ EF.ops ⟩ EF.number result.2 ≡ value EF.ops (successor_weight EF.ops (map EF.number z.now)) (map EF.number x.now) }
+        ensures value { EF.number result.1 +⟨ EF.ops ⟩ EF.number result.2 ≡ value EF.ops
+            (successor_weight EF.ops (map EF.number z.now)) (map EF.number x.now) }
     {
         let mut equal = EF::ONE;
         let mut carry = EF::ONE;

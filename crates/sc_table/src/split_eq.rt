@@ -13,6 +13,12 @@ use sc_field::{Algebra, Field, NoMemory};
 use std::alloc::Global;
 use std::marker::PhantomData;
 
+// How many weights are written out at once.
+const WEIGHTS: usize = 256;
+
+// From how many sums on it is worth while to write weights out for all of them.
+const MANY_SUMS: usize = 32;
+
 /// The equality weights of a point, each times a scale: as two tables, over the first half of the
 /// coordinates, rounded down, and over the others. The whole table is nowhere in memory.
 ///
@@ -87,13 +93,19 @@ impl<F, EF: Field> SplitEq<F, EF> {
             ≡ entries EF.number out.old b +⟨ EF.ops ⟩ factor_of EF.number scale
             *⟨ EF.ops ⟩ split_weight EF.number EF.ops self.now b }
     {
-        let scale = scale.unwrap_or(EF::ONE);
-        let (outer, inner) = (self.outer.as_slice(), self.inner.as_slice());
-        let block = inner.len();
-        for a in 0..outer.len() {
-            let from = a * block;
-            add_scaled(&mut out[from..from + block], inner, scale.mul(outer[a]));
-        }
+        self.add_weights(out, scale.unwrap_or(EF::ONE));
+    }
+
+    /// As [`SplitEq::accumulate_into`], of the weights moved up by one row: row 0 gains nothing,
+    /// and row b gains the weight of row b - 1.
+    pub fn accumulate_shifted_into(&self, out: &mut [EF], scale: Option<EF>)
+        requires { length out.old ≡ 2 ^ split_variables self.now }
+        ensures { (b : ℕ) → b < 2 ^ split_variables self.now →
+            entries EF.number out.new b
+            ≡ entries EF.number out.old b +⟨ EF.ops ⟩ factor_of EF.number scale
+            *⟨ EF.ops ⟩ shifted 0 (split_weight EF.number EF.ops self.now) b }
+    {
+        self.add_weights(&mut out[1..], scale.unwrap_or(EF::ONE));
     }
 
     /// The table of values `poly` summed over its first variables, as many as the point has, under
@@ -213,6 +225,33 @@ impl<F, EF: Field> SplitEq<F, EF> {
             (shifted_by up (split_weight EF.number EF.ops self.now))
             (entries (λ x. EF.embedding (A.number x)) poly.now) c) }
     {
+        let width = poly.len() >> self.num_variables();
+        if width < MANY_SUMS {
+            return self.single_sums(alloc, poly, up);
+        }
+        let mut sums = Poly::new(zeros(alloc, width)?);
+        self.add_pieces(sums.as_mut_slice(), poly, up);
+        Ok(sums)
+    }
+
+    // The same, one sum after the other.
+    fn single_sums<A: Field>(
+        &self,
+        alloc: Global,
+        poly: &[A],
+        up: usize,
+    ) -> Result<Poly<EF>, NoMemory>
+    where
+        EF: Algebra<A>,
+        requires size { (m : ℕ) × (length poly.now ≡ 2 ^ (split_variables self.now + m)) }
+        requires up { up ≤ 2 ^ split_variables self.now }
+        ensures size { IfOk result
+            (λ p. length poly.now ≡ 2 ^ (split_variables self.now + variables_of p)) }
+        ensures rows { IfOk result (λ p. (c : ℕ) → c < 2 ^ variables_of p → table_of EF.number p c
+            ≡ summed_last EF.ops (split_variables self.now)
+            (shifted_by up (split_weight EF.number EF.ops self.now))
+            (entries (λ x. EF.embedding (A.number x)) poly.now) c) }
+    {
         let rows = 1 << self.num_variables();
         let width = poly.len() >> self.num_variables();
         let mut sums = Vec::with_capacity(alloc, width)?;
@@ -234,10 +273,74 @@ impl<F, EF: Field> SplitEq<F, EF> {
             (λ a. entries (λ x. EF.embedding (A.number x)) table.now (a * length sums.old + c)
             *⟨ EF.ops ⟩ split_weight EF.number EF.ops self.now a) }
     {
+        EF::blocks_fit();
         let width = sums.len();
-        for a in 0..rows {
-            let from = a * width;
-            add_scaled(sums, &table[from..from + width], self.weight(a));
+        let mut from = 0;
+        while from < rows {
+            let len = (rows - from).min(WEIGHTS);
+            let weights = self.weights_from(from, len);
+            let block = &table[from * width..(from + len) * width];
+            EF::add_columns_base(sums, block, &weights[..len]);
+            from += len;
+        }
+    }
+
+    // Adds to each sum the entries of its piece of a table, times the weights of their places,
+    // moved up by so many. Each piece has as many entries as there are weights.
+    fn add_pieces<A: Field>(&self, sums: &mut [EF], table: &[A], up: usize)
+    where
+        EF: Algebra<A>,
+        requires size { length table.now ≡ length sums.old * 2 ^ split_variables self.now }
+        requires up { up ≤ 2 ^ split_variables self.now }
+        ensures { (c : ℕ) → c < length sums.old → entries EF.number sums.new c
+            ≡ entries EF.number sums.old c +⟨ EF.ops ⟩ sum_below EF.ops
+            (2 ^ split_variables self.now - up) (λ k. entries (λ x. EF.embedding (A.number x))
+            table.now (c * 2 ^ split_variables self.now + up + k)
+            *⟨ EF.ops ⟩ split_weight EF.number EF.ops self.now k) }
+    {
+        EF::blocks_fit();
+        let rows = 1 << self.num_variables();
+        let mut from = 0;
+        while from < rows - up {
+            let len = (rows - up - from).min(WEIGHTS);
+            let weights = self.weights_from(from, len);
+            add_dots(sums, table, rows, up + from, &weights[..len]);
+            from += len;
+        }
+    }
+
+    // The weights of so many rows, from the given one on.
+    fn weights_from(&self, from: usize, len: usize) -> [EF; 256]
+        requires inside { from + len ≤ 2 ^ split_variables self.now }
+        requires few { len ≤ 256 }
+        ensures { (k : ℕ) → k < len → entries EF.number result k
+            ≡ split_weight EF.number EF.ops self.now (from + k) }
+    {
+        EF::blocks_fit();
+        let mut weights = [EF::ZERO; 256];
+        for k in 0..len {
+            weights[k] = self.weight(from + k);
+        }
+        weights
+    }
+
+    // Adds the weights of the first rows, each times a factor, to as many rows.
+    fn add_weights(&self, rows: &mut [EF], factor: EF)
+        requires { length rows.old ≤ 2 ^ split_variables self.now }
+        ensures { (b : ℕ) → b < length rows.old →
+            entries EF.number rows.new b ≡ entries EF.number rows.old b +⟨ EF.ops ⟩ EF.number factor
+            *⟨ EF.ops ⟩ split_weight EF.number EF.ops self.now b }
+    {
+        let (outer, inner) = (self.outer.as_slice(), self.inner.as_slice());
+        let block = inner.len();
+        for a in 0..outer.len() {
+            let from = (a * block).min(rows.len());
+            let to = (from + block).min(rows.len());
+            add_scaled(
+                &mut rows[from..to],
+                &inner[..to - from],
+                factor.mul(outer[a]),
+            );
         }
     }
 
@@ -272,6 +375,30 @@ impl<F, EF: Field> SplitEq<F, EF> {
         let a = row >> self.inner.num_variables();
         let c = row & (inner.len() - 1);
         outer[a].mul(inner[c])
+    }
+}
+
+// Adds to each sum the products of weights with a part of its row of a table: from the given place
+// on, as many as there are weights.
+fn add_dots<A: Field, E: Algebra<A>>(
+    sums: &mut [E],
+    table: &[A],
+    row: usize,
+    from: usize,
+    weights: &[E],
+)
+    requires size { length table.now ≡ length sums.old * row }
+    requires inside { from + length weights.now ≤ row }
+    requires few { length weights.now ≤ 512 }
+    ensures { (c : ℕ) → c < length sums.old → entries E.number sums.new c
+        ≡ entries E.number sums.old c +⟨ E.ops ⟩ products E.ops (length weights.now)
+        (λ k. entries (λ x. E.embedding (A.number x)) table.now (c * row + from + k))
+        (entries E.number weights.now) }
+{
+    for c in 0..sums.len() {
+        let at = c * row + from;
+        let products = E::dot_base(&table[at..at + weights.len()], weights);
+        sums[c] = sums[c].add(products);
     }
 }
 

@@ -16,7 +16,7 @@ fn entry<F: Field>(i: usize, factor: u64) -> F {
     }
 }
 
-fn list<F: Field>(alloc: Global, len: usize, factor: u64) -> Result<Vec<F>, NoMemory>
+pub(crate) fn list<F: Field>(alloc: Global, len: usize, factor: u64) -> Result<Vec<F>, NoMemory>
     ensures { IfOk result (λ v. length v.items ≡ len) }
 {
     let list = (0..len).map(|i| entry(i, factor)).collect(alloc)?;

@@ -8,7 +8,7 @@ use super::kernels::{list, weight_at};
 use VariableOrder::{Prefix, Suffix};
 use sc_field::{Algebra, F257, F257x2, F65537, Field, NoMemory};
 use sc_table::{Point, Poly, SplitEq, VariableOrder, dot_slices, lagrange_weights_01inf_multi};
-use sc_tests_common::{elements, entry, have_numbers, point, table};
+use sc_tests_common::{Traced, elements, entry, have_numbers, point, table};
 use std::alloc::Global;
 
 // A table summed over its variables that come first or last, under weights that may be moved up.
@@ -158,26 +158,45 @@ fn each_way_agrees<A: Field, E: Algebra<A>>(
     Ok(true)
 }
 
+// The same over each field, of at most 16 variables.
+fn each_field_agrees(alloc: Global, n: usize, m: usize) -> Result<bool, NoMemory> {
+    if n > 16 || m > 16 - n {
+        return Ok(false);
+    }
+    Ok(
+        each_way_agrees::<F65537, F65537>(alloc, n, m)?
+            && each_way_agrees::<F257, F257x2>(alloc, n, m)?
+            && each_way_agrees::<Traced, Traced>(alloc, n, m)?,
+    )
+}
+
+// Every table of at most 4096 entries, with any number of its variables summed over.
 #[test]
 fn tables_compressed(rt: HostRuntime) {
-    for n in 0..4 {
-        for m in 0..6 - n {
-            assert_eq!(rt;
-                each_way_agrees::<F65537, F65537>(rt.alloc(), n, m),
-                Ok(true),
-                "{n} {m}"
-            );
-            assert_eq!(rt;
-                each_way_agrees::<F257, F257x2>(rt.alloc(), n, m),
-                Ok(true),
-                "{n} {m}"
-            );
+    for n in 0..13 {
+        for m in 0..13 - n {
+            assert_eq!(rt; each_field_agrees(rt.alloc(), n, m), Ok(true), "{n} {m}");
         }
     }
 }
 
+// Weights are written out by 256, for 32 sums or more; columns are added by 256 of them.
+#[test]
+fn tables_compressed_around_a_block(rt: HostRuntime) {
+    for (n, m) in [(13, 1), (10, 3), (8, 5), (9, 5), (10, 5), (8, 6), (3, 10)] {
+        assert_eq!(rt; each_field_agrees(rt.alloc(), n, m), Ok(true), "{n} {m}");
+    }
+}
+
+// Whether each row of one table is that of another and a weight, once as it is and once with a
+// scale.
+fn rows_gain<E: Field>(old: &[E], new: &[E], weights: &[E], scale: E) -> bool {
+    new.iter().zip(old).zip(weights).all(|((new, old), weight)| *new
+        == old.add(*weight).add(scale.mul(*weight)))
+}
+
 // Whether rows gain the weights, once as they are and once with a scale.
-fn rows_gain<E: Field>(
+fn rows_gain_weights<E: Field>(
     alloc: Global,
     split: &SplitEq<E, E>,
     weights: &[E],
@@ -191,10 +210,25 @@ fn rows_gain<E: Field>(
     let mut rows: Poly<E> = table(alloc, n, 12345)?;
     split.accumulate_into(rows.as_mut_slice(), None);
     split.accumulate_into(rows.as_mut_slice(), Some(scale));
-    Ok(
-        rows.as_slice().iter().zip(old.as_slice()).zip(weights).all(|((new, old), weight)| *new
-            == old.add(*weight).add(scale.mul(*weight))),
-    )
+    Ok(rows_gain(old.as_slice(), rows.as_slice(), weights, scale))
+}
+
+// The same of the weights moved up by one row.
+fn rows_gain_moved<E: Field>(
+    alloc: Global,
+    split: &SplitEq<E, E>,
+    weights: &[E],
+    n: usize,
+) -> Result<bool, NoMemory>
+    requires few { n ≤ 16 }
+    requires same { split_variables split.now ≡ n }
+{
+    let scale: E = entry(2, 99);
+    let old: Poly<E> = table(alloc, n, 12345)?;
+    let mut rows: Poly<E> = table(alloc, n, 12345)?;
+    split.accumulate_shifted_into(rows.as_mut_slice(), None);
+    split.accumulate_shifted_into(rows.as_mut_slice(), Some(scale));
+    Ok(rows_gain(old.as_slice(), rows.as_slice(), weights, scale))
 }
 
 // Whether the split weights of n coordinates are those of a plain loop: as a table, the last one,
@@ -207,7 +241,9 @@ fn weights_agree<E: Field>(alloc: Global, n: usize) -> Result<bool, NoMemory>
     let split: SplitEq<E, E> = SplitEq::new_unpacked(alloc, &z, scale)?;
     let plain = plain_weights(alloc, z.as_slice(), scale, 0)?;
     let whole = split.materialize(alloc)?;
-    let gain = rows_gain(alloc, &split, &plain, n)?;
+    let moved = plain_weights(alloc, z.as_slice(), scale, 1)?;
+    let gain = rows_gain_weights(alloc, &split, &plain, n)?
+        && rows_gain_moved(alloc, &split, &moved, n)?;
     let last = split.last_scalar();
     Ok(
         gain && split.num_variables() == n
@@ -218,9 +254,10 @@ fn weights_agree<E: Field>(alloc: Global, n: usize) -> Result<bool, NoMemory>
 
 #[test]
 fn split_weights_of_points(rt: HostRuntime) {
-    for n in 0..6 {
+    for n in 0..13 {
         assert_eq!(rt; weights_agree::<F65537>(rt.alloc(), n), Ok(true), "{n}");
         assert_eq!(rt; weights_agree::<F257x2>(rt.alloc(), n), Ok(true), "{n}");
+        assert_eq!(rt; weights_agree::<Traced>(rt.alloc(), n), Ok(true), "{n}");
     }
 }
 

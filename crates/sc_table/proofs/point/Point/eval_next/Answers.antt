@@ -4,6 +4,7 @@ use Rattle.std.proofs.lemmas.Slice.Zip.{Zip-more, either_empty_from_Zip}
 use Rattle.sc_definitions.specs.Ring.{plus, times}
 use Rattle.sc_definitions.specs.Statements.{next_done}
 use Rattle.sc_definitions.proofs.SuccessorLaws.{value-successor}
+use Rattle.sc_definitions.proofs.PartLaws.{carry-at, done-at, omega-at}
 use Rattle.sc_table.proofs.NextLaws.{IsPassed, passed-none, passed-more, passed-all, factors}
 use Rattle.sc_table.proofs.point.Point.eval_next.Goals as goal
 
@@ -60,8 +61,8 @@ returns g c =
     let sums = passed-all f.ops met.is_field.ring f.number zs xs l.z_i-iterator.a.rest.now l.z_i-iterator.b.rest.now
     (f.number l.equal) (f.number l.carry) (f.number l.done) (f.number l.omega) (met.number_below l.equal) (met.number_below l.carry) (met.number_below l.done) (met.number_below l.omega) none l.invariant in
     record {
-      carry = sums.0;
-      done = sums.1.0;
-      omega = sums.1.1;
+      carry = sums.0 ∙ sym (carry-at f.ops met.is_field.ring zs xs size);
+      done = sums.1.0 ∙ sym (done-at f.ops met.is_field.ring zs xs size);
+      omega = sums.1.1 ∙ sym (omega-at f.ops met.is_field.ring zs xs size);
       value = ap (λ k. plus f.ops k (f.number l.omega)) sums.1.0 ∙ ap (plus f.ops (next_done f.ops zs xs)) sums.1.1 ∙ sym (value-successor f.ops met.is_field.ring zs xs size);
     }

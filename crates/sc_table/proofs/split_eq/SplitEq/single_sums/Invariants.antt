@@ -3,7 +3,7 @@ use Rattle.sc_definitions.specs.Tables.{entries}
 use Rattle.sc_definitions.specs.Partials.{summed_last}
 use Rattle.sc_table.specs.SplitEqs.{split_variables, split_weight, shifted_by}
 use Rattle.sc_table.proofs.SliceLaws.{HasPushed}
-use Rattle.sc_table.proofs.split_eq.SplitEq.suffix_sums.Given as goal
+use Rattle.sc_table.proofs.split_eq.SplitEq.single_sums.Given as goal
 
 abbrev pub invariant-loop-a : goal.invariant-loop-a
 invariant-loop-a g l =
