@@ -1,5 +1,5 @@
 -- Tables with the variables of small-value rounds bound.
-use Rattle.std.proofs.Common.{◌≡◌, ℕ, ◌+◌, ◌*◌, ◌^◌, ◌<◌, List, [], ◌∷◌, ◌++◌, length, map, take, get_or, reverse, false, refl, sym, ◌∙◌, ap, subst, arith}
+use Rattle.std.proofs.Common.{◌≡◌, ℕ, ◌+◌, ◌*◌, ◌^◌, ◌<◌, List, [], ◌∷◌, ◌++◌, length, take, get_or, reverse, refl, sym, ◌∙◌, ap, subst, arith}
 use Rattle.std.proofs.lemmas.List.{append-nil}
 use Rattle.sc_definitions.specs.Ring.{Ops, IsRing, element, plus, times}
 use Rattle.sc_definitions.specs.Tables.{Order, prefix, suffix, evaluation, sum_below, entries, weight, value, digits, placed, point_of, bound_by}
@@ -16,9 +16,9 @@ use Rattle.sc_table.specs.declared.poly.Poly.{Poly}
 use Rattle.sc_table.specs.Polys.{variables_of, table_of}
 use Rattle.sc_svo.specs.declared.claims.SvoClaim.{SvoClaim}
 use Rattle.sc_svo.specs.Partials.{joined}
-use Rattle.sc_svo.specs.Claims.{scaled_in, claims_in, AddsBound}
+use Rattle.sc_svo.specs.Claims.{scaled_in, scaled_value, claims_in, AddsRows}
 use Rattle.sc_svo.specs.Bound.{IsBoundTable}
-use Rattle.sc_svo.proofs.BatchLaws.{combined-append, kind_weight, claims-next}
+use Rattle.sc_svo.proofs.BatchLaws.{combined-append, claims-next}
 
 module _ {EF : Type 0} (o : Ops) (ring : IsRing o) (number : EF → ℕ) (f w : ℕ → ℕ) (rows k : ℕ) (point rs : List ℕ) (p : Poly EF)
     (below : (b : ℕ) → f b < o.size) (many : k ≡ length rs) (size : rows ≡ 2 ^ (k + variables_of p)) (weights : (b : ℕ) → b < 2 ^ k → w b ≡ weight o point b) where
@@ -81,28 +81,31 @@ module _ {EF : Type 0} (o : Ops) (ring : IsRing o) (number : EF → ℕ) (order 
   unfolding placed_entry
   placed_entry_is g rs b low = placed_entry-bound_by o ring evaluation order g rs m b low
 
+  -- rows of zeros are those of no claims
   pub bound-none : (rs : List ℕ) (rows : List EF) → ((b : ℕ) → b < 2 ^ m → entries number rows b ≡ 0) → AreBound o number order m rs [] rows
   unfolding AreBound
   bound-none rs rows zeros b low = zeros b low ∙ sym (bound_by-combined_none o ring evaluation order rs m b)
 
-  pub bound-more : (rs : List ℕ) (claims : List (SvoClaim EF)) (i : ℕ) (c : SvoClaim EF) (old new : List EF) → i < length claims → c ≡ get_or claims i c → c.successor ≡ false →
-      AreBound o number order m rs (take i claims) old → AddsBound number o order c (point_of order rs) m old new → AreBound o number order m rs (take (i + 1) claims) new
+  -- with the weights of one claim more added, they are those of one claim more
+  pub bound-more : (rs : List ℕ) (claims : List (SvoClaim EF)) (i : ℕ) (c : SvoClaim EF) (old new : List EF) → i < length claims → c ≡ get_or claims i c →
+      length old ≡ 2 ^ m → AreBound o number order m rs (take i claims) old →
+      AddsRows number o (λ b. scaled_value o (scaled_in number c) (joined order (point_of order rs) (digits m b))) old new →
+      AreBound o number order m rs (take (i + 1) claims) new
   unfolding AreBound
-  bound-more rs claims i c old new low read kind so_far gains b small =
-      let zs = map number c.point in
+  bound-more rs claims i c old new low read size so_far gains b small =
+      let w = weight_of o (scaled_in number c).kind in
       let x = number c.coefficient in
       let cs = claims_in number (take i claims) in
       let v = combined_weight o cs in
       let at : (ℕ → ℕ) → ℕ = λ t. element o (bound_by evaluation order o rs m t b) in
-      let here : value o (weight o zs) (joined order (point_of order rs) (digits m b)) ≡ at (weight o zs) =
-      ap (value o (weight o zs)) (joined_point order rs (digits m b)) ∙ placed_entry_is (weight o zs) rs b small in
-      gains.rows b small
-      ∙ ap (λ t. plus o t (times o x (value o (weight o zs) (joined order (point_of order rs) (digits m b))))) (so_far b small)
+      let here : value o w (joined order (point_of order rs) (digits m b)) ≡ at w =
+      ap (value o w) (joined_point order rs (digits m b)) ∙ placed_entry_is w rs b small in
+      gains.rows b (subst (λ n. b < n) (sym size) small)
+      ∙ ap (λ t. plus o t (times o x (value o w (joined order (point_of order rs) (digits m b))))) (so_far b small)
       ∙ ap (λ t. plus o (at v) (times o x t)) here
-      ∙ plus_comm o ring (at v) (times o x (at (weight o zs)))
-      ∙ sym (bound_by-sum_element o ring evaluation order x (weight o zs) v rs m b)
-      ∙ ap at (sym (ap (combined_weight o) (claims-next number claims i c low read) ∙ combined-append o ring cs (scaled_in number c)
-      ∙ ap (λ t. (λ k. plus o (times o x (t k)) (v k))) (kind_weight number o c kind)))
+      ∙ plus_comm o ring (at v) (times o x (at w))
+      ∙ sym (bound_by-sum_element o ring evaluation order x w v rs m b)
+      ∙ ap at (sym (ap (combined_weight o) (claims-next number claims i c low read) ∙ combined-append o ring cs (scaled_in number c)))
 
   -- at the end, they are the table of all weights that the challenges leave
   pub bound-all : (rs : List ℕ) (cs : List (SvoClaim EF)) (rows : List EF) (p : Poly EF) → length rows ≡ 2 ^ m → length rows ≡ 2 ^ variables_of p →

@@ -1,7 +1,10 @@
 pub mod StagedLaws
 pub mod PartialTables
+pub mod NextTables
 pub mod SumLaws
+pub mod ProductLaws
 pub mod PointParts
+pub mod NextPointLaws
 pub mod ClaimLaws
 pub mod BatchLaws
 pub mod BoundLaws

@@ -14,7 +14,7 @@ use Rattle.sc_table.specs.declared.poly.Poly.{Poly}
 use Rattle.sc_table.specs.Polys.{variables_of, table_of, IsFixedOf}
 use Rattle.sc_svo.specs.declared.partials.EqPartials.{EqPartials}
 use Rattle.sc_svo.specs.declared.partials.EqSvoPartials.{EqSvoPartials}
-use Rattle.sc_svo.specs.Partials.{numbers_in, rounds_in, other_order, joined, IsPartial, LastOf, Leaves, Sums, sums_in, sums_of}
+use Rattle.sc_svo.specs.Partials.{numbers_in, rounds_in, other_order, joined, tables_in, IsPartial, LastOf, opened, Leaves, PartialSums, partial_sums_in, partial_sums_of}
 
 module _ {EF : Type 0} (o : Ops) (ring : IsRing o) (number : EF → ℕ) (f : ℕ → ℕ) (zs : List ℕ) where
   step : (order : Order) (kept rest others : List ℕ) (z : ℕ) → LastOf order kept z rest → zs ≡ joined order kept others → (a : ℕ) → a < 2 ^ length rest →
@@ -35,16 +35,16 @@ module _ {EF : Type 0} (o : Ops) (ring : IsRing o) (number : EF → ℕ) (f : �
       partial-step_suffix o ring f zs (length rest) z a (omega (arith, long)) at
       ∙ ap (λ n. bound_in evaluation prefix o (length rest) z (partial suffix o f zs n) a) (sym size)
 
-  others_more : (order : Order) → List ℕ → ℕ → List ℕ
+  pub others_more : (order : Order) → List ℕ → ℕ → List ℕ
   others_more prefix others z = z ∷ others
   others_more suffix others z = others ++ z ∷ []
 
-  whole_more : (order : Order) (kept rest others : List ℕ) (z : ℕ) → LastOf order kept z rest → zs ≡ joined order kept others → zs ≡ joined order rest (others_more order others z)
+  pub whole_more : (order : Order) (kept rest others : List ℕ) (z : ℕ) → LastOf order kept z rest → zs ≡ joined order kept others → zs ≡ joined order rest (others_more order others z)
   unfolding others_more
   whole_more prefix kept rest others z last whole = whole ∙ ap (λ t. t ++ others) last ∙ append_assoc rest (z ∷ []) others
   whole_more suffix kept rest others z last whole = whole ∙ ap (λ t. others ++ t) last ∙ sym (append_assoc others (z ∷ []) rest)
 
-  size_more : (order : Order) (kept rest : List ℕ) (z : ℕ) → LastOf order kept z rest → length kept ≡ suc (length rest)
+  pub size_more : (order : Order) (kept rest : List ℕ) (z : ℕ) → LastOf order kept z rest → length kept ≡ suc (length rest)
   size_more prefix kept rest z last = ap length last ∙ length-append rest (z ∷ []) ∙ omega arith
   size_more suffix kept rest z last = ap length last
 
@@ -78,7 +78,7 @@ module _ {EF : Type 0} (o : Ops) (ring : IsRing o) (number : EF → ℕ) (f : �
 
   -- no variable is kept: the one entry is the value
   pub leaves-none : (order : Order) (kept : List ℕ) (p : Poly EF) (rounds : List (EqPartials EF)) (x : EF) → kept ≡ [] → IsPartial order o number f zs kept p →
-      number x ≡ table_of number p 0 → Leaves order o number f zs (length kept) rounds rounds x
+      number x ≡ table_of number p 0 → Leaves o number (opened order f zs) (length kept) rounds rounds x
   leaves-none order kept p rounds x none is read =
       let size : length kept ≡ 0 = ap length none in
       record {
@@ -89,8 +89,8 @@ module _ {EF : Type 0} (o : Ops) (ring : IsRing o) (number : EF → ℕ) (f : �
 
   -- one table more stands behind those that keep fewer variables
   pub leaves-more : (order : Order) (kept rest : List ℕ) (z : ℕ) (p : EqPartials EF) (old less new : List (EqPartials EF)) (x : EF) → LastOf order kept z rest →
-      IsPartial order o number f zs kept p.table → Leaves order o number f zs (length rest) old less x → new ≡ less ++ p ∷ [] →
-      Leaves order o number f zs (length kept) old new x
+      IsPartial order o number f zs kept p.table → Leaves o number (opened order f zs) (length rest) old less x → new ≡ less ++ p ∷ [] →
+      Leaves o number (opened order f zs) (length kept) old new x
   leaves-more order kept rest z p old less new x last is before more =
       let size = size_more order kept rest z last in
       record {
@@ -133,27 +133,27 @@ slice-numbers number xs n f size is = entries-is n (map number xs) f (length-map
 
 -- a value and partial tables that stand behind none
 pub sums-are : {EF : Type 0} (order : Order) (o : Ops) (number : EF → ℕ) (f : ℕ → ℕ) (zs : List ℕ) (l m : ℕ) (none rounds : List (EqPartials EF)) (x : EF) (r : EF × EqSvoPartials EF) →
-    none ≡ [] → l ≡ m → Leaves order o number f zs l none rounds x → r.0 ≡ x → r.1.rounds.items ≡ rounds → sums_in number r ≡ sums_of order o f zs m
-unfolding sums_of
+    none ≡ [] → l ≡ m → Leaves o number (opened order f zs) l none rounds x → r.0 ≡ x → tables_in r.1 ≡ rounds → partial_sums_in number r ≡ partial_sums_of order o f zs m
+unfolding partial_sums_of
 sums-are order o number f zs l m none rounds x r empty same is value_is rounds_are =
-    ap (λ y. record { value = y; rounds = rounds_in number r.1.rounds.items }) (ap number value_is ∙ is.sum)
+    ap (λ y. record { value = y; rounds = rounds_in number (tables_in r.1) }) (ap number value_is ∙ is.sum)
     ∙ ap (λ ys. record { value = value o f zs; rounds = ys }) (ap (rounds_in number) rounds_are ∙ is.rounds
     ∙ ap (λ t. rounds_in number t ++ partials_of order o f zs l) empty ∙ ap (partials_of order o f zs) same)
 
 -- as many partial tables as rounds, each that of its round
-module _ {EF : Type 0} (order : Order) (o : Ops) (number : EF → ℕ) (f : ℕ → ℕ) (zs : List ℕ) (l : ℕ) (r : EF × EqSvoPartials EF) (is : sums_in number r ≡ sums_of order o f zs l) where
-  rounds_are : rounds_in number r.1.rounds.items ≡ partials_of order o f zs l
-  unfolding sums_of
-  rounds_are = ap (λ (s : Sums). s.rounds) is
+module _ {EF : Type 0} (order : Order) (o : Ops) (number : EF → ℕ) (f : ℕ → ℕ) (zs : List ℕ) (l : ℕ) (r : EF × EqSvoPartials EF) (is : partial_sums_in number r ≡ partial_sums_of order o f zs l) where
+  rounds_are : rounds_in number (tables_in r.1) ≡ partials_of order o f zs l
+  unfolding partial_sums_of
+  rounds_are = ap (λ (s : PartialSums). s.rounds) is
 
-  pub count-rounds : length r.1.rounds.items ≡ l
-  count-rounds = sym (length-map r.1.rounds.items (numbers_in number)) ∙ ap length rounds_are ∙ length-partials_of order o f zs l
+  pub count-rounds : length (tables_in r.1) ≡ l
+  count-rounds = sym (length-map (tables_in r.1) (numbers_in number)) ∙ ap length rounds_are ∙ length-partials_of order o f zs l
 
-  pub round-table : (j : ℕ) (q : EqPartials EF) → j < l → q ≡ get_or r.1.rounds.items j q → numbers_in number q ≡ entries_of (suc j) (partial order o f zs (suc j))
+  pub round-table : (j : ℕ) (q : EqPartials EF) → j < l → q ≡ get_or (tables_in r.1) j q → numbers_in number q ≡ entries_of (suc j) (partial order o f zs (suc j))
   round-table j q low read =
       let d = numbers_in number q in
       ap (numbers_in number) read
-      ∙ sym (get_or-map (numbers_in number) r.1.rounds.items j q d (subst (λ n. j < n) (sym count-rounds) low))
+      ∙ sym (get_or-map (numbers_in number) (tables_in r.1) j q d (subst (λ n. j < n) (sym count-rounds) low))
       ∙ ap (λ t. get_or t j d) rounds_are
       ∙ partials_of-at order o f zs l j d low
 
@@ -164,3 +164,8 @@ entries-of_numbers number xs n f b is low = ap (λ t. rows_of t b) is ∙ rows-e
 
 pub length-numbers : {X : Type 0} (number : X → ℕ) (xs : List X) (n : ℕ) (f : ℕ → ℕ) → map number xs ≡ entries_of n f → length xs ≡ 2 ^ n
 length-numbers number xs n f is = sym (length-map xs number) ∙ ap length is ∙ length-entries_of n f
+
+-- one more variable is kept than there are others
+pub size_kept : {X : Type 0} (order : Order) (kept : List X) (z : X) (rest : List X) → LastOf order kept z rest → length kept ≡ suc (length rest)
+size_kept prefix kept z rest last = let size = ap length last ∙ length-append rest (z ∷ []) in omega (arith, size)
+size_kept suffix kept z rest last = ap length last

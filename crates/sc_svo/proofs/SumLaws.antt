@@ -5,7 +5,7 @@ use Rattle.sc_definitions.specs.Ring.{Ops, IsRing, plus, times, minus}
 use Rattle.sc_definitions.specs.Tables.{Order, prefix, suffix, entries, rows_of, inner, sum_below}
 use Rattle.sc_definitions.specs.Grids.{Digit, nought, infinity, ternary, low_row, high_row, grid_value, grid_entry, grid_of, grids_of}
 use Rattle.sc_definitions.proofs.RingLaws.{plus_comm, plus-zero, element-times}
-use Rattle.sc_definitions.proofs.GridLaws.{grid_value-append_nought, grid_value-append_infinity, grid_entry-zero, grid-is, grids_of-none, grids_of-more}
+use Rattle.sc_definitions.proofs.GridLaws.{grid_value-append_nought, grid_value-append_infinity, grid_entry-zero, rows-grid_list, grid-is, grids_of-none, grids_of-more}
 use Rattle.sc_table.proofs.EntryLaws.{entry-take, entry-drop}
 use Rattle.sc_svo.specs.declared.sums.Sums.{Sums}
 use Rattle.sc_svo.specs.Staged.{IsStaged}
@@ -108,7 +108,7 @@ module _ {EF : Type 0} (number : EF → ℕ) (o : Ops) (ring : IsRing o) where
       ((k : ℕ) → k < 3 ^ j → entries number new.zero.items k ≡ plus o (entries number old.zero.items k) (times o (entries number x0 k) (entries number y0 k))) →
       ((k : ℕ) → k < 3 ^ j → entries number new.infinity.items k
       ≡ plus o (entries number old.infinity.items k) (times o (minus o (entries number x1 k) (entries number x0 k)) (minus o (entries number y1 k) (entries number y0 k)))) →
-      AddsGrid number o order f w j old new
+      AddsGrid number o j (grid_of order o f w j 0) old new
   grid-added order f w j old new xs ys x0 x1 y0 y1 size fs ws x0_is x1_is y0_is y1_is zero_size infinity_size zeros infinities =
       let front : (ts part : List EF) → part ≡ take (3 ^ j) ts → (k : ℕ) → k < 3 ^ j → entries number part k ≡ entries number ts k =
       λ ts part is k low. ap (λ t. entries number t k) is ∙ entry-take number ts (3 ^ j) k low in
@@ -119,11 +119,11 @@ module _ {EF : Type 0} (number : EF → ℕ) (o : Ops) (ring : IsRing o) where
         zero = λ k low. zeros k low
             ∙ ap (λ x. plus o (entries number old.zero.items k) (times o x (entries number y0 k))) (front xs x0 x0_is k low)
             ∙ ap (λ y. plus o (entries number old.zero.items k) (times o (entries number xs k) y)) (front ys y0 y0_is k low)
-            ∙ ap (plus o (entries number old.zero.items k)) (zero-product order f w j k xs ys fs ws low);
+            ∙ ap (plus o (entries number old.zero.items k)) (zero-product order f w j k xs ys fs ws low ∙ sym (rows-grid_list order o f w nought j 0 k low));
         infinity = λ k low. infinities k low
             ∙ ap (λ x. plus o (entries number old.infinity.items k) (times o x (minus o (entries number y1 k) (entries number y0 k))))
             (ap (λ t. minus o t (entries number x0 k)) (back xs x1 x1_is k) ∙ ap (minus o (entries number xs (3 ^ j + k))) (front xs x0 x0_is k low))
             ∙ ap (λ y. plus o (entries number old.infinity.items k) (times o (minus o (entries number xs (3 ^ j + k)) (entries number xs k)) y))
             (ap (λ t. minus o t (entries number y0 k)) (back ys y1 y1_is k) ∙ ap (minus o (entries number ys (3 ^ j + k))) (front ys y0 y0_is k low))
-            ∙ ap (plus o (entries number old.infinity.items k)) (infinity-product order f w j k xs ys fs ws low);
+            ∙ ap (plus o (entries number old.infinity.items k)) (infinity-product order f w j k xs ys fs ws low ∙ sym (rows-grid_list order o f w infinity j 0 k low));
       }

@@ -36,6 +36,14 @@ module _ {F EF : Type 0} {f : FieldOf F} {p : PartialEqOf F} {x : ExtensionOf EF
 abbrev pub IsTableOf : Ops → Batch → (ℕ → ℕ) → Type 0
 IsTableOf o s f = s.grids ≡ grids_of s.order o s.variables f (combined_weight o s.claims) (length s.grids)
 
+-- A batch was made on a table of so many rows, of these claims, and has the grids of l rounds, which are the table's.
+pub record IsMadeOn (o : Ops) (order : Order) (f : ℕ → ℕ) (rows : ℕ) (cs : List Scaled) (l : ℕ) (s : Batch) : Type 0 where
+  pub order_is : s.order ≡ order
+  pub variables : rows ≡ 2 ^ s.variables
+  pub claims : s.claims ≡ cs
+  pub rounds : length s.grids ≡ l
+  pub grids : IsTableOf o s f
+
 -- what an honest round sends after these challenges, of a table and the weights of the claims
 abbrev pub honest_of : Ops → Batch → (ℕ → ℕ) → List ℕ → List ℕ
 honest_of o s f rs = honest_pair evaluation s.order o f (combined_weight o s.claims) rs (s.variables - suc (length rs))

@@ -19,3 +19,7 @@ pub record IsSized {EF : Type 0} (j : ℕ) (g : Grid EF) : Type 0 where
 -- each of them has, the first of no variable
 abbrev pub AreSized : {EF : Type 0} → Grids EF → Type 0
 AreSized g = (j : ℕ) (d : Grid _) → j < length g.rounds → IsSized j (get_or g.rounds j d)
+
+-- the greatest number of rounds that are built from grids
+abbrev pub most_rounds : ℕ
+most_rounds = 12

@@ -1,9 +1,11 @@
 -- What clauses see of the sums that grids are made of.
-use Rattle.std.specs.Prelude.{◌≡◌, ℕ, ◌^◌, ◌<◌, ◌++◌, List, [], ◌∷◌, length, map, get_or}
+use Rattle.std.specs.Prelude.{◌≡◌, ℕ, suc, ◌-◌, ◌^◌, ◌<◌, List, length, map, get_or}
 use Rattle.sc_definitions.specs.Ring.{Ops, ◌+⟨◌⟩◌}
-use Rattle.sc_definitions.specs.Tables.{Order, entries}
-use Rattle.sc_definitions.specs.Grids.{nought, infinity, ternary, grid_entry}
+use Rattle.sc_definitions.specs.Tables.{entries, rows_of}
+use Rattle.sc_definitions.specs.Grids.{grid_of}
+use Rattle.sc_definitions.specs.Parts.{Part, Carry, Done, Omega}
 use Rattle.sc_svo.specs.declared.sums.Sums.{Sums}
+use Rattle.sc_svo.specs.Partials.{Opening}
 
 -- the two lists of a grid
 abbrev pub sum_shown : {EF : Type 0} → (EF → ℕ) → Sums EF → List ℕ × List ℕ
@@ -21,10 +23,22 @@ pub record IsSumSized {EF : Type 0} (j : ℕ) (s : Sums EF) : Type 0 where
 abbrev pub AreSumsSized : {EF : Type 0} → List (Sums EF) → Type 0
 AreSumsSized {EF} sums = (j : ℕ) (d : Sums EF) → j < length sums → IsSumSized j (get_or sums j d)
 
--- Each value of a grid has gained the product of two tables' values at the digits of its place.
-pub record AddsGrid {EF : Type 0} (number : EF → ℕ) (o : Ops) (order : Order) (f w : ℕ → ℕ) (j : ℕ) (old new : Sums EF) : Type 0 where
+-- Each value of a grid has gained the one at its place of another grid.
+pub record AddsGrid {EF : Type 0} (number : EF → ℕ) (o : Ops) (j : ℕ) (grid : List ℕ × List ℕ) (old new : Sums EF) : Type 0 where
   pub sized : IsSumSized j new
-  pub zero : (k : ℕ) → k < 3 ^ j →
-      entries number new.zero.items k ≡ entries number old.zero.items k +⟨ o ⟩ grid_entry order o f w (ternary j k ++ nought ∷ []) 0
-  pub infinity : (k : ℕ) → k < 3 ^ j →
-      entries number new.infinity.items k ≡ entries number old.infinity.items k +⟨ o ⟩ grid_entry order o f w (ternary j k ++ infinity ∷ []) 0
+  pub zero : (k : ℕ) → k < 3 ^ j → entries number new.zero.items k ≡ entries number old.zero.items k +⟨ o ⟩ rows_of grid.0 k
+  pub infinity : (k : ℕ) → k < 3 ^ j → entries number new.infinity.items k ≡ entries number old.infinity.items k +⟨ o ⟩ rows_of grid.1 k
+
+-- Each value of a grid has gained those at its place of the grids of three parts.
+pub record AddsParts {EF : Type 0} (number : EF → ℕ) (o : Ops) (j : ℕ) (grid : Part → List ℕ × List ℕ) (old new : Sums EF) : Type 0 where
+  pub sized : IsSumSized j new
+  pub zero : (k : ℕ) → k < 3 ^ j → entries number new.zero.items k
+      ≡ entries number old.zero.items k +⟨ o ⟩ (rows_of (grid Done).0 k +⟨ o ⟩ rows_of (grid Carry).0 k +⟨ o ⟩ rows_of (grid Omega).0 k)
+  pub infinity : (k : ℕ) → k < 3 ^ j → entries number new.infinity.items k
+      ≡ entries number old.infinity.items k +⟨ o ⟩ (rows_of (grid Done).1 k +⟨ o ⟩ rows_of (grid Carry).1 k +⟨ o ⟩ rows_of (grid Omega).1 k)
+
+-- The grids of weights were added: to each round's sums, its grid of the table that is opened and of the weights.
+pub record AddsWeights {EF : Type 0} (number : EF → ℕ) (o : Ops) (g : Opening) (w : ℕ → ℕ) (old new : List (Sums EF)) : Type 0 where
+  pub same : length new ≡ length old
+  pub added : (j : ℕ) (d : Sums EF) → j < length old →
+      AddsGrid number o j (grid_of g.order o g.table w j (length g.point - suc j)) (get_or old j d) (get_or new j d)

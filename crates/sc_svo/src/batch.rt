@@ -1,12 +1,12 @@
 //! Claims on one table, and the small-value rounds of all of them.
 
-ghost use Rattle.std.specs.Prelude.{◌≡◌, ℕ, ◌+◌, ◌^◌, ◌<◌, ◌≤◌, [], ◌∷◌, All, List, length, map, IfOk};
+ghost use Rattle.std.specs.Prelude.{◌≡◌, ℕ, ◌+◌, ◌^◌, ◌<◌, ◌≤◌, [], ◌∷◌, List, length, map, get_or, IfOk};
 ghost use Rattle.sc_definitions.specs.Tables.{entries, point_of};
-ghost use Rattle.sc_definitions.specs.Grids.{grids_of};
+ghost use Rattle.sc_definitions.specs.Grids.{grids_of, read_message};
 ghost use Rattle.sc_definitions.specs.Combined.{combined_weight};
 ghost use Rattle.sc_table.specs.Strategy.{order_of};
-ghost use Rattle.sc_svo.specs.Claims.{IsEquality, FitsTable, claims_in};
-ghost use Rattle.sc_svo.specs.Grids.{AreSized, grids_shown};
+ghost use Rattle.sc_svo.specs.Claims.{AreOn, FitsTable, claims_in, true_values_of};
+ghost use Rattle.sc_svo.specs.Grids.{AreSized, most_rounds, grids_shown};
 ghost use Rattle.sc_svo.specs.Sums.{sums_shown};
 ghost use Rattle.sc_svo.specs.Bound.{IsBoundTable};
 
@@ -20,6 +20,10 @@ use sc_table::{
 use std::alloc::Global;
 use std::marker::PhantomData;
 
+/// The greatest number of rounds that are built from grids. The last of so many has 3^11 = 177,147
+/// places in each of its two lists, and each round more would have three times as many.
+pub const MOST_ROUNDS: usize = 12;
+
 /// Claims on one table, and the grids of the rounds that are built from its small values. It keeps
 /// no table.
 #[derive(Drop)]
@@ -31,19 +35,20 @@ pub struct SvoBatch<F: Field, EF: ExtensionField<F>> {
     base: PhantomData<F>,
     ghost few: { variables ≤ 40 },
     ghost within: { length grids.rounds ≤ variables },
-    ghost claims_fit: { All (IsEquality variables) claims.items },
+    ghost on: { AreOn variables claims.items },
     ghost sized: { AreSized grids },
 }
 
 impl<F: Field, EF: ExtensionField<F>> SvoBatch<F, EF> {
-    ghost use Rattle.sc_svo.specs.Batches.{batch_in, IsTableOf, IsBoundBy, honest_of};
+    ghost use Rattle.sc_svo.specs.Batches.{batch_in, IsMadeOn, IsTableOf, IsBoundBy, honest_of};
 
-    /// The batch of these claims on a table, with the grids of `l0` rounds: at least one, at most 12,
-    /// and at most as many as there are variables, of which there are at most 40. No claim is on a
-    /// value through the successor map yet.
+    /// The batch of these claims on a table, with the grids of `l0` rounds: at least one, at most
+    /// [`MOST_ROUNDS`], and at most as many as there are variables, of which there are at most 40.
     ///
-    /// It takes one pass over the table for each claim. `NoMemory` comes where there is none for the
-    /// grids, for copies of the claims, or for what is summed on the way.
+    /// It takes one pass over the table for each claim on a value at a point, and two for each one
+    /// through the successor map in suffix order. `NoMemory` comes where there is none for the grids,
+    /// for copies of the claims, or for what is summed on the way. The table is lent as a slice, since
+    /// it is a caller's own and is never copied.
     pub fn new(
         alloc: Global,
         order: VariableOrder,
@@ -52,26 +57,45 @@ impl<F: Field, EF: ExtensionField<F>> SvoBatch<F, EF> {
         l0: usize,
     ) -> Result<Self, NoMemory>
         requires some { 0 < l0 }
-        requires few { l0 ≤ 12 }
+        requires few { l0 ≤ most_rounds }
         requires fits { FitsTable (length table.now) l0 claims.now }
-        ensures order { IfOk result (λ s. (batch_in s).order ≡ order_of order) }
-        ensures variables { IfOk result (λ s. length table.now ≡ 2 ^ (batch_in s).variables) }
-        ensures claims { IfOk result (λ s. (batch_in s).claims ≡ claims_in EF.number claims.now) }
-        ensures rounds { IfOk result (λ s. length (batch_in s).grids ≡ l0) }
-
-        // The grids are those of the table.
-        ensures grids { IfOk result (λ s. IsTableOf EF.ops (batch_in s)
-            (λ b. EF.embedding (entries F.number table.now b))) }
+        ensures { IfOk result (λ s. IsMadeOn EF.ops (order_of order)
+            (λ b. EF.embedding (entries F.number table.now b)) (length table.now)
+            (claims_in EF.number claims.now) l0 (batch_in s)) }
     {
-        let sums = gathered::<F, EF>(alloc, order, table, claims, l0)?;
+        let (batch, _values) = Self::with_values(alloc, order, table, claims, l0)?;
+        Ok(batch)
+    }
+
+    /// The same batch, and beside it the values that the claims are on, in their order, which are
+    /// found on the way to the grids.
+    pub fn with_values(
+        alloc: Global,
+        order: VariableOrder,
+        table: &[F],
+        claims: &[SvoClaim<EF>],
+        l0: usize,
+    ) -> Result<(Self, Vec<EF>), NoMemory>
+        requires some { 0 < l0 }
+        requires few { l0 ≤ most_rounds }
+        requires fits { FitsTable (length table.now) l0 claims.now }
+        ensures batch { IfOk result (λ r. IsMadeOn EF.ops (order_of order)
+            (λ b. EF.embedding (entries F.number table.now b)) (length table.now)
+            (claims_in EF.number claims.now) l0 (batch_in r.0)) }
+        ensures values { IfOk result (λ r. map EF.number r.1.items
+            ≡ true_values_of EF.ops (batch_in r.0).variables
+            (λ b. EF.embedding (entries F.number table.now b)) (claims_in EF.number claims.now)) }
+    {
+        let (sums, values) = gathered::<F, EF>(alloc, order, table, claims, l0)?;
         let claims = copied(alloc, claims)?;
-        Ok(SvoBatch {
+        let batch = SvoBatch {
             order,
             variables: table.len().trailing_zeros() as usize,
             claims,
             grids: into_grids(alloc, sums)?,
             base: PhantomData,
-        })
+        };
+        Ok((batch, values))
     }
 
     /// The grids, one a round.
@@ -97,12 +121,15 @@ impl<F: Field, EF: ExtensionField<F>> SvoBatch<F, EF> {
 
     /// What the round after these challenges sends, of which there are fewer than small-value rounds:
     /// read off its grid, it is what an honest round sends of every table that has these grids with
-    /// the claims.
+    /// the claims. `NoMemory` comes where there is none for the weights of the grid's places.
     pub fn round_coefficients(&self, alloc: Global, rs: &[EF]) -> Result<RoundMessage<EF>, NoMemory>
         requires { length rs.now < length (batch_in self.now).grids }
-        ensures { IfOk result (λ m. (f : ℕ → ℕ) → IsTableOf EF.ops (batch_in self.now) f →
+        ensures honest { IfOk result (λ m. (f : ℕ → ℕ) → IsTableOf EF.ops (batch_in self.now) f →
             EF.number m.c_a ∷ EF.number m.c_inf ∷ []
             ≡ honest_of EF.ops (batch_in self.now) f (map EF.number rs.now)) }
+        ensures read { IfOk result (λ m. (d : List ℕ × List ℕ) →
+            EF.number m.c_a ∷ EF.number m.c_inf ∷ [] ≡ read_message EF.ops
+            (get_or (batch_in self.now).grids (length rs.now) d) (map EF.number rs.now)) }
     {
         let weights = lagrange_weights_01inf_multi(alloc, rs)?;
         let grid = &self.grids.rounds.as_slice()[rs.len()];
@@ -114,7 +141,8 @@ impl<F: Field, EF: ExtensionField<F>> SvoBatch<F, EF> {
 
     /// What the small-value rounds leave: the given table, of as many rows as the batch's had, and
     /// the weights of all claims, both with the variables of these rounds bound at their challenges,
-    /// of which there is one for each round, in drawing order.
+    /// of which there is one for each round, in drawing order. `NoMemory` comes where there is none
+    /// for the two tables, or for what is summed on the way.
     pub fn residual(
         &self,
         alloc: Global,
@@ -151,32 +179,36 @@ impl<F: Field, EF: ExtensionField<F>> SvoBatch<F, EF> {
     }
 }
 
-// The grids of a table with the weights of all claims, as sums.
+// The grids of a table with the weights of all claims, as sums, and the values that the claims are
+// on.
 fn gathered<F: Field, EF: ExtensionField<F>>(
     alloc: Global,
     order: VariableOrder,
     table: &[F],
     claims: &[SvoClaim<EF>],
     l0: usize,
-) -> Result<Vec<Sums<EF>>, NoMemory>
-    requires few { l0 ≤ 12 }
+) -> Result<(Vec<Sums<EF>>, Vec<EF>), NoMemory>
+    requires few { l0 ≤ most_rounds }
     requires fits { FitsTable (length table.now) l0 claims.now }
-    ensures { (n : ℕ) → length table.now ≡ 2 ^ n → IfOk result (λ v. sums_shown EF.number v.items
+    ensures grids { (n : ℕ) → length table.now ≡ 2 ^ n → IfOk result (λ r. sums_shown EF.number r.0.items
         ≡ grids_of (order_of order) EF.ops n (entries (λ x. EF.embedding (F.number x)) table.now)
         (combined_weight EF.ops (claims_in EF.number claims.now)) l0) }
+    ensures values { (n : ℕ) → length table.now ≡ 2 ^ n → IfOk result (λ r. map EF.number r.1.items
+        ≡ true_values_of EF.ops n (entries (λ x. EF.embedding (F.number x)) table.now)
+        (claims_in EF.number claims.now)) }
 {
     let mut sums = empty_sums(alloc, l0)?;
+    let mut values = with_room(alloc, claims.len())?;
     for claim in claims {
-        add_claim::<F, EF>(alloc, order, table, claim, &mut sums)?;
+        values.push(add_claim::<F, EF>(alloc, order, table, claim, &mut sums)?)?;
     }
-    Ok(sums)
+    Ok((sums, values))
 }
 
 // Copies of these claims.
 fn copied<EF: Field>(alloc: Global, claims: &[SvoClaim<EF>]) -> Result<Vec<SvoClaim<EF>>, NoMemory>
     ensures same { IfOk result (λ v. claims_in EF.number v.items ≡ claims_in EF.number claims.now) }
-    ensures fit { (n : ℕ) → All (IsEquality n) claims.now →
-        IfOk result (λ v. All (IsEquality n) v.items) }
+    ensures on { (n : ℕ) → AreOn n claims.now → IfOk result (λ v. AreOn n v.items) }
 {
     let mut copies = with_room(alloc, claims.len())?;
     for claim in claims {

@@ -1,19 +1,25 @@
-//! Small-value rounds: the first rounds of a build, whose messages are read off grids. A grid has sums over the table of small
-//! values as it is, at the digits 0, 1 and infinity of the variables that were bound before.
+//! Small-value rounds: the first rounds of a build, whose messages are read off grids. A grid has
+//! sums over the table of small values as it is, at the digits 0, 1 and infinity of the variables
+//! that were bound before.
 //!
-//! Each claim costs one pass over the table; no table of the extension is made before the grids are read off.
+//! Each claim costs one pass over the table, or two. Of the extension nothing as long as the table
+//! is made before the grids are read off.
 #![tactic(auto)]
 
 mod batch;
 mod claims;
 mod grid;
+mod next_partials;
+mod next_point;
 mod partials;
 mod point;
+mod products;
 mod staged;
 mod sums;
 
-pub use batch::SvoBatch;
+pub use batch::{MOST_ROUNDS, SvoBatch};
 pub use claims::SvoClaim;
 pub use grid::{Grid, Grids};
+pub use next_partials::{NextPartials, NextSvoPartials};
 pub use partials::{EqPartials, EqSvoPartials};
 pub use point::SvoPoint;

@@ -4,7 +4,8 @@ ghost use Rattle.std.specs.Prelude.{◌≡◌, ℕ, ◌^◌, ◌<◌, ◌≤◌,
 ghost use Rattle.sc_definitions.specs.Tables.{rows_of};
 ghost use Rattle.sc_table.specs.Polys.{IsFixedOf, variables_of, table_of};
 ghost use Rattle.sc_table.specs.Strategy.{order_of};
-ghost use Rattle.sc_svo.specs.Partials.{numbers_in, other_order, LastOf, IsPartial, Leaves};
+ghost use Rattle.sc_svo.specs.Partials.{numbers_in, tables_in, other_order, LastOf, opened};
+ghost use Rattle.sc_svo.specs.Partials.{IsPartial, Leaves};
 
 use sc_field::{Field, NoMemory};
 use sc_table::{Poly, VariableOrder, fix_prefix_var_slice, fix_suffix_var_slice};
@@ -48,7 +49,7 @@ pub struct EqSvoPartials<EF> {
 impl<EF> EqSvoPartials<EF> {
     /// One table a round.
     pub fn rounds(&self) -> &[EqPartials<EF>]
-        ensures { result.now ≡ self.now.rounds.items }
+        ensures { result.now ≡ tables_in self.now }
     {
         &self.rounds
     }
@@ -73,7 +74,7 @@ pub(crate) fn push_partials<EF: Field>(
     requires { variables_of table ≡ length kept.now }
     ensures { (f : ℕ → ℕ) (zs : List ℕ) →
         IsPartial (order_of order) EF.ops EF.number f zs (map EF.number kept.now) table
-        → IfOk result (Leaves (order_of order) EF.ops EF.number f zs (length kept.now)
+        → IfOk result (Leaves EF.ops EF.number (opened (order_of order) f zs) (length kept.now)
         rounds.old.items rounds.new.items) }
 {
     if kept.is_empty() {
@@ -88,7 +89,7 @@ pub(crate) fn push_partials<EF: Field>(
 
 // Of the coordinates of the variables that are kept, one or more, that of the one which is bound
 // last, and the others.
-fn last_kept<EF: Copy>(order: VariableOrder, kept: &[EF]) -> (EF, &[EF])
+pub(crate) fn last_kept<EF: Copy>(order: VariableOrder, kept: &[EF]) -> (EF, &[EF])
     requires { 0 < length kept.now }
     ensures { LastOf (order_of order) kept.now result.0 result.1.now }
 {
@@ -103,7 +104,7 @@ fn last_kept<EF: Copy>(order: VariableOrder, kept: &[EF]) -> (EF, &[EF])
 
 // A table summed over the variable that is bound last, under the equality weights of a coordinate:
 // it is bound there.
-fn sum_over<EF: Field>(
+pub(crate) fn sum_over<EF: Field>(
     alloc: Global,
     order: VariableOrder,
     table: &Poly<EF>,

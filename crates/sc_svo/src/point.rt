@@ -18,10 +18,10 @@ use std::alloc::Global;
 /// equality weights stand as those of two halves.
 #[derive(Drop)]
 pub struct SvoPoint<F: Field, EF: ExtensionField<F>> {
-    order: VariableOrder,
-    near: Point<EF>,
-    far: Point<EF>,
-    split: SplitEq<F, EF>,
+    pub(crate) order: VariableOrder,
+    pub(crate) near: Point<EF>,
+    pub(crate) far: Point<EF>,
+    pub(crate) split: SplitEq<F, EF>,
     ghost few: { length near + length far ≤ 40 },
     ghost sized: { split_variables split ≡ length far },
     ghost weighs: { (b : ℕ) → b < 2 ^ length far →
@@ -30,7 +30,7 @@ pub struct SvoPoint<F: Field, EF: ExtensionField<F>> {
 
 impl<F: Field, EF: ExtensionField<F>> SvoPoint<F, EF> {
     ghost use Rattle.sc_svo.specs.Points.{point_in, near_in, far_in, order_in};
-    ghost use Rattle.sc_svo.specs.Partials.{IsPartial, sums_in, sums_of};
+    ghost use Rattle.sc_svo.specs.Partials.{IsPartial, partial_sums_in, partial_sums_of};
 
     /// The point, with as many coordinates for the small-value rounds as `l0` says, at most all of
     /// them, which are at most 40; `NoMemory` where there is none for a copy and for the weights.
@@ -95,7 +95,8 @@ impl<F: Field, EF: ExtensionField<F>> SvoPoint<F, EF> {
     }
 
     /// Adds `scale` times the equality weights of the whole point, with the variables of the
-    /// small-value rounds bound at `rs`, which stand in the order of the point's coordinates.
+    /// small-value rounds bound at `rs`, which stand in the order of the point's coordinates. `rs` has
+    /// a coordinate for each of them, and `out` a row for each choice of the others.
     pub fn accumulate_into(&self, out: &mut [EF], rs: &Point<EF>, scale: EF)
         requires size { length out.old ≡ 2 ^ length (far_in self.now) }
         requires bound { length rs.now ≡ length (near_in self.now) }
@@ -108,11 +109,12 @@ impl<F: Field, EF: ExtensionField<F>> SvoPoint<F, EF> {
     }
 
     /// The value of a table at the point, and its partial tables for each small-value round. The
-    /// table has as many variables as the point.
+    /// table has as many variables as the point. `NoMemory` comes where there is none for the partial
+    /// tables.
     pub fn eval(&self, alloc: Global, poly: &Poly<F>) -> Result<(EF, EqSvoPartials<EF>), NoMemory>
         requires { variables_of poly.now ≡ length (point_in self.now) }
-        ensures { IfOk result (λ r. sums_in EF.number r
-            ≡ sums_of (order_in self.now) EF.ops (λ b. EF.embedding (table_of F.number poly.now b))
+        ensures { IfOk result (λ r. partial_sums_in EF.number r
+            ≡ partial_sums_of (order_in self.now) EF.ops (λ b. EF.embedding (table_of F.number poly.now b))
             (point_in self.now) (length (near_in self.now))) }
     {
         self.eval_slice(alloc, poly.as_slice())
@@ -121,8 +123,8 @@ impl<F: Field, EF: ExtensionField<F>> SvoPoint<F, EF> {
     /// The same of the table that a slice holds.
     pub fn eval_slice(&self, alloc: Global, rows: &[F]) -> Result<(EF, EqSvoPartials<EF>), NoMemory>
         requires { length rows.now ≡ 2 ^ length (point_in self.now) }
-        ensures { IfOk result (λ r. sums_in EF.number r
-            ≡ sums_of (order_in self.now) EF.ops (entries (λ x. EF.embedding (F.number x)) rows.now)
+        ensures { IfOk result (λ r. partial_sums_in EF.number r
+            ≡ partial_sums_of (order_in self.now) EF.ops (entries (λ x. EF.embedding (F.number x)) rows.now)
             (point_in self.now) (length (near_in self.now))) }
     {
         let table = self.compress(alloc, rows)?;
@@ -132,7 +134,7 @@ impl<F: Field, EF: ExtensionField<F>> SvoPoint<F, EF> {
     }
 
     // The table summed over the variables that no small-value round binds.
-    fn compress(&self, alloc: Global, rows: &[F]) -> Result<Poly<EF>, NoMemory>
+    pub(crate) fn compress(&self, alloc: Global, rows: &[F]) -> Result<Poly<EF>, NoMemory>
         requires { length rows.now ≡ 2 ^ length (point_in self.now) }
         ensures { IfOk result (IsPartial (order_in self.now) EF.ops EF.number
             (entries (λ x. EF.embedding (F.number x)) rows.now) (point_in self.now) (near_in self.now)) }

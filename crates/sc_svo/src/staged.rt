@@ -60,9 +60,9 @@ fn with_digit<EF: Field>(
 
 // The two rows of a table that make a row where the variable that comes next is bound: with it at 0
 // and at 1. So many rows are left.
-fn pair_of(order: VariableOrder, row: usize, rows: usize) -> (usize, usize)
+pub(crate) fn pair_of(order: VariableOrder, row: usize, rows: usize) -> (usize, usize)
     requires low { row < rows }
-    requires few { rows < 2 ^ 60 }
+    requires few { rows < 2 ^ 62 }
     ensures low { result.0 ≡ low_row (order_of order) row }
     ensures high { (m : ℕ) → rows ≡ 2 ^ m → result.1 ≡ high_row (order_of order) m row }
     ensures within { result.0 < result.1 }

@@ -3,12 +3,13 @@
 ghost use Rattle.std.specs.Prelude.{◌≡◌, ℕ, suc, ◌-◌, ◌^◌, ◌<◌, ◌≤◌, length, IfOk, OnOk};
 ghost use Rattle.sc_definitions.specs.Ring.{◌+⟨◌⟩◌, ◌-⟨◌⟩◌, ◌*⟨◌⟩◌};
 ghost use Rattle.sc_definitions.specs.Tables.{Order, entries};
-ghost use Rattle.sc_definitions.specs.Grids.{grids_of};
+ghost use Rattle.sc_definitions.specs.Grids.{grid_of, grids_of};
 ghost use Rattle.sc_table.specs.Strategy.{order_of};
 ghost use Rattle.sc_svo.specs.Grids.{grids_shown};
 ghost use Rattle.sc_svo.specs.Sums.{IsSumSized, AddsGrid, sums_shown};
 
 use crate::grid::{Grid, Grids};
+use crate::products::{add_of_one, add_of_three, add_of_two};
 use crate::staged::staged;
 use sc_field::{Field, NoMemory, with_room};
 use sc_memory::Row;
@@ -50,8 +51,7 @@ fn zeros<EF: Field>(alloc: Global, places: usize) -> Result<Sums<EF>, NoMemory>
     Ok(Sums { zero, infinity })
 }
 
-// Adds, at each place of a grid, the product of the values of a table and of weights at its digits;
-// `before` variables come before the grid's own.
+// Adds the grid of a table and of weights, of one variable more than come before the grid's own.
 pub(crate) fn add_products<EF: Field>(
     alloc: Global,
     order: VariableOrder,
@@ -64,8 +64,33 @@ pub(crate) fn add_products<EF: Field>(
     requires table { length table.now ≡ 2 ^ suc before }
     requires weights { length weights.now ≡ 2 ^ suc before }
     requires sums { IsSumSized before sums.old }
-    ensures { OnOk result (AddsGrid EF.number EF.ops (order_of order) (entries EF.number table.now)
-        (entries EF.number weights.now) before sums.old sums.new) }
+    ensures { OnOk result (AddsGrid EF.number EF.ops before (grid_of (order_of order) EF.ops
+        (entries EF.number table.now) (entries EF.number weights.now) before 0) sums.old sums.new) }
+{
+    match before {
+        0 => add_of_one(table, weights, &mut sums.zero, &mut sums.infinity),
+        1 => add_of_two(order, table, weights, &mut sums.zero, &mut sums.infinity),
+        2 => add_of_three(order, table, weights, &mut sums.zero, &mut sums.infinity),
+        _ => return add_staged(alloc, order, table, weights, before, sums),
+    }
+    Ok(())
+}
+
+// The same of tables of any number of variables, by way of their values at the digits.
+fn add_staged<EF: Field>(
+    alloc: Global,
+    order: VariableOrder,
+    table: &[EF],
+    weights: &[EF],
+    before: usize,
+    sums: &mut Sums<EF>,
+) -> Result<(), NoMemory>
+    requires few { before ≤ 12 }
+    requires table { length table.now ≡ 2 ^ suc before }
+    requires weights { length weights.now ≡ 2 ^ suc before }
+    requires sums { IsSumSized before sums.old }
+    ensures { OnOk result (AddsGrid EF.number EF.ops before (grid_of (order_of order) EF.ops
+        (entries EF.number table.now) (entries EF.number weights.now) before 0) sums.old sums.new) }
 {
     let table = staged(alloc, order, table, before)?;
     let weights = staged(alloc, order, weights, before)?;

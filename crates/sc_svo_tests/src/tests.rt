@@ -3,11 +3,12 @@
 ghost use Rattle.std.specs.Prelude.{◌≡◌, ◌≤◌, length, IfOk};
 ghost use Rattle.sc_table.specs.Polys.{variables_of};
 ghost use Rattle.sc_svo.specs.Batches.{batch_in};
-ghost use Rattle.sc_svo.specs.Claims.{IsEquality};
 ghost use Rattle.sc_svo.specs.Points.{point_in, near_in};
 
+mod claims;
 mod grids;
 mod rounds;
+mod successors;
 
 use VariableOrder::{Prefix, Suffix};
 use sc_field::{F65537, Field, NoMemory};
@@ -25,17 +26,19 @@ fn four(alloc: Global) -> Result<Poly<F65537>, NoMemory>
 
 // ---- a batch
 
-// The claim on the value at the point of these numbers, times a coefficient.
+// The claim on the value at the point of these numbers, or on the one through the successor map,
+// times a coefficient.
 fn claim<EF: Field>(
     alloc: Global,
     coords: &[u64],
+    successor: bool,
     coefficient: u64,
 ) -> Result<SvoClaim<EF>, NoMemory>
-    ensures { IfOk result (IsEquality (length coords.now)) }
+    ensures { IfOk result (λ c. length c.point ≡ length coords.now) }
 {
     Ok(SvoClaim {
         point: point(alloc, coords)?,
-        successor: false,
+        successor,
         coefficient: of(coefficient),
     })
 }
@@ -45,7 +48,7 @@ fn batch_of_four(alloc: Global) -> Result<SvoBatch<F65537, F65537>, NoMemory>
     ensures variables { IfOk result (λ s. (batch_in s).variables ≡ 2) }
     ensures rounds { IfOk result (λ s. length (batch_in s).grids ≡ 2) }
 {
-    let claims = [claim(alloc, &[0, 1], 1)?];
+    let claims = [claim(alloc, &[0, 1], false, 1)?];
     SvoBatch::new(alloc, Prefix, four(alloc)?.as_slice(), &claims, 2)
 }
 
@@ -94,10 +97,15 @@ fn tables_that_the_rounds_leave(rt: HostRuntime) {
 
 #[test]
 fn a_claim_copied(rt: HostRuntime) {
-    let first: SvoClaim<F65537> = claim(rt.alloc(), &[2, 3], 5).expect(&rt, "an answer");
-    let second = first.copy(rt.alloc()).expect(&rt, "an answer");
-    assert!(rt; have_numbers(second.point.as_slice(), &[2, 3]));
-    assert!(rt; (second.successor, second.coefficient.index()) == (false, 5));
+    for successor in [false, true] {
+        let first: SvoClaim<F65537> = claim(rt.alloc(), &[2, 3], successor, 5).expect(
+            &rt,
+            "an answer",
+        );
+        let second = first.copy(rt.alloc()).expect(&rt, "an answer");
+        assert!(rt; have_numbers(second.point.as_slice(), &[2, 3]));
+        assert!(rt; (second.successor, second.coefficient.index()) == (successor, 5));
+    }
 }
 
 // ---- a point

@@ -1,20 +1,15 @@
-//! Grids against plain sums over all rows, of a table of three variables.
+//! Grids against plain sums over all rows, of tables of one to four variables, and three by hand.
 
-ghost use Rattle.std.specs.Prelude.{◌≡◌, ◌^◌, length};
+ghost use Rattle.std.specs.Prelude.{◌≡◌, ◌^◌, ◌<◌, ◌≤◌, length};
 
-use super::claim;
-use super::rounds::images;
+use super::claims::{KINDS, Kinds, claims, images, values, weights};
+use super::{are_grids, claim};
 use VariableOrder::{Prefix, Suffix};
-use sc_field::{F257, F257x2, Field, NoMemory};
+use sc_field::{ExtensionField, F257, F257x2, F65537, Field, NoMemory};
 use sc_svo::SvoBatch;
 use sc_table::{Poly, VariableOrder};
-use sc_tests_common::{elements, of, table};
+use sc_tests_common::{elements, have_numbers, table};
 use std::alloc::Global;
-
-// The coordinates of the claim's point, and what it is multiplied by.
-const COORDINATES: [u64; 3] = [12345, 300, 40321];
-
-const COEFFICIENT: u64 = 60001;
 
 // The digit that stands for infinity, beside 0 and 1.
 const INFINITY: usize = 2;
@@ -37,47 +32,68 @@ fn value_at<F: Field>(table: &[F], digits: &[usize]) -> F
     }
 }
 
-// The product of the values of two tables at a digit for each variable, in the order in which they
-// are bound.
-fn product<F: Field>(order: VariableOrder, evals: &[F], weights: &[F], digits: [usize; 3]) -> F
-    requires evals { length evals.now ≡ 8 }
-    requires weights { length weights.now ≡ 8 }
+// A digit for each of four variables, in the order in which they are bound, at a place of a round's
+// grid: of the variables before the round's own, the first has the place's lowest digit to the base
+// 3; those behind it have a row's bits.
+fn digits_of(round: usize, place: usize, own: usize, row: usize) -> [usize; 4] {
+    let mut digits = [own; 4];
+    let (mut places, mut rows) = (place, row);
+    for i in 0..4 {
+        if i < round {
+            digits[i] = places % 3;
+            places /= 3;
+        }
+        if round < i {
+            digits[i] = rows % 2;
+            rows /= 2;
+        }
+    }
+    digits
+}
+
+// The product of the values of two tables of n variables at a digit for each, in the order in which
+// they are bound.
+fn product<F: Field>(
+    order: VariableOrder,
+    evals: &[F],
+    weights: &[F],
+    n: usize,
+    digits: [usize; 4],
+) -> F
+    requires few { n ≤ 4 }
+    requires evals { length evals.now ≡ 2 ^ n }
+    requires weights { length weights.now ≡ 2 ^ n }
 {
-    let [first, second, third] = digits;
-    let at = match order {
-        Prefix => [first, second, third],
-        Suffix => [third, second, first],
-    };
-    value_at(evals, &at).mul(value_at(weights, &at))
+    let mut at = digits;
+    let at = &mut at[..n];
+    match order {
+        Prefix => {}
+        Suffix => at.reverse(),
+    }
+    value_at(evals, at).mul(value_at(weights, at))
 }
 
 // The value at a place of a round's grid with the round's own variable at a digit: the sum over the
-// rows of the variables behind it. Of the variables before it, the first has the place's lowest
-// digit to the base 3.
+// rows of the variables behind it, of which a table of n variables has n - 1 - round.
 fn plain_value<F: Field>(
     order: VariableOrder,
     evals: &[F],
     weights: &[F],
+    n: usize,
     round: usize,
     place: usize,
     own: usize,
 ) -> F
-    requires evals { length evals.now ≡ 8 }
-    requires weights { length weights.now ≡ 8 }
+    requires few { n ≤ 4 }
+    requires round { round < n }
+    requires evals { length evals.now ≡ 2 ^ n }
+    requires weights { length weights.now ≡ 2 ^ n }
 {
-    let rows: usize = match round {
-        0 => 4,
-        1 => 2,
-        _ => 1,
-    };
+    let rows = 1_usize << (n - 1 - round);
     let mut sum = F::ZERO;
     for row in 0..rows {
-        let digits = match round {
-            0 => [own, row / 2, row % 2],
-            1 => [place, own, row],
-            _ => [place % 3, place / 3, own],
-        };
-        sum = sum.add(product(order, evals, weights, digits));
+        let digits = digits_of(round, place, own, row);
+        sum = sum.add(product(order, evals, weights, n, digits));
     }
     sum
 }
@@ -87,48 +103,138 @@ fn list_agrees<F: Field>(
     order: VariableOrder,
     evals: &[F],
     weights: &[F],
+    n: usize,
     round: usize,
     own: usize,
     values: &[F],
 ) -> bool
-    requires evals { length evals.now ≡ 8 }
-    requires weights { length weights.now ≡ 8 }
+    requires few { n ≤ 4 }
+    requires round { round < n }
+    requires evals { length evals.now ≡ 2 ^ n }
+    requires weights { length weights.now ≡ 2 ^ n }
 {
     for place in 0..values.len() {
-        if values[place] != plain_value(order, evals, weights, round, place, own) {
+        if values[place] != plain_value(order, evals, weights, n, round, place, own) {
             return false;
         }
     }
     let places = match round {
         0 => 1,
         1 => 3,
-        _ => 9,
+        2 => 9,
+        _ => 27,
     };
     values.len() == places
 }
 
-// Whether the grids of all three rounds are plain sums.
-fn grids_agree(alloc: Global, order: VariableOrder) -> Result<bool, NoMemory> {
-    let table: Poly<F257> = table(alloc, 3, 12345)?;
-    let claims = [claim(alloc, &COORDINATES, COEFFICIENT)?];
-    let batch = SvoBatch::new(alloc, order, table.as_slice(), &claims, 3)?;
-    let evals: Poly<F257x2> = images(alloc, &table, 3)?;
-    let coords: Vec<F257x2> = elements(alloc, &COORDINATES)?;
-    let weights = Poly::new_from_point(alloc, &coords, of(COEFFICIENT))?;
+// Whether the grids of all n rounds on a table of n variables, with two claims, and the values that
+// the claims are on, are plain sums.
+fn grids_agree<F: Field, EF: ExtensionField<F>>(
+    alloc: Global,
+    order: VariableOrder,
+    n: usize,
+    kinds: Kinds,
+) -> Result<bool, NoMemory>
+    requires some { 0 < n }
+    requires few { n ≤ 4 }
+{
+    let table: Poly<F> = table(alloc, n, 12345)?;
+    let claims = claims::<EF>(alloc, n, kinds)?;
+    let (batch, found) = SvoBatch::<F, EF>::with_values(
+        alloc,
+        order,
+        table.as_slice(),
+        &claims,
+        n,
+    )?;
+    let evals: Poly<EF> = images(alloc, &table, n)?;
+    let wanted = values(alloc, &evals, n, kinds)?;
+    let weights = weights(alloc, n, kinds)?;
     let (f, w) = (evals.as_slice(), weights.as_slice());
     let rounds = batch.grids().rounds.as_slice();
-    let mut agree = rounds.len() == 3;
-    for (round, grid) in rounds.iter().enumerate() {
+    let mut agree = rounds.len() == n && have_numbers(&found, &wanted);
+    for round in 0..n {
+        let grid = &rounds[round];
         agree = agree
-            && list_agrees(order, f, w, round, 0, grid.zero.as_slice())
-            && list_agrees(order, f, w, round, INFINITY, grid.infinity.as_slice());
+            && list_agrees(order, f, w, n, round, 0, grid.zero.as_slice())
+            && list_agrees(order, f, w, n, round, INFINITY, grid.infinity.as_slice());
     }
     Ok(agree)
 }
 
+// The same for claims of each kind.
+fn kinds_agree<F: Field, EF: ExtensionField<F>>(
+    alloc: Global,
+    order: VariableOrder,
+    n: usize,
+) -> Result<bool, NoMemory>
+    requires some { 0 < n }
+    requires few { n ≤ 4 }
+{
+    for kinds in &KINDS {
+        if !grids_agree::<F, EF>(alloc, order, n, *kinds)? {
+            return Ok(false);
+        }
+    }
+    Ok(true)
+}
+
 #[test]
 fn grids_are_plain_sums(rt: HostRuntime) {
-    for order in [Prefix, Suffix] {
-        assert_eq!(rt; grids_agree(rt.alloc(), order), Ok(true), "{order:?}");
+    for n in 1..5 {
+        for order in [Prefix, Suffix] {
+            assert_eq!(rt;
+                kinds_agree::<F65537, F65537>(rt.alloc(), order, n),
+                Ok(true),
+                "{n} {order:?}"
+            );
+            assert_eq!(rt;
+                kinds_agree::<F257, F257x2>(rt.alloc(), order, n),
+                Ok(true),
+                "{n} {order:?}"
+            );
+        }
+    }
+}
+
+// An order, a table of three variables, and a claim's point: both tables have the same value at the
+// same values of the variables in the order in which they are bound.
+type Three = (VariableOrder, &'static [u64], &'static [u64]);
+
+static THREE: [Three; 2] = [
+    (Prefix, &[1, 2, 3, 5, 8, 13, 21, 34], &[1, 0, 2]),
+    (Suffix, &[1, 8, 3, 21, 2, 13, 5, 34], &[2, 0, 1]),
+];
+
+// The point's weights are -1 and 2 where the variables bound first and second are 1 and 0, and 0
+// elsewhere. So the first grid is 0, and -(8 - 1) + 2 * (13 - 2). The second one has
+// -8 + 2 * 13 and -(8 - 1) + 2 * (13 - 2) at 0, and (21 - 8) - 2 * (34 - 13) and
+// (21 - 8 - (3 - 1)) - 2 * (34 - 13 - (5 - 2)) at infinity. In the third one, the digits (1, 0),
+// (infinity, 0), (1, infinity) and (infinity, infinity) have -8, -(8 - 1), 21 - 8 and
+// 21 - 8 - (3 - 1) at 0, and at infinity 3 times 13 - 8, 4, -8 and -7.
+static GRIDS_OF_THREE: [(&[u64], &[u64]); 3] = [
+    (&[0], &[15]),
+    (&[0, 18, 15], &[0, 65508, 65512]),
+    (
+        &[0, 65529, 65530, 0, 0, 0, 0, 13, 11],
+        &[0, 15, 12, 0, 0, 0, 0, 65513, 65516],
+    ),
+];
+
+fn three_agree(alloc: Global, wanted: &Three) -> Result<bool, NoMemory> {
+    let (order, numbers, coordinates) = *wanted;
+    if numbers.len() != 8 || coordinates.len() != 3 {
+        return Ok(false);
+    }
+    let table: Vec<F65537> = elements(alloc, numbers)?;
+    let claims = [claim(alloc, coordinates, false, 1)?];
+    let batch = SvoBatch::<F65537, F65537>::new(alloc, order, &table, &claims, 3)?;
+    Ok(are_grids(batch.grids(), &GRIDS_OF_THREE))
+}
+
+#[test]
+fn grids_of_three_variables(rt: HostRuntime) {
+    for wanted in &THREE {
+        assert_eq!(rt; three_agree(rt.alloc(), wanted), Ok(true), "{wanted:?}");
     }
 }

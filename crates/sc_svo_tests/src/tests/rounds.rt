@@ -1,66 +1,19 @@
 //! Messages and what rounds leave, against tables that are bound round by round.
 
-ghost use Rattle.std.specs.Prelude.{◌≡◌, ◌<◌, ◌≤◌, All, length, IfOk};
+ghost use Rattle.std.specs.Prelude.{◌≡◌, ◌<◌, ◌≤◌, length};
 ghost use Rattle.sc_table.specs.Polys.{variables_of};
 ghost use Rattle.sc_svo.specs.Batches.{batch_in};
-ghost use Rattle.sc_svo.specs.Claims.{IsEquality};
 
-use super::claim;
+use super::claims::{KINDS, Kinds, claims, images, weights};
 use VariableOrder::{Prefix, Suffix};
 use sc_field::{ExtensionField, F257, F257x2, F65537, Field, NoMemory};
-use sc_svo::{SvoBatch, SvoClaim};
-use sc_table::{Poly, VariableOrder, add_scaled};
-use sc_tests_common::{elements, of, table};
+use sc_svo::SvoBatch;
+use sc_table::{Poly, VariableOrder};
+use sc_tests_common::{elements, table};
 use std::alloc::Global;
 
-// Coordinates of two points, what the claims at them are multiplied by, and challenges.
-const FIRST: [u64; 10] = [12345, 3, 40321, 0, 65536, 277, 1, 30303, 9, 51234];
-
-const SECOND: [u64; 10] = [7000, 54321, 1, 23456, 2, 61007, 300, 65535, 45454, 8];
-
-const COEFFICIENTS: [u64; 2] = [60001, 259];
-
+// The challenges that the rounds bind their variables at.
 const CHALLENGES: [u64; 10] = [31415, 5, 27182, 60000, 1, 40404, 0, 12, 16180, 258];
-
-// The images of the entries of a table of n variables.
-pub(super) fn images<F: Field, EF: ExtensionField<F>>(
-    alloc: Global,
-    table: &Poly<F>,
-    n: usize,
-) -> Result<Poly<EF>, NoMemory>
-    requires { n ≤ 10 }
-    ensures { IfOk result (λ p. variables_of p ≡ n) }
-{
-    let mut images = Poly::zero(alloc, n)?;
-    for (image, entry) in images.as_mut_slice().iter_mut().zip(table.as_slice()) {
-        *image = EF::embed(*entry);
-    }
-    Ok(images)
-}
-
-// The claims at both points, of which n coordinates are taken.
-fn claims<EF: Field>(alloc: Global, n: usize) -> Result<Vec<SvoClaim<EF>>, NoMemory>
-    requires { n ≤ 10 }
-    ensures { IfOk result (λ v. All (IsEquality n) v.items) }
-{
-    let mut claims = Vec::new(alloc);
-    claims.push(claim(alloc, &FIRST[..n], COEFFICIENTS[0])?)?;
-    claims.push(claim(alloc, &SECOND[..n], COEFFICIENTS[1])?)?;
-    Ok(claims)
-}
-
-// The equality weights of both points, each times its claim's coefficient, added up.
-fn weights<EF: Field>(alloc: Global, n: usize) -> Result<Poly<EF>, NoMemory>
-    requires { n ≤ 10 }
-    ensures { IfOk result (λ p. variables_of p ≡ n) }
-{
-    let first: Vec<EF> = elements(alloc, &FIRST[..n])?;
-    let second: Vec<EF> = elements(alloc, &SECOND[..n])?;
-    let mut sums = Poly::new_from_point(alloc, &first, of(COEFFICIENTS[0]))?;
-    let others = Poly::new_from_point(alloc, &second, EF::ONE)?;
-    add_scaled(sums.as_mut_slice(), others.as_slice(), of(COEFFICIENTS[1]));
-    Ok(sums)
-}
 
 // Whether each round's message that is read off a grid is that of the tables as they stand before
 // it, which it binds at its challenge.
@@ -94,17 +47,18 @@ fn rounds_agree<F: Field, EF: ExtensionField<F>>(
     order: VariableOrder,
     n: usize,
     l0: usize,
+    kinds: Kinds,
 ) -> Result<bool, NoMemory>
     requires some { 0 < l0 }
     requires within { l0 ≤ n }
     requires few { n ≤ 10 }
 {
     let table: Poly<F> = table(alloc, n, 12345)?;
-    let claims = claims::<EF>(alloc, n)?;
+    let claims = claims::<EF>(alloc, n, kinds)?;
     let batch = SvoBatch::<F, EF>::new(alloc, order, table.as_slice(), &claims, l0)?;
     let rs: Vec<EF> = elements(alloc, &CHALLENGES[..l0])?;
     let mut evals = images::<F, EF>(alloc, &table, n)?;
-    let mut weights = weights::<EF>(alloc, n)?;
+    let mut weights = weights::<EF>(alloc, n, kinds)?;
     let agree = messages_agree(alloc, order, &batch, &mut evals, &mut weights, &rs)?;
     let (left, left_weights) = batch.residual(alloc, table.as_slice(), &rs)?;
     Ok(
@@ -119,12 +73,34 @@ fn orders_agree<F: Field, EF: ExtensionField<F>>(
     alloc: Global,
     n: usize,
     l0: usize,
+    kinds: Kinds,
 ) -> Result<bool, NoMemory>
     requires some { 0 < l0 }
     requires within { l0 ≤ n }
     requires few { n ≤ 10 }
 {
-    Ok(rounds_agree::<F, EF>(alloc, Prefix, n, l0)? && rounds_agree::<F, EF>(alloc, Suffix, n, l0)?)
+    Ok(
+        rounds_agree::<F, EF>(alloc, Prefix, n, l0, kinds)?
+            && rounds_agree::<F, EF>(alloc, Suffix, n, l0, kinds)?,
+    )
+}
+
+// The same for claims of each kind.
+fn kinds_agree<F: Field, EF: ExtensionField<F>>(
+    alloc: Global,
+    n: usize,
+    l0: usize,
+) -> Result<bool, NoMemory>
+    requires some { 0 < l0 }
+    requires within { l0 ≤ n }
+    requires few { n ≤ 10 }
+{
+    for kinds in &KINDS {
+        if !orders_agree::<F, EF>(alloc, n, l0, *kinds)? {
+            return Ok(false);
+        }
+    }
+    Ok(true)
 }
 
 #[test]
@@ -132,12 +108,12 @@ fn small_value_rounds(rt: HostRuntime) {
     for n in 1..5 {
         for l0 in 1..n + 1 {
             assert_eq!(rt;
-                orders_agree::<F65537, F65537>(rt.alloc(), n, l0),
+                kinds_agree::<F65537, F65537>(rt.alloc(), n, l0),
                 Ok(true),
                 "{n} {l0}"
             );
             assert_eq!(rt;
-                orders_agree::<F257, F257x2>(rt.alloc(), n, l0),
+                kinds_agree::<F257, F257x2>(rt.alloc(), n, l0),
                 Ok(true),
                 "{n} {l0}"
             );
@@ -147,5 +123,5 @@ fn small_value_rounds(rt: HostRuntime) {
 
 #[test]
 fn many_small_value_rounds(rt: HostRuntime) {
-    assert_eq!(rt; orders_agree::<F65537, F65537>(rt.alloc(), 10, 9), Ok(true));
+    assert_eq!(rt; kinds_agree::<F65537, F65537>(rt.alloc(), 10, 9), Ok(true));
 }

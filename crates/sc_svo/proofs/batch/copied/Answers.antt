@@ -1,12 +1,12 @@
-use Rattle.std.proofs.Common.{take_all, ◌∙◌, ap, arith}
+use Rattle.std.proofs.Common.{length, take_all, ◌∙◌, ap, arith}
 use Rattle.sc_svo.specs.Claims.{claims_in}
-use Rattle.sc_svo.proofs.BatchLaws.{none_fit, fit-more, read_fits, copied-more, copy_same, copy_fits}
+use Rattle.sc_svo.proofs.BatchLaws.{none_on, on-more, read_on, copied-more, copy_same}
 use Rattle.sc_svo.proofs.batch.copied.Goals as goal
 
 pub loop-claim-init : goal.loop-claim-init
 loop-claim-init g c = record {
   same = ap (claims_in g.EF.Field.number) c.in_ok-copies.ensures.empty;
-  fit = λ n all. none_fit n c.in_ok-copies.copies.items c.in_ok-copies.ensures.empty;
+  on = λ n all. none_on n c.in_ok-copies.copies.items c.in_ok-copies.ensures.empty;
 }
 
 pub loop-claim-preserved : goal.loop-claim-preserved
@@ -18,8 +18,8 @@ loop-claim-preserved g c =
     record {
       same = copied-more g.EF.Field.number c.args.claims.now c.loop-claim.copies.items c.push.new.self.items i claim copy c.loop-claim-test.true c.claim-item.is
           c.loop-claim.invariant.same same c.in_ok-push.ensures.items;
-      fit = λ n all. fit-more n c.loop-claim.copies.items c.push.new.self.items copy (c.loop-claim.invariant.fit n all)
-          (copy_fits n copy claim c.in_ok-copy.ensures.point c.in_ok-copy.ensures.successor (read_fits n c.args.claims.now i claim all c.loop-claim-test.true c.claim-item.is))
+      on = λ n all. on-more n c.loop-claim.copies.items c.push.new.self.items copy (c.loop-claim.invariant.on n all)
+          (ap length c.in_ok-copy.ensures.point ∙ read_on n c.args.claims.now i claim all c.loop-claim-test.true c.claim-item.is)
           c.in_ok-push.ensures.items;
     }
 

@@ -4,7 +4,7 @@ use Rattle.std.proofs.lemmas.Nat.{pow_pos}
 use Rattle.sc_table.specs.Polys.{variables_of}
 use Rattle.sc_table.specs.Strategy.{order_of}
 use Rattle.sc_table.proofs.EntryLaws.{entry-read}
-use Rattle.sc_svo.specs.Partials.{Leaves}
+use Rattle.sc_svo.specs.Partials.{opened, Leaves}
 use Rattle.sc_svo.proofs.PartialTables.{partial-fewer, leaves-none, leaves-more, last-numbers, size_fewer, some_kept}
 use Rattle.sc_svo.proofs.partials.+push_partials.Goals as goal
 
@@ -31,7 +31,7 @@ returns-then-is_empty g t c f zs is =
     let none : map e.number c.args.kept.now ≡ [] = ap (map e.number) empty in
     let some : 0 < length c.as_slice.result.now = omega (arith, c.as_slice.ensures.size, pow_pos (variables_of c.args.table)) in
     let read = entry-read e.number c.as_slice.result.now 0 c.index-as_slice-0.result some c.index-as_slice-0.is in
-    subst (λ n. Leaves order e.ops e.number f zs n c.args.rounds.now.items c.args.rounds.now.items c.index-as_slice-0.result) (length-map c.args.kept.now e.number)
+    subst (λ n. Leaves e.ops e.number (opened order f zs) n c.args.rounds.now.items c.args.rounds.now.items c.index-as_slice-0.result) (length-map c.args.kept.now e.number)
     (leaves-none e.ops g.met.EF.Field.is_field.ring e.number f zs order (map e.number c.args.kept.now) c.args.table c.args.rounds.now.items c.index-as_slice-0.result
     none is (sym read ∙ ap (λ t. t 0) c.as_slice.ensures.numbers))
 
@@ -45,8 +45,8 @@ returns g t c f zs is =
     let z = e.number c.last_kept-z.result.0 in
     let last = last-numbers e.number order c.args.kept.now c.last_kept-z.result.0 c.last_kept-z.result.1.now c.last_kept-z.ensures in
     let next = partial-fewer e.ops ring e.number f zs order kept rest z c.args.table c.in_ok-next.next last is c.in_ok-next.ensures in
-    let less = subst (λ n. Leaves order e.ops e.number f zs n c.args.rounds.now.items c.push_partials.new.rounds.items c.in_ok-value.value)
+    let less = subst (λ n. Leaves e.ops e.number (opened order f zs) n c.args.rounds.now.items c.push_partials.new.rounds.items c.in_ok-value.value)
     (sym (length-map c.last_kept-z.result.1.now e.number)) (c.in_ok-value.ensures f zs next) in
-    subst (λ n. Leaves order e.ops e.number f zs n c.args.rounds.now.items c.push.new.self.items c.in_ok-value.value) (length-map c.args.kept.now e.number)
+    subst (λ n. Leaves e.ops e.number (opened order f zs) n c.args.rounds.now.items c.push.new.self.items c.in_ok-value.value) (length-map c.args.kept.now e.number)
     (leaves-more e.ops ring e.number f zs order kept rest z (record { table = c.args.table }) c.args.rounds.now.items c.push_partials.new.rounds.items
     c.push.new.self.items c.in_ok-value.value last is less c.in_ok-push.ensures.items)

@@ -1,5 +1,5 @@
-use Rattle.std.proofs.Common.{◌≡◌, ℕ, ◌^◌, ◌<◌, ◌∷◌, [], length, map, get_or, ◌∙◌, ap, sym, subst, arith}
-use Rattle.std.proofs.lemmas.List.{length-map}
+use Rattle.std.proofs.Common.{◌≡◌, ℕ, ◌^◌, ◌<◌, length, map, get_or, ◌∙◌, ap, sym, subst, arith}
+use Rattle.std.proofs.lemmas.List.{length-map, get_or-map}
 use Rattle.sc_definitions.specs.Tables.{entries}
 use Rattle.sc_definitions.specs.Grids.{place_weight, read_off}
 use Rattle.sc_definitions.specs.Combined.{combined_weight}
@@ -7,11 +7,11 @@ use Rattle.sc_field.specs.Products.{products}
 use Rattle.sc_table.specs.Strategy.{order_of}
 use Rattle.sc_svo.specs.Batches.{batch_in}
 use Rattle.sc_svo.specs.Grids.{grid_shown, IsSized}
-use Rattle.sc_svo.proofs.BatchLaws.{products-read, read-honest}
+use Rattle.sc_svo.proofs.BatchLaws.{products-read, message-read, read-honest}
 use Rattle.sc_svo.proofs.batch.SvoBatch.round_coefficients.Goals as goal
 
-pub returns : goal.returns
-returns g c f is =
+pub returns-clause-read : goal.returns-clause-read
+returns-clause-read g c d =
     let s = c.args.self.now in
     let e = g.EF.Field in
     let rs = map e.number c.args.rs.now in
@@ -32,6 +32,17 @@ returns g c f is =
     ∙ ap (λ xs. products e.ops (length xs) (entries e.number xs) (entries e.number c.deref-2.result.now)) c.as_slice-3.ensures
     ∙ ap (λ ys. products e.ops (length grid.infinity) (entries e.number grid.infinity) (entries e.number ys)) c.deref-2.ensures.value
     ∙ products-read e.number e.ops grid.infinity c.in_ok-weights.weights.items rs (sized.infinity ∙ ap (λ n. 3 ^ n) (sym count)) weights in
-    ap (λ x. x ∷ e.number c.dot_slices-2.result ∷ []) zero ∙ ap (λ y. read_off e.ops (map e.number grid.zero) rs ∷ y ∷ []) infinity
-    ∙ read-honest e.number e.ops g.met.EF.Field.is_field.ring (order_of s.order) s.variables f (combined_weight e.ops (batch_in s).claims) (length (batch_in s).grids) s.grids grid rs j
-    is (sym many) (omega (arith, low, many)) count read
+    let shown : get_or (batch_in s).grids j d ≡ grid_shown e.number grid =
+    get_or-map (grid_shown e.number) s.grids.rounds j grid d low ∙ ap (grid_shown e.number) (sym read) in
+    message-read e.ops (grid_shown e.number grid) (get_or (batch_in s).grids j d) rs (e.number c.dot_slices.result) (e.number c.dot_slices-2.result) shown zero infinity
+
+pub returns-clause-honest : goal.returns-clause-honest
+returns-clause-honest g c f is =
+    let s = c.args.self.now in
+    let e = g.EF.Field in
+    let rs = map e.number c.args.rs.now in
+    let grid = grid_shown e.number c.index-as_slice-rs.result in
+    let count : length rs ≡ length c.args.rs.now = length-map c.args.rs.now e.number in
+    returns-clause-read g c grid
+    ∙ read-honest e.ops g.met.EF.Field.is_field.ring (order_of s.order) s.variables f (combined_weight e.ops (batch_in s).claims) (length (batch_in s).grids) (batch_in s).grids grid rs
+    (length c.args.rs.now) is c.requires count

@@ -1,11 +1,13 @@
-use Rattle.std.proofs.Common.{◌≡◌, ◌+◌, ◌-◌, ◌^◌, ◌<◌, length, map, take, get_or, take_all, ◌∙◌, ap, sym, subst, arith}
+use Rattle.std.proofs.Common.{◌≡◌, ℕ, List, ◌+◌, ◌-◌, ◌^◌, ◌<◌, length, map, take, get_or, take_all, ◌∙◌, ap, sym, subst, arith}
 use Rattle.std.proofs.lemmas.List.{length-map, with_items_is}
+use Rattle.sc_definitions.specs.Tables.{digits}
 use Rattle.sc_definitions.proofs.Lengths.{pow-same}
 use Rattle.sc_definitions.proofs.PlacedSums.{length-point_of}
 use Rattle.sc_table.specs.Strategy.{order_of}
 use Rattle.sc_svo.specs.Grids.{grid_shown}
-use Rattle.sc_svo.specs.Claims.{IsEquality, AddsBound}
-use Rattle.sc_svo.proofs.BatchLaws.{read_fits}
+use Rattle.sc_svo.specs.Partials.{joined}
+use Rattle.sc_svo.specs.Claims.{scaled_in, scaled_value, AddsRows}
+use Rattle.sc_svo.proofs.BatchLaws.{read_on}
 use Rattle.sc_svo.proofs.BoundLaws.{AreBound, bound-none, bound-more, bound-all}
 use Rattle.sc_svo.proofs.batch.SvoBatch.weights_at.Goals as goal
 
@@ -26,8 +28,8 @@ add_bound-requires-clause-few g c =
     let i = c.loop-claim.claim-index in
     let low : i < length s.claims.items = omega (arith, c.loop-claim-test.true, ap length c.deref-claim-items.ensures.value) in
     let read = c.claim-item.is ∙ ap (λ xs. get_or xs i c.claim-item.result) c.deref-claim-items.ensures.value in
-    let fits = read_fits s.variables s.claims.items i c.claim-item.result s.claims_fit low read in
-    omega (arith, fits.arity, s.few)
+    let arity = read_on s.variables s.claims.items i c.claim-item.result s.on low read in
+    omega (arith, arity, s.few)
 
 pub add_bound-requires-clause-rows : goal.add_bound-requires-clause-rows
 add_bound-requires-clause-rows g c =
@@ -35,10 +37,10 @@ add_bound-requires-clause-rows g c =
     let i = c.loop-claim.claim-index in
     let low : i < length s.claims.items = omega (arith, c.loop-claim-test.true, ap length c.deref-claim-items.ensures.value) in
     let read = c.claim-item.is ∙ ap (λ xs. get_or xs i c.claim-item.result) c.deref-claim-items.ensures.value in
-    let fits = read_fits s.variables s.claims.items i c.claim-item.result s.claims_fit low read in (
+    let arity = read_on s.variables s.claims.items i c.claim-item.result s.on low read in (
       s.variables - length c.args.point.now,
       ap length c.deref_mut.ensures.value ∙ c.loop-claim.invariant.size,
-      omega (arith, fits.arity, c.requires, length-map s.grids.rounds (grid_shown g.EF.Field.number), s.within),
+      omega (arith, arity, c.requires, length-map s.grids.rounds (grid_shown g.EF.Field.number), s.within),
     )
 
 pub loop-claim-preserved : goal.loop-claim-preserved
@@ -54,16 +56,17 @@ loop-claim-preserved g c =
     let new = c.add_bound.new.rows in
     let low : i < length s.claims.items = omega (arith, c.loop-claim-test.true, ap length c.deref-claim-items.ensures.value) in
     let read : claim ≡ get_or s.claims.items i claim = c.claim-item.is ∙ ap (λ xs. get_or xs i claim) c.deref-claim-items.ensures.value in
-    let fits : IsEquality s.variables claim = read_fits s.variables s.claims.items i claim s.claims_fit low read in
-    let split : length claim.point ≡ length c.args.point.now + m = omega (arith, fits.arity, c.requires, length-map s.grids.rounds (grid_shown e.number), s.within) in
-    let gains : AddsBound e.number e.ops order claim (map e.number c.args.point.now) m rows.items new =
-    subst (λ xs. AddsBound e.number e.ops order claim (map e.number c.args.point.now) m xs new) c.deref_mut.ensures.value (c.in_ok-add_bound.ensures m split) in
+    let arity : length claim.point ≡ s.variables = read_on s.variables s.claims.items i claim s.on low read in
+    let split : length claim.point ≡ length c.args.point.now + m = omega (arith, arity, c.requires, length-map s.grids.rounds (grid_shown e.number), s.within) in
+    let gain : List ℕ → ℕ → ℕ = λ at b. scaled_value e.ops (scaled_in e.number claim) (joined order at (digits m b)) in
+    let gains : AddsRows e.number e.ops (gain (map e.number c.args.point.now)) rows.items new =
+    subst (λ xs. AddsRows e.number e.ops (gain (map e.number c.args.point.now)) xs new) c.deref_mut.ensures.value (c.in_ok-add_bound.ensures m split) in
     let items = with_items_is rows new (gains.size ∙ sym rows.ok.0) in
     record {
       size = ap length items ∙ gains.size ∙ c.loop-claim.invariant.size;
       bound = λ rs is. subst (AreBound e.ops e.number order m rs (take (i + 1) s.claims.items)) (sym items)
-          (bound-more e.ops ring e.number order m rs s.claims.items i claim rows.items new low read fits.kind (c.loop-claim.invariant.bound rs is)
-          (subst (λ at. AddsBound e.number e.ops order claim at m rows.items new) is gains));
+          (bound-more e.ops ring e.number order m rs s.claims.items i claim rows.items new low read c.loop-claim.invariant.size (c.loop-claim.invariant.bound rs is)
+          (subst (λ at. AddsRows e.number e.ops (gain at) rows.items new) is gains));
     }
 
 pub returns : goal.returns

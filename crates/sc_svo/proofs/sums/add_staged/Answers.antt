@@ -4,7 +4,7 @@ use Rattle.sc_definitions.specs.Ring.{plus, times, minus}
 use Rattle.sc_definitions.specs.Tables.{entries}
 use Rattle.sc_table.specs.Strategy.{order_of}
 use Rattle.sc_svo.proofs.SumLaws.{grid-added}
-use Rattle.sc_svo.proofs.sums.add_products.Goals as goal
+use Rattle.sc_svo.proofs.sums.add_staged.Goals as goal
 
 pub returns : goal.returns
 returns g c =
