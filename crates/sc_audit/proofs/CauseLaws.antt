@@ -10,22 +10,20 @@ use Rattle.sc_table.specs.declared.strategy.Strategy.TheVariants.{Plain, Represe
 use Rattle.sc_definitions.specs.Events.{Rules, Extension}
 use Rattle.sc_definitions.specs.Transcript.{Round, round_events, rounds_events}
 use Rattle.sc_definitions.specs.Replays.{round_passes, AllPass, given_rounds}
+use Rattle.sc_svo.specs.Grids.{most_rounds}
 use Rattle.sc_audit.specs.declared.report.Report.{Report}
 use Rattle.sc_audit.specs.declared.error.AuditError.{AuditError}
 use Rattle.sc_audit.specs.declared.error.AuditError.TheVariants.{Unbuilt, StrategyUnfit, NoWitness, InvalidPowWitness, NoMemory}
 use Rattle.sc_audit.specs.declared.error.FitFault.TheVariants.{Variables}
-use Rattle.sc_audit.specs.declared.error.Form.TheVariants.{Groups, Verdict}
+use Rattle.sc_audit.specs.declared.error.Form.TheVariants.{Verdict}
 use Rattle.sc_audit.specs.Cases.{Task, build, check, Asked, start_of}
 use Rattle.sc_audit.specs.Refusals.{
   arity_of,
   shape_by,
   or_later,
-  most_small_variables,
   variables_refusal,
   unfit,
   first_unfit,
-  unbuilt,
-  first_unbuilt,
   strategy_refusal,
   shape_refusal,
   task_refusal,
@@ -85,7 +83,6 @@ shape_as rows rows' most most' bits n first er em is = rw (er, em) at is
 abbrev IsUnfit : Option AuditError → Type 0
 IsUnfit None = Unit {0}
 IsUnfit (Some (StrategyUnfit fault)) = Unit {0}
-IsUnfit (Some (Unbuilt Groups)) = Unit {0}
 IsUnfit (Some e) = ⊥
 
 later_unfit : (a b : Option AuditError) → IsUnfit a → IsUnfit b → IsUnfit (or_later a b)
@@ -108,29 +105,15 @@ unfolding first_unfit
 first_is_unfit i [] = tt
 first_is_unfit i (s ∷ ss) = later_unfit (unfit i s.kind) (first_unfit (suc i) ss) (kind_unfit i s.kind) (first_is_unfit (suc i) ss)
 
-kind_unbuilt : (kind : Kind) → IsUnfit (unbuilt kind)
-kind_unbuilt (equality zs) = tt
-kind_unbuilt (successor order selector zs) = tt
-kind_unbuilt (powers z) = tt
-kind_unbuilt (products zs) = tt
-
-first_is_unbuilt : (ss : List Statement) → IsUnfit (first_unbuilt ss)
-unfolding first_unbuilt
-first_is_unbuilt [] = tt
-first_is_unbuilt (s ∷ ss) = later_unfit (unbuilt s.kind) (first_unbuilt ss) (kind_unbuilt s.kind) (first_is_unbuilt ss)
-
 strategy_unfit : (p : Problem) (s : Strategy) → IsUnfit (strategy_refusal p s)
 strategy_unfit p Plain = tt
 strategy_unfit p Represented = tt
 strategy_unfit p (SmallValue variables) =
-    let bound = min p.variables most_small_variables in
-    later_unfit (variables_refusal bound variables) (or_later (first_unfit 0 p.statements) (first_unbuilt p.statements))
-    (number_unfit bound variables (variables == 0 || nat_lt bound variables))
-    (later_unfit (first_unfit 0 p.statements) (first_unbuilt p.statements) (first_is_unfit 0 p.statements) (first_is_unbuilt p.statements))
+    let bound = min p.variables most_rounds in
+    later_unfit (variables_refusal bound variables) (first_unfit 0 p.statements) (number_unfit bound variables (variables == 0 || nat_lt bound variables)) (first_is_unfit 0 p.statements)
 
 caused_as : (first : Option AuditError) (q : Asked) (h : List Event) (e : AuditError) → IsUnfit (Some e) → first ≡ Some e → h ≡ q.history → IsCaused first q h e
 caused_as first q h (StrategyUnfit fault) fits is kept = (is, kept)
-caused_as first q h (Unbuilt Groups) fits is kept = (is, kept)
 caused_as first q h e fits is kept = absurd fits
 
 -- what a strategy does not take is refused, and leaves the history

@@ -36,10 +36,11 @@ module _ (o : Ops) (ring : IsRing o) (p : Problem) (b : Batch) (of : IsBatchOf o
   read_honest rs low =
       let m = p.variables - suc (length rs) in
       let whole : length rs + suc m ≡ p.variables = omega (arith, low, of.within) in
-      ap (λ r. honest_pair evaluation r o p.table (combined_weight o b.claims) rs (b.variables - suc (length rs))) of.order
-      ∙ ap (λ w. honest_pair evaluation p.order o p.table w rs (b.variables - suc (length rs))) of.weights
-      ∙ ap (λ n. honest_pair evaluation p.order o p.table (weights_of o p) rs (n - suc (length rs))) of.variables
-      ∙ sym (honest-same evaluation p.order o ring tt p.variables _ p.table _ (weights_of o p) (rows-entries_of p.variables p.table) (rows-entries_of p.variables (weights_of o p)) rs m whole)
+      let w = combined_weight o b.claims in
+      ap (λ r. honest_pair evaluation r o p.table w rs (b.variables - suc (length rs))) of.order
+      ∙ ap (λ n. honest_pair evaluation p.order o p.table w rs (n - suc (length rs))) of.variables
+      ∙ sym (honest-same evaluation p.order o ring tt p.variables _ p.table _ w (rows-entries_of p.variables p.table)
+      (λ k low. rows-entries_of p.variables (weights_of o p) k low ∙ sym (of.weights k low)) rs m whole)
 
   -- and so the message of the tables where the rounds before have led
   pub read_message : (rs : List ℕ) (at : Footing) (wire : Wire) (values : List ℕ) → length rs < length b.grids →
@@ -139,6 +140,6 @@ module _ (s : Setting) (ring : IsRing s.ops) (offered : IsOffered s.basis s.orde
 
 -- what stops is a result that is an error
 pub leaves_stopped : {X : Type 0} (s : Setting) (t : Standing) (rs : List ℕ) (claim : ℕ) (d : Driver) (wire : Wire) (r : Result X SumcheckError) (e : SumcheckError) →
-    IsErrAnd r (λ x. x ≡ e) → StopsFrom s t d wire e → LeavesDrawn s t rs claim d wire r
+    IsErrAnd r (λ x. x ≡ e) → StopsFrom s t d wire e → LeavesDrawn (record { setting = s; start = t }) rs claim d wire r
 leaves_stopped s t rs claim d wire (Ok x) e is p = elim is [ ]
 leaves_stopped s t rs claim d wire (Err x) e is p = subst (StopsFrom s t d wire) (sym is) p

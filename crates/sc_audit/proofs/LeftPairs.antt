@@ -29,6 +29,7 @@ use Rattle.sc_svo.specs.Batches.{Batch, IsBoundBy}
 use Rattle.sc_audit.specs.Figures.{false_claim_of}
 use Rattle.sc_audit.specs.Built.{prover_for}
 use Rattle.sc_audit.specs.SmallRounds.{IsBatchOf, with_drawn, LeavesPlayed, LeavesRounds}
+use Rattle.sc_audit.proofs.SameGrids.{grids_of-same}
 
 -- a standing's claim is the sum over all rows of evaluation times weight
 abbrev pub IsTrueAt : Ops → Standing → Type 0
@@ -71,7 +72,7 @@ bound_as o number b q f g rs qs ef er bound = subst (λ k. IsBoundBy o number b 
 
 module _ {EF : Type 0} (o : Ops) (number : EF → ℕ) (p : Problem) (b : Batch) (of : IsBatchOf o p b) (rs : List ℕ) where
   -- a table with the challenges bound, as a list
-  bound_numbers : (f g : ℕ → ℕ) (q : Poly EF) (m : ℕ) (xs : List ℕ) → IsBoundBy o number b g rs q → g ≡ f → m ≡ variables_of q → length xs ≡ 2 ^ m → rows_of xs ≡ table_of number q →
+  bound_numbers : (f g : ℕ → ℕ) (q : Poly EF) (m : ℕ) (xs : List ℕ) → IsBoundBy o number b g rs q → ((k : ℕ) → k < 2 ^ p.variables → g k ≡ f k) → m ≡ variables_of q → length xs ≡ 2 ^ m → rows_of xs ≡ table_of number q →
       entries_of (p.variables - length rs) (bound_by evaluation p.order o rs (p.variables - length rs) (rows_of (entries_of p.variables f))) ≡ xs
   bound_numbers f g q m xs bound same count size rows =
       let n = p.variables in
@@ -80,8 +81,9 @@ module _ {EF : Type 0} (o : Ops) (number : EF → ℕ) (p : Problem) (b : Batch)
       let is : xs ≡ entries_of m (bound_by evaluation p.order o rs m (rows_of (entries_of n f))) =
       entries-is m xs _ size (λ k low.
       ap (λ t. t k) rows ∙ bound.rows k (subst (λ v. k < 2 ^ v) count low)
-      ∙ ap (λ v. bound_by evaluation b.order o rs v g k) (sym count) ∙ ap (λ r. bound_by evaluation r o rs m g k) of.order ∙ ap (λ t. bound_by evaluation p.order o rs m t k) same
-      ∙ sym (bound_by-same evaluation p.order o rs m (rows_of (entries_of n f)) f (λ j under. rows-entries_of n f j (subst (λ v. j < 2 ^ v) whole under)) k low)) in
+      ∙ ap (λ v. bound_by evaluation b.order o rs v g k) (sym count) ∙ ap (λ r. bound_by evaluation r o rs m g k) of.order
+      ∙ bound_by-same evaluation p.order o rs m g (rows_of (entries_of n f)) (λ j under.
+      let below = subst (λ v. j < 2 ^ v) whole under in same j below ∙ sym (rows-entries_of n f j below)) k low) in
       sym (is ∙ ap (λ k. entries_of k (bound_by evaluation p.order o rs k (rows_of (entries_of n f)))) left)
 
   module _ {F : Type 0} (left : ProductPolynomial F EF) (sum : EF) (evals weights : Poly EF) (bound_evals : IsBoundBy o number b p.table rs evals)
@@ -97,7 +99,7 @@ module _ {EF : Type 0} (o : Ops) (number : EF → ℕ) (p : Problem) (b : Batch)
     left_stands c h h' on on' =
         let variables : p.variables - length rs ≡ variables_in left = omega (arith, left_variables) in
         let counts : variables_in left ≡ variables_of weights = omega (arith, left_variables, bound_weights.variables, of.variables) in
-        let es = bound_numbers p.table p.table evals (variables_in left) (numbers_of number left.evals) bound_evals refl count (pair_rows number left).0 evals_are in
+        let es = bound_numbers p.table p.table evals (variables_in left) (numbers_of number left.evals) bound_evals (λ k low. refl) count (pair_rows number left).0 evals_are in
         let ws = bound_numbers (weights_of o p) (combined_weight o b.claims) weights (variables_in left) (numbers_of number left.weights) bound_weights of.weights counts
         (pair_rows number left).1 weights_are in
         λ i. record { variables = variables i; evals = es i; weights = ws i; claim = number sum; history = h'; wire = on' }
@@ -156,7 +158,7 @@ module _ {EF : Type 0} (o : Ops) (number : EF → ℕ) (p : Problem) (b : Batch)
 
 -- what stops is a result that is an error
 pub plays_stopped : {X : Type 0} (s : Setting) (t : Standing) (after : X → Standing) (rs : List ℕ) (d : Driver) (wire : Wire) (r : Result X SumcheckError) (e : SumcheckError) →
-    IsErrAnd r (λ x. x ≡ e) → StopsFrom s t d wire e → LeavesPlayed s t after rs d wire r
+    IsErrAnd r (λ x. x ≡ e) → StopsFrom s t d wire e → LeavesPlayed (record { setting = s; start = t }) after rs d wire r
 plays_stopped s t after rs d wire (Ok x) e is p = elim is [ ]
 plays_stopped s t after rs d wire (Err x) e is p = subst (StopsFrom s t d wire) (sym is) p
 
@@ -172,5 +174,5 @@ batch_grids o p b of rounds count =
     of.grids
     ∙ ap (λ r. grids_of r o b.variables p.table (combined_weight o b.claims) (length b.grids)) of.order
     ∙ ap (λ n. grids_of p.order o n p.table (combined_weight o b.claims) (length b.grids)) of.variables
-    ∙ ap (λ w. grids_of p.order o p.variables p.table w (length b.grids)) of.weights
+    ∙ grids_of-same p.order o p.table (combined_weight o b.claims) (weights_of o p) p.variables (length b.grids) of.within of.weights
     ∙ ap (grids_of p.order o p.variables p.table (weights_of o p)) count

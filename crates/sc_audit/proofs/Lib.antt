@@ -4,8 +4,10 @@ pub mod FigureLaws
 pub mod Embedded
 pub mod BuiltReports
 pub mod DrawnLaws
+pub mod SameGrids
 pub mod LeftPairs
 pub mod ClaimLaws
+pub mod ClaimTests
 pub mod CountLaws
 pub mod CheckedReports
 pub mod CauseLaws

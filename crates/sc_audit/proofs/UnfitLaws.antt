@@ -1,5 +1,5 @@
 -- The statements that small-value rounds do not take, group by group.
-use Rattle.std.proofs.Common.{◌≡◌, ℕ, zero, suc, ◌+◌, ◌-◌, ◌^◌, ◌<◌, ◌≤◌, min, Bool, true, false, not, if◌then◌else◌, Option, Some, None, List, [], ◌∷◌, ◌++◌, length, get_or, map, take, drop, sym, ◌∙◌, ap, refl, arith}
+use Rattle.std.proofs.Common.{◌≡◌, ℕ, zero, suc, ◌+◌, ◌-◌, ◌^◌, ◌<◌, ◌≤◌, min, Option, Some, None, List, [], ◌∷◌, ◌++◌, length, get_or, map, take, drop, sym, ◌∙◌, ap, refl, arith}
 use Rattle.std.specs.List.{flat_map}
 use Rattle.std.proofs.lemmas.List.{length-append, drop_all}
 use Rattle.sc_definitions.specs.Statements.{Kind, equality, successor, powers, products, Statement}
@@ -12,10 +12,9 @@ use Rattle.sc_statements.specs.NextStatements.{next_kind, selector_at}
 use Rattle.sc_statements.specs.SelectStatements.{claims_of}
 use Rattle.sc_statements.proofs.GroupSteps.{groups-more, groups-split}
 use Rattle.sc_audit.specs.declared.error.AuditError.{AuditError}
-use Rattle.sc_audit.specs.declared.error.AuditError.TheVariants.{StrategyUnfit, Unbuilt}
+use Rattle.sc_audit.specs.declared.error.AuditError.TheVariants.{StrategyUnfit}
 use Rattle.sc_audit.specs.declared.error.FitFault.TheVariants.{Select, Selector}
-use Rattle.sc_audit.specs.declared.error.Form.TheVariants.{Groups}
-use Rattle.sc_audit.specs.Refusals.{or_later, told_number, unfit, first_unfit, unbuilt, first_unbuilt}
+use Rattle.sc_audit.specs.Refusals.{or_later, told_number, unfit, first_unfit}
 
 later-assoc : (a b c : Option AuditError) → or_later (or_later a b) c ≡ or_later a (or_later b c)
 later-assoc None b c = refl
@@ -46,12 +45,6 @@ first_unfit-append i (s ∷ ss) ts =
     ∙ sym (later-assoc (unfit i s.kind) (first_unfit (suc i) ss) (first_unfit (suc i + length ss) ts))
     ∙ ap (λ k. or_later (or_later (unfit i s.kind) (first_unfit (suc i) ss)) (first_unfit k ts)) more
 
-pub first_unbuilt-append : (ss ts : List Statement) → first_unbuilt (ss ++ ts) ≡ or_later (first_unbuilt ss) (first_unbuilt ts)
-unfolding first_unbuilt
-first_unbuilt-append [] ts = refl
-first_unbuilt-append (s ∷ ss) ts =
-    ap (or_later (unbuilt s.kind)) (first_unbuilt-append ss ts) ∙ sym (later-assoc (unbuilt s.kind) (first_unbuilt ss) (first_unbuilt ts))
-
 -- ---- a group of one kind
 
 -- values at points
@@ -59,11 +52,6 @@ pub unfit-points : {EF : Type 0} (number : EF → ℕ) (i : ℕ) (cs : List (Eva
 unfolding first_unfit
 unfit-points number i [] = refl
 unfit-points number i (c ∷ cs) = unfit-points number (suc i) cs
-
-pub unbuilt-points : {EF : Type 0} (number : EF → ℕ) (cs : List (EvaluatedConstraint (List EF) EF)) → first_unbuilt (evaluated_all (point_kind number) number cs) ≡ None
-unfolding first_unbuilt
-unbuilt-points number [] = refl
-unbuilt-points number (c ∷ cs) = unbuilt-points number cs
 
 -- a select is told by the first one's number
 pub unfit-selects : (i : ℕ) {X Y : Type 0} (of : X → ℕ) (at : Y → List ℕ) (xs : List X) (ys : List Y) (values : List ℕ) → i < 2 ^ 64 →
@@ -75,34 +63,6 @@ unfit-selects i of at [] (y ∷ ys) [] low some = absurd (some refl)
 unfit-selects i of at [] (y ∷ ys) (v ∷ values) low some = let same : i ≡ told_number i = omega arith in ap (λ n. Some (StrategyUnfit (Select n))) same
 unfit-selects i of at (x ∷ xs) ys [] low some = absurd (some refl)
 unfit-selects i of at (x ∷ xs) ys (v ∷ values) low some = let same : i ≡ told_number i = omega arith in ap (λ n. Some (StrategyUnfit (Select n))) same
-
-unbuilt-products : {Y : Type 0} (at : Y → List ℕ) (ys : List Y) (values : List ℕ) → first_unbuilt (claims_of (map (λ y. products (at y)) ys) values) ≡ None
-unfolding first_unbuilt
-unbuilt-products at [] values = refl
-unbuilt-products at (y ∷ ys) [] = refl
-unbuilt-products at (y ∷ ys) (v ∷ values) = unbuilt-products at ys values
-
-pub unbuilt-selects : {X Y : Type 0} (of : X → ℕ) (at : Y → List ℕ) (xs : List X) (ys : List Y) (values : List ℕ) →
-    first_unbuilt (claims_of (map (λ x. powers (of x)) xs ++ map (λ y. products (at y)) ys) values) ≡ None
-unfolding first_unbuilt
-unbuilt-selects of at [] ys values = unbuilt-products at ys values
-unbuilt-selects of at (x ∷ xs) ys [] = refl
-unbuilt-selects of at (x ∷ xs) ys (v ∷ values) = unbuilt-selects of at xs ys values
-
--- successors are not built, if there is one
-pub unbuilt-successors : {EF : Type 0} (number : EF → ℕ) (cs : List (EvaluatedConstraint (NextConstraint EF) EF)) → (evaluated_all (next_kind number) number cs ≡ [] → ⊥) →
-    first_unbuilt (evaluated_all (next_kind number) number cs) ≡ Some (Unbuilt Groups)
-unfolding first_unbuilt
-unbuilt-successors number [] some = absurd (some refl)
-unbuilt-successors number (c ∷ cs) some = refl
-
--- the same by a test
-pub successors_by : {EF : Type 0} (number : EF → ℕ) (cs : List (EvaluatedConstraint (NextConstraint EF) EF)) (empty : Bool) →
-    (empty ≡ true → evaluated_all (next_kind number) number cs ≡ []) → (evaluated_all (next_kind number) number cs ≡ [] → empty ≡ true) →
-    first_unbuilt (evaluated_all (next_kind number) number cs) ≡ (if not empty then Some (Unbuilt Groups) else None)
-unfolding first_unbuilt
-successors_by number cs true none is = ap first_unbuilt (none refl)
-successors_by number cs false none is = unbuilt-successors number cs (λ all. let clash : false ≡ true = is all in cc)
 
 -- ---- successors, one by one
 
@@ -197,23 +157,3 @@ module _ {G : Type 0} (statements_of : G → List Statement) (groups all : List 
   passed_all passed so_far same past =
       sym (so_far.found ∙ ap (λ l. first_unfit (length (flat_map statements_of (take i groups))) (flat_map statements_of l)) (drop_all i groups past))
       ∙ ap (λ l. first_unfit 0 (flat_map statements_of l)) same
-
-  -- the first that is not built is among those of the groups from i on
-  pub unbuilt_found : (x : G) → first_unbuilt (flat_map statements_of groups) ≡ first_unbuilt (flat_map statements_of (drop i groups)) → groups ≡ all → i < length groups → x ≡ get_or groups i x →
-      (e : AuditError) → first_unbuilt (statements_of x) ≡ Some e → Some e ≡ first_unbuilt (flat_map statements_of all)
-  unbuilt_found x so_far same low at e some =
-      let rest = flat_map statements_of (drop (i + 1) groups) in
-      sym (so_far ∙ ap first_unbuilt (groups-split statements_of groups i x low at) ∙ first_unbuilt-append (statements_of x) rest ∙ ap (λ k. or_later k (first_unbuilt rest)) some)
-      ∙ ap (λ l. first_unbuilt (flat_map statements_of l)) same
-
-  pub unbuilt_more : (x : G) → first_unbuilt (flat_map statements_of groups) ≡ first_unbuilt (flat_map statements_of (drop i groups)) → i < length groups → x ≡ get_or groups i x →
-      first_unbuilt (statements_of x) ≡ None → first_unbuilt (flat_map statements_of groups) ≡ first_unbuilt (flat_map statements_of (drop (i + 1) groups))
-  unbuilt_more x so_far low at none =
-      let rest = flat_map statements_of (drop (i + 1) groups) in
-      so_far ∙ ap first_unbuilt (groups-split statements_of groups i x low at) ∙ first_unbuilt-append (statements_of x) rest ∙ ap (λ k. or_later k (first_unbuilt rest)) none
-
-  pub unbuilt_none : first_unbuilt (flat_map statements_of groups) ≡ first_unbuilt (flat_map statements_of (drop i groups)) → groups ≡ all → length groups ≤ i →
-      None ≡ first_unbuilt (flat_map statements_of all)
-  unfolding first_unbuilt
-  unbuilt_none so_far same past =
-      sym (so_far ∙ ap (λ l. first_unbuilt (flat_map statements_of l)) (drop_all i groups past)) ∙ ap (λ l. first_unbuilt (flat_map statements_of l)) same

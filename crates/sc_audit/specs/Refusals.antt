@@ -7,10 +7,10 @@ use Rattle.sc_statements.specs.FalseClaims.{capped}
 use Rattle.sc_transcript.specs.Data.{witness_count}
 use Rattle.sc_table.specs.declared.strategy.Strategy.{Strategy}
 use Rattle.sc_table.specs.declared.strategy.Strategy.TheVariants.{Plain, Represented, SmallValue}
+use Rattle.sc_svo.specs.Grids.{most_rounds}
 use Rattle.sc_audit.specs.declared.error.AuditError.{AuditError}
-use Rattle.sc_audit.specs.declared.error.AuditError.TheVariants.{Unbuilt, JobShape, StrategyUnfit, FalseClaim, MissingSumcheckData, RoundCountMismatch, PowWitnessCountMismatch}
+use Rattle.sc_audit.specs.declared.error.AuditError.TheVariants.{JobShape, StrategyUnfit, FalseClaim, MissingSumcheckData, RoundCountMismatch, PowWitnessCountMismatch}
 use Rattle.sc_audit.specs.declared.error.FitFault.TheVariants.{Variables, Select, Selector}
-use Rattle.sc_audit.specs.declared.error.Form.TheVariants.{Groups}
 use Rattle.sc_audit.specs.declared.error.ShapeFault.TheVariants.{TableLength, Difficulty, Arity}
 use Rattle.sc_audit.specs.Cases.{Given, Task, build, check, Asked}
 
@@ -47,10 +47,6 @@ shape_refusal q = shape_by (arity_of q.case.rows) q.channel.rules.max_bits q.cas
 
 -- ---- the strategy
 
--- the greatest number of variables that small-value rounds bind
-abbrev pub most_small_variables : ℕ
-most_small_variables = 12
-
 -- a statement's number stands still at the last number of its type
 abbrev pub told_number : ℕ → ℕ
 told_number i = min i (2 ^ 64 - 1)
@@ -72,19 +68,9 @@ unfoldable pub first_unfit : ℕ → List Statement → Option AuditError
 first_unfit i [] = None
 first_unfit i (s ∷ ss) = or_later (unfit i s.kind) (first_unfit (suc i) ss)
 
--- a kind that small-value rounds are to take, and that is not built yet
-abbrev pub unbuilt : Kind → Option AuditError
-unbuilt (successor order selector zs) = Some (Unbuilt Groups)
-unbuilt kind = None
-
--- the first of them
-unfoldable pub first_unbuilt : List Statement → Option AuditError
-first_unbuilt [] = None
-first_unbuilt (s ∷ ss) = or_later (unbuilt s.kind) (first_unbuilt ss)
-
--- what small-value rounds for so many of n variables do not take: their number, or else a statement that does not fit, or else one that is not built
+-- what small-value rounds for so many of n variables do not take: their number, or else a statement
 abbrev pub small_refusal : ℕ → List Statement → ℕ → Option AuditError
-small_refusal n ss variables = or_later (variables_refusal (min n most_small_variables) variables) (or_later (first_unfit 0 ss) (first_unbuilt ss))
+small_refusal n ss variables = or_later (variables_refusal (min n most_rounds) variables) (first_unfit 0 ss)
 
 -- what a strategy does not take of a problem
 abbrev pub strategy_refusal : Problem → Strategy → Option AuditError

@@ -2,10 +2,11 @@
 ghost use Rattle.std.specs.Prelude.{◌≡◌, ◌≤◌, IfOk, None};
 ghost use Rattle.sc_audit.specs.Cases.{asked_to, build};
 ghost use Rattle.sc_audit.specs.Fitting.{job_in, stated_in};
-ghost use Rattle.sc_audit.specs.Refusals.{strategy_refusal, task_refusal};
+ghost use Rattle.sc_audit.specs.Refusals.{task_refusal};
 ghost use Rattle.sc_audit.specs.Figures.{false_claim_of};
 ghost use Rattle.sc_audit.specs.Audits.{Answers, AnswersTask, IsRefusedBy};
 ghost use Rattle.sc_audit.specs.Built.{IsBuiltCase, LeavesBuild, kept_in};
+ghost use Rattle.sc_audit.specs.SmallRounds.{strategy_by, IsReady};
 
 use crate::common::refusal;
 use crate::error::AuditError;
@@ -14,6 +15,7 @@ use crate::report::{Report, Verdict};
 use crate::shape::FittingJob;
 use crate::small_value::small_value;
 use crate::strategies::{Built, plain, represented};
+use crate::ways::{Way, way_of};
 use sc_challenger::Challenger;
 use sc_field::{ExtensionField, Field, IntoTranscriptField};
 use sc_table::{Basis, Strategy};
@@ -38,56 +40,50 @@ pub(crate) fn build<F: Field, EF: ExtensionField<F>, R: IntoTranscriptField<EF>,
     ensures holds { IfOk result (λ r. r.verdict ≡ Verdict.Holds) }
 {
     check_strategy(fitting, strategy)?;
-    if let Some(fault) = fitting.job.constraint.first_false(&fitting.job.table) {
-        return Err(AuditError::FalseClaim {
-            statement: fault.statement,
-            claimed: fault.claimed,
-            actual: fault.actual,
-        });
-    }
-    play::<F, EF, R, C>(alloc, fitting, strategy, challenger)
+    let way = way_of(alloc, fitting, strategy)?;
+    play::<F, EF, R, C>(alloc, fitting, way, challenger)
 }
 
-// Builds the rounds of a job whose statements are true and fit on a copy of the challenger, and
-// replays them on the challenger itself.
+// Builds the rounds of a job whose statements are true on a copy of the challenger, and replays
+// them on the challenger itself.
 fn play<F: Field, EF: ExtensionField<F>, R: IntoTranscriptField<EF>, C: Challenger<F>>(
     alloc: Global,
     fitting: &FittingJob<'_, F, EF>,
-    strategy: Strategy,
+    way: Way<F, EF>,
     challenger: &mut C,
 ) -> Result<Report<F, EF>, AuditError>
     requires difficulty { (job_in fitting.now).pow_bits ≤ (C.rules challenger.old).max_bits }
     requires all_true { false_claim_of EF.ops (stated_in fitting.now) ≡ None }
-    requires fits { strategy_refusal (stated_in fitting.now) strategy ≡ None }
+    requires ready { IsReady EF.ops (stated_in fitting.now) way }
     ensures rules { C.rules challenger.new ≡ C.rules challenger.old }
     ensures answers { Answers F.number EF.number None
-        (asked_to (job_in fitting.now) (build strategy) (C.rules challenger.old)
+        (asked_to (job_in fitting.now) (build (strategy_by way)) (C.rules challenger.old)
         (C.history challenger.old)) result (C.history challenger.new) }
     ensures holds { IfOk result (λ r. r.verdict ≡ Verdict.Holds) }
 {
-    let built = rounds_by::<F, EF, R, C>(alloc, fitting, strategy, challenger)?;
+    let built = rounds_by::<F, EF, R, C>(alloc, fitting, way, challenger)?;
     replay(alloc, fitting, built, challenger)
 }
 
-// Builds the rounds of a job whose statements are true and fit, in the transcript of a copy of the
+// Builds the rounds of a job whose statements are true, in the transcript of a copy of the
 // challenger.
 fn rounds_by<F: Field, EF: ExtensionField<F>, R: IntoTranscriptField<EF>, C: Challenger<F>>(
     alloc: Global,
     fitting: &FittingJob<'_, F, EF>,
-    strategy: Strategy,
+    way: Way<F, EF>,
     challenger: &C,
 ) -> Result<Built<F, EF>, AuditError>
     requires difficulty { (job_in fitting.now).pow_bits ≤ (C.rules challenger.now).max_bits }
     requires all_true { false_claim_of EF.ops (stated_in fitting.now) ≡ None }
-    requires fits { strategy_refusal (stated_in fitting.now) strategy ≡ None }
+    requires ready { IsReady EF.ops (stated_in fitting.now) way }
     ensures { LeavesBuild F.number EF.number
-        (asked_to (job_in fitting.now) (build strategy) (C.rules challenger.now)
+        (asked_to (job_in fitting.now) (build (strategy_by way)) (C.rules challenger.now)
         (C.history challenger.now)) result }
 {
-    match strategy {
-        Strategy::Plain => plain(alloc, fitting, challenger),
-        Strategy::Represented => represented::<F, EF, R, C>(alloc, fitting, challenger),
-        Strategy::SmallValue { variables } => small_value(alloc, fitting, variables, challenger),
+    match way {
+        Way::Plain => plain(alloc, fitting, challenger),
+        Way::Represented => represented::<F, EF, R, C>(alloc, fitting, challenger),
+        Way::SmallValue(batch) => small_value(alloc, fitting, batch, challenger),
     }
 }
 

@@ -3,7 +3,7 @@ use sc_field::NoMemory;
 use thiserror::Error;
 
 /// Why there is no report. The refusals are tested in this order, but that [`AuditError::NoMemory`] may come before any other, and that
-/// [`AuditError::Unbuilt`] has a place for each of its forms. Rounds and statements are counted from 0; a statement's number stands still at 2^64 - 1.
+/// [`AuditError::Unbuilt`] comes last. Rounds and statements are counted from 0; a statement's number stands still at 2^64 - 1.
 #[derive(Clone, Copy, Debug, PartialEq, Eq, Error)]
 pub enum AuditError {
     /// Table, difficulty and statements do not fit together.
@@ -50,7 +50,7 @@ pub enum AuditError {
     /// A call wanted more memory than there was.
     #[error("out of memory")]
     NoMemory,
-    /// The job asks for something that is not built yet. Groups are refused behind [`AuditError::StrategyUnfit`], a verdict behind everything else.
+    /// The job asks for something that is not built yet: a verdict, which is refused behind everything else.
     #[error("the job asks for what is not built yet: {0}")]
     Unbuilt(Form),
 }
@@ -86,9 +86,6 @@ pub enum FitFault {
 /// What is not built yet.
 #[derive(Clone, Copy, Debug, PartialEq, Eq, Error)]
 pub enum Form {
-    /// Successor statements in rounds on small values.
-    #[error("the statements of a group")]
-    Groups,
     /// The verdict on rounds whose residual is right although a statement is false.
     #[error("the verdict")]
     Verdict,

@@ -1,25 +1,17 @@
 //! Which strategies fit the statements of a job.
-ghost use Rattle.std.specs.Prelude.{◌≡◌, Some, None, if◌then◌else◌};
+ghost use Rattle.std.specs.Prelude.{◌≡◌};
 ghost use Rattle.sc_statements.specs.Constraints.{constraint_arity, constraint_statements};
 ghost use Rattle.sc_statements.specs.Groups.{group_statements};
 ghost use Rattle.sc_statements.specs.NextStatements.{next_statements};
 ghost use Rattle.sc_audit.specs.Fitting.{stated_in};
-ghost use Rattle.sc_audit.specs.Refusals.{
-  first_unfit,
-  first_unbuilt,
-  small_refusal,
-  strategy_refusal,
-  refusal_in,
-};
+ghost use Rattle.sc_audit.specs.Refusals.{first_unfit, small_refusal, strategy_refusal, refusal_in};
 
-use crate::error::{AuditError, FitFault, Form};
+use crate::error::{AuditError, FitFault};
 use crate::shape::FittingJob;
 use sc_field::{ExtensionField, Field};
 use sc_statements::{Constraint, NextStatement, Statements};
+use sc_svo::MOST_ROUNDS;
 use sc_table::Strategy;
-
-// The greatest number of variables that small-value rounds bind.
-const MOST_SMALL_VARIABLES: usize = 12;
 
 // Refuses a strategy that does not fit the statements of a job.
 pub(crate) fn check_strategy<F: Field, EF: ExtensionField<F>>(
@@ -45,14 +37,11 @@ fn check_small_values<F: Field, EF: ExtensionField<F>>(
         (constraint_statements (λ x. EF.embedding (F.number x)) EF.number constraint.now) variables
         ≡ refusal_in result }
 {
-    let bound = constraint.num_variables().min(MOST_SMALL_VARIABLES);
+    let bound = constraint.num_variables().min(MOST_ROUNDS);
     if variables == 0 || variables > bound {
         return Err(AuditError::StrategyUnfit(FitFault::Variables { variables, bound }));
     }
     if let Some(error) = unfit_statement(constraint) {
-        return Err(error);
-    }
-    if let Some(error) = unbuilt_statement(constraint) {
         return Err(error);
     }
     Ok(())
@@ -108,31 +97,4 @@ fn unfit_successor<EF: Field>(statement: &NextStatement<EF>, passed: usize) -> O
         }
     }
     None
-}
-
-// The refusal of statements that small-value rounds are to take, and do not take yet.
-fn unbuilt_statement<F: Field, EF: ExtensionField<F>>(
-    constraint: &Constraint<F, EF>,
-) -> Option<AuditError>
-    ensures { result ≡ first_unbuilt
-        (constraint_statements (λ x. EF.embedding (F.number x)) EF.number constraint.now) }
-{
-    for group in constraint.statements() {
-        if holds_successor(group) {
-            return Some(AuditError::Unbuilt(Form::Groups));
-        }
-    }
-    None
-}
-
-// Whether a group has a successor.
-fn holds_successor<F: Field, EF: ExtensionField<F>>(group: &Statements<F, EF>) -> bool
-    ensures { first_unbuilt (group_statements (λ x. EF.embedding (F.number x)) EF.number group.now)
-        ≡ (if result then Some (AuditError.Unbuilt Form.Groups) else None) }
-{
-    match group {
-        Statements::Eq(_) => false,
-        Statements::Next(statement) => !statement.is_empty(),
-        Statements::Select(_) => false,
-    }
 }

@@ -6,6 +6,7 @@
 mod audits;
 mod building;
 mod checking;
+mod claims;
 mod common;
 mod error;
 mod fit;
@@ -15,6 +16,7 @@ mod report;
 mod shape;
 mod small_value;
 mod strategies;
+mod ways;
 
 pub use audits::audit;
 pub use error::{AuditError, FitFault, Form, ShapeFault};

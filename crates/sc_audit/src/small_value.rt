@@ -1,34 +1,8 @@
 //! How rounds are built that begin on small values: the first ones are read off the grids of the
 //! job's own table, and the others are played on what these leave of it.
-ghost use Rattle.std.specs.Prelude.{
-  ◌≡◌,
-  ℕ,
-  ◌+◌,
-  ◌≤◌,
-  [],
-  ◌∷◌,
-  ◌++◌,
-  All,
-  None,
-  IfOk,
-  IfErr,
-  OnOk,
-  length,
-  map,
-  vec_len,
-  vec_capacity,
-};
-ghost use Rattle.sc_definitions.specs.Ring.{power};
+ghost use Rattle.std.specs.Prelude.{◌≡◌, ◌+◌, ◌≤◌, None, OnOk, length, map, vec_capacity};
 ghost use Rattle.sc_definitions.specs.Problem.{Problem, claim_of};
 ghost use Rattle.sc_table.specs.declared.strategy.Strategy.TheVariants.{SmallValue};
-ghost use Rattle.sc_statements.specs.Constraints.{
-  constraint_arity,
-  constraint_statements,
-  constraint_challenge,
-  constraint_power,
-};
-ghost use Rattle.sc_statements.specs.EqStatements.{eq_arity, eq_statements};
-ghost use Rattle.sc_statements.specs.Groups.{group_arity, group_statements};
 ghost use Rattle.sc_transcript.specs.Data.{wire_in};
 ghost use Rattle.sc_transcript.specs.Drivers.{driver_in, Continues};
 ghost use Rattle.sc_rounds.specs.Products.{variables_in, sum_in};
@@ -36,18 +10,13 @@ ghost use Rattle.sc_rounds.specs.Provers.{shown_of};
 ghost use Rattle.sc_rounds.specs.HeldProducts.{course_over, GoesOn};
 ghost use Rattle.sc_rounds.specs.Standings.{standing_in, standing_on};
 ghost use Rattle.sc_svo.specs.Batches.{batch_in};
-ghost use Rattle.sc_svo.specs.Claims.{IsEquality, claims_in};
 ghost use Rattle.sc_audit.specs.Cases.{asked_to, build};
 ghost use Rattle.sc_audit.specs.Fitting.{job_in, stated_in};
-ghost use Rattle.sc_audit.specs.Refusals.{strategy_refusal};
 ghost use Rattle.sc_audit.specs.Figures.{false_claim_of};
 ghost use Rattle.sc_audit.specs.Built.{LeavesBuild};
 ghost use Rattle.sc_audit.specs.SmallRounds.{
-  AreEqualities,
-  scaled_from,
   IsBatchOf,
-  setting_for,
-  begun_for,
+  play_for,
   HasPlayed,
   LeavesDrawn,
   LeavesPlayed,
@@ -60,30 +29,27 @@ use crate::error::AuditError;
 use crate::shape::FittingJob;
 use crate::strategies::Built;
 use sc_challenger::Challenger;
-use sc_field::{ExtensionField, Field, NoMemory, with_room};
+use sc_field::{ExtensionField, Field, with_room};
 use sc_rounds::{ProductPolynomial, ProverTranscript, SumcheckData, SumcheckError, SumcheckShape};
-use sc_statements::{Constraint, EqStatement, Statements};
-use sc_svo::{SvoBatch, SvoClaim};
+use sc_svo::SvoBatch;
 use sc_table::{Basis, Point};
 use std::alloc::Global;
 
-// Builds the rounds of a job whose statements are true and fit, in the transcript of a copy of the
-// challenger. The rounds for so many variables, from the first on, are small-value rounds.
+// Builds the rounds of a job whose statements are true, in the transcript of a copy of the
+// challenger. The first rounds are read off the grids of the job's batch.
 pub(crate) fn small_value<F: Field, EF: ExtensionField<F>, C: Challenger<F>>(
     alloc: Global,
     fitting: &FittingJob<'_, F, EF>,
-    variables: usize,
+    batch: SvoBatch<F, EF>,
     challenger: &C,
 ) -> Result<Built<F, EF>, AuditError>
     requires difficulty { (job_in fitting.now).pow_bits ≤ (C.rules challenger.now).max_bits }
     requires all_true { false_claim_of EF.ops (stated_in fitting.now) ≡ None }
-    requires fits { strategy_refusal (stated_in fitting.now) (SmallValue variables)
-        ≡ None }
+    requires batch { IsBatchOf EF.ops (stated_in fitting.now) (batch_in batch) }
     ensures { LeavesBuild F.number EF.number
-        (asked_to (job_in fitting.now) (build (SmallValue variables))
+        (asked_to (job_in fitting.now) (build (SmallValue (length (batch_in batch).grids)))
         (C.rules challenger.now) (C.history challenger.now)) result }
 {
-    let batch = batch_of(alloc, fitting, variables)?;
     let mut claim = EF::ZERO;
     fitting.job.constraint.combine_evals(&mut claim);
     let mut copied = challenger.copy(alloc)?;
@@ -110,79 +76,6 @@ pub(crate) fn small_value<F: Field, EF: ExtensionField<F>, C: Challenger<F>>(
         weight,
         grids: batch.into_grids(),
     })
-}
-
-// The batch of a job's statements, with the grids of the rounds for so many variables.
-fn batch_of<F: Field, EF: ExtensionField<F>>(
-    alloc: Global,
-    fitting: &FittingJob<'_, F, EF>,
-    variables: usize,
-) -> Result<SvoBatch<F, EF>, NoMemory>
-    requires { strategy_refusal (stated_in fitting.now) (SmallValue variables) ≡ None }
-    ensures batch { IfOk result
-        (λ b. IsBatchOf EF.ops (stated_in fitting.now) (batch_in b)) }
-    ensures rounds { IfOk result (λ b. length (batch_in b).grids ≡ variables) }
-{
-    let job = fitting.job;
-    let claims = claims_of(alloc, &job.constraint)?;
-    let batch = SvoBatch::new(alloc, job.order, &job.table, &claims, variables)?;
-    Ok(batch)
-}
-
-// The claims that statements on the values at points are, in order: statement number i times the
-// power of the challenge that it has in the batch.
-fn claims_of<F: Field, EF: ExtensionField<F>>(
-    alloc: Global,
-    constraint: &Constraint<F, EF>,
-) -> Result<Vec<SvoClaim<EF>>, NoMemory>
-    requires { AreEqualities
-        (constraint_statements (λ x. EF.embedding (F.number x)) EF.number constraint.now) }
-    ensures claims { IfOk result (λ v. claims_in EF.number v.items ≡ scaled_from EF.ops
-        (constraint_challenge EF.number constraint.now) (constraint_power constraint.now)
-        (constraint_statements (λ x. EF.embedding (F.number x)) EF.number constraint.now)) }
-    ensures fit { IfOk result (λ v. All (IsEquality (constraint_arity constraint.now)) v.items) }
-{
-    let challenge = constraint.challenge();
-    let mut coefficient = challenge.exp_u64(constraint.initial_power() as u64);
-    let mut claims = Vec::new(alloc);
-    for group in constraint.statements() {
-        // a group of another kind has no statement
-        let Statements::Eq(statement) = group else {
-            continue;
-        };
-        coefficient = push_claims(alloc, &mut claims, statement, challenge, coefficient)?;
-    }
-    Ok(claims)
-}
-
-// Appends the claims of a group, the first times `first`, and each next one times the challenge
-// once more. The answer is the factor of a claim behind the last.
-fn push_claims<EF: Field>(
-    alloc: Global,
-    claims: &mut Vec<SvoClaim<EF>>,
-    statement: &EqStatement<EF>,
-    challenge: EF,
-    first: EF,
-) -> Result<EF, NoMemory>
-    ensures claims { OnOk result ((p : ℕ) → EF.number first ≡ power EF.ops (EF.number challenge) p →
-        claims_in EF.number claims.new.items ≡ claims_in EF.number claims.old.items
-        ++ scaled_from EF.ops (EF.number challenge) p (eq_statements EF.number statement.now)) }
-    ensures next { IfOk result (λ next. (p : ℕ) →
-        EF.number first ≡ power EF.ops (EF.number challenge) p → EF.number next
-        ≡ power EF.ops (EF.number challenge) (p + length (eq_statements EF.number statement.now))) }
-    ensures fit { All (IsEquality (eq_arity statement.now)) claims.old.items →
-        OnOk result (All (IsEquality (eq_arity statement.now)) claims.new.items) }
-{
-    let mut coefficient = first;
-    for (point, _value) in statement.iter() {
-        claims.push(SvoClaim {
-            point: point.copy(alloc)?,
-            successor: false,
-            coefficient,
-        })?;
-        coefficient = coefficient.mul(challenge);
-    }
-    Ok(coefficient)
 }
 
 // Seeds a transcript and plays all rounds of a job in it: what is left of the table and of the
@@ -251,8 +144,8 @@ fn play<F: Field, EF: ExtensionField<F>, C: Challenger<F>>(
         (vec_capacity challenges.old) }
     ensures continues { Continues (driver_in transcript.old) (driver_in transcript.new) }
     ensures played { LeavesPlayed
-        (setting_for EF.extension EF.ops (stated_in fitting.now) transcript.old)
-        (begun_for EF.number EF.ops (stated_in fitting.now) transcript.old sumcheck_data.old)
+        (play_for EF.extension EF.number EF.ops (stated_in fitting.now)
+        transcript.old sumcheck_data.old)
         (λ p. standing_on EF.number EF.number p sum.new transcript.new sumcheck_data.new)
         (map EF.number challenges.new.items) (driver_in transcript.new)
         (wire_in F.number EF.number sumcheck_data.new) result }
@@ -285,8 +178,7 @@ fn play_small<F: Field, EF: ExtensionField<F>, C: Challenger<F>>(
     // They are the first rounds of each problem that has this batch and this claim.
     ensures drawn { (p : Problem) → IsBatchOf EF.ops p (batch_in batch.now) →
         EF.number sum.old ≡ claim_of EF.ops p → LeavesDrawn
-        (setting_for EF.extension EF.ops p transcript.old)
-        (begun_for EF.number EF.ops p transcript.old sumcheck_data.old)
+        (play_for EF.extension EF.number EF.ops p transcript.old sumcheck_data.old)
         (map EF.number challenges.new.items) (EF.number sum.new) (driver_in transcript.new)
         (wire_in F.number EF.number sumcheck_data.new) result }
 {

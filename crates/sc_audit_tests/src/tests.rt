@@ -8,6 +8,7 @@ ghost use Rattle.sc_statements.specs.SelectStatements.{select_arity};
 mod refusals;
 mod reports;
 mod seventeen;
+mod successors;
 mod texts;
 
 use sc_audit::{AuditError, Grid, Job, Mode, Report, Strategy, Verdict, audit};
@@ -30,7 +31,7 @@ type Pair = (u64, u64);
 type Lists = (&'static [u64], &'static [u64]);
 
 // A group behind two groups of claims: none, a scalar that selects a value, or a value through the
-// successor map at a selector and a point.
+// successor map at a selector and a point, in the order of the rounds.
 #[derive(Clone, Copy)]
 enum Last {
     Nothing,
@@ -199,7 +200,7 @@ fn select<F: Field, R: Abort + AllocGlobal>(
     statement
 }
 
-// The statement of a value through the successor map, in prefix order. One on another number of
+// The statement of a value through the successor map, in an order. One on another number of
 // variables is left out.
 fn successor<F: Field, R: Abort + AllocGlobal>(
     rt: &R,
@@ -207,6 +208,7 @@ fn successor<F: Field, R: Abort + AllocGlobal>(
     selector: &[u64],
     point: &[u64],
     value: u64,
+    order: VariableOrder,
 ) -> NextStatement<F>
     ensures { next_arity result ≡ variables }
 {
@@ -215,7 +217,7 @@ fn successor<F: Field, R: Abort + AllocGlobal>(
     let point = Point::new(elements(rt, point));
     if variables.checked_sub(selector.num_variables()) == Some(point.num_variables()) {
         statement
-            .add_evaluated_constraint(selector, point, of(value), VariableOrder::Prefix)
+            .add_evaluated_constraint(selector, point, of(value), order)
             .expect(rt, "a successor");
     }
     statement
@@ -231,7 +233,7 @@ fn last_group<F: Field, R: Abort + AllocGlobal>(rt: &R, case: &Case) -> Statemen
             Statements::Select(select(rt, case.variables, scalar, value))
         }
         Last::Successor(selector, point, value) => {
-            Statements::Next(successor(rt, case.variables, selector, point, value))
+            Statements::Next(successor(rt, case.variables, selector, point, value, case.order))
         }
     }
 }

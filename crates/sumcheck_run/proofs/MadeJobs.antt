@@ -1,6 +1,7 @@
 -- The job that a recipe makes: what it asks, and that it holds.
-use Rattle.std.proofs.Common.{◌≡◌, inl, inr, ℕ, zero, suc, ◌+◌, ◌^◌, ◌<◌, ◌≤◌, List, [], ◌∷◌, ◌++◌, length, map, None, Some, refl, sym, ap, ◌∙◌, arith}
+use Rattle.std.proofs.Common.{◌≡◌, inl, inr, ℕ, zero, suc, ◌+◌, ◌^◌, ◌<◌, ◌≤◌, ◌==◌, ◌||◌, min, nat_lt, false, if◌then◌else◌, List, [], ◌∷◌, ◌++◌, length, map, None, Some, refl, sym, ap, ◌∙◌, arith}
 use Rattle.std.proofs.lemmas.Bool.Decides.{eqb_tells}
+use Rattle.std.proofs.lemmas.Bool.{ne_eqb, le-ltb}
 use Rattle.std.proofs.lemmas.List.{length-map}
 use Rattle.std.proofs.Common.{length-append}
 use Rattle.sc_definitions.specs.declared.events.Event.{Event}
@@ -11,7 +12,6 @@ use Rattle.sc_definitions.specs.Statements.{Kind, equality, successor, Statement
 use Rattle.sc_definitions.specs.Events.{Rules, own_extension}
 use Rattle.sc_definitions.specs.Scripted.{scripted_rules}
 use Rattle.sc_definitions.specs.Channels.{channel}
-use Rattle.sc_definitions.specs.Problem.{Problem}
 use Rattle.sc_definitions.proofs.Lengths.{pow-same}
 use Rattle.sc_definitions.proofs.StatementLaws.{first_false_claim-true, first_false_claim-none}
 use Rattle.sc_field.specs.ResiduesLaws.{residues_field}
@@ -25,13 +25,16 @@ use Rattle.sc_statements.specs.EqStatements.{eq_statements}
 use Rattle.sc_statements.specs.NextStatements.{next_statements}
 use Rattle.sc_statements.specs.Groups.{all_statements}
 use Rattle.sc_statements.specs.FalseClaims.{capped}
+use Rattle.sc_svo.specs.Grids.{most_rounds}
+use Rattle.sc_audit.specs.declared.error.AuditError.TheVariants.{StrategyUnfit}
+use Rattle.sc_audit.specs.declared.error.FitFault.TheVariants.{Variables}
 use Rattle.sc_audit.specs.Cases.{build, Asked}
-use Rattle.sc_audit.specs.Refusals.{or_later, strategy_refusal, exponent_from, arity_of, shape_by, false_refusal, refusal_of}
+use Rattle.sc_audit.specs.Refusals.{or_later, variables_refusal, first_unfit, strategy_refusal, exponent_from, arity_of, shape_by, false_refusal, refusal_of}
 use Rattle.sc_audit.proofs.ShapeLaws.{exponent-next, exponent-found}
 use Rattle.sumcheck_run.specs.declared.command.Recipe.{Recipe}
 use Rattle.sumcheck_run.specs.declared.reply.Outcome.TheVariants.{Holds}
 use Rattle.sumcheck_run.specs.Report.{case_reply}
-use Rattle.sumcheck_run.specs.Words.{IsNamed, IsMade}
+use Rattle.sumcheck_run.specs.Words.{most_small, IsNamed, IsMade}
 use Rattle.sumcheck_run.specs.Made.{value_at, Parts, parts_of, parts_end, PartsFit, true_statement, true_statements, problem_about, asked_about, values_behind, made_asked, made_reply, summary_lines}
 use Rattle.sumcheck_run.proofs.BuildReplies.{case_holds}
 use Rattle.sumcheck_run.proofs.MadeLaws.{values-none, values-more}
@@ -115,10 +118,19 @@ power-arity : (n : ℕ) → n < 25 → arity_of (2 ^ n) ≡ Some n
 unfolding arity_of
 power-arity n low = exponent-at 0 n 25 (omega arith) (omega arith)
 
-unrefused-strategy : (p : Problem) (strategy : Strategy) → IsNamed strategy → strategy_refusal p strategy ≡ None
-unrefused-strategy p Plain named = refl
-unrefused-strategy p Represented named = refl
-unrefused-strategy p (SmallValue n) named = absurd named
+small-fits : (n v : ℕ) → 0 < n → v ≡ min n most_small → variables_refusal (min n most_rounds) v ≡ None
+small-fits n v some is =
+    let positive : (v == 0) ≡ false = ne_eqb v 0 (λ none. let clash : 0 < 0 = omega (arith, some, is, none) in absurd (omega (arith, clash))) in
+    let within : nat_lt (min n most_rounds) v ≡ false = le-ltb (min n most_rounds) v (omega (arith, is)) in
+    ap (λ b. if b || nat_lt (min n most_rounds) v then Some (StrategyUnfit (Variables v (min n most_rounds))) else None) positive
+    ∙ ap (λ b. if b then Some (StrategyUnfit (Variables v (min n most_rounds))) else None) within
+
+unrefused-strategy : (o : Ops) (p : Parts) (n : ℕ) (strategy : Strategy) → length p.point ≡ n → 0 < n → IsNamed n strategy → strategy_refusal (problem_about o p) strategy ≡ None
+unfolding first_unfit
+unrefused-strategy o p n Plain count some named = refl
+unrefused-strategy o p n Represented count some named = refl
+unrefused-strategy o p n (SmallValue v) count some named =
+    ap (λ first. or_later first None) (small-fits (length p.point) v (omega (arith, some, count)) (named ∙ ap (λ k. min k most_small) (sym count)))
 
 unrefused-shape : (rows n : ℕ) → n < 25 → rows ≡ 2 ^ n → shape_by (arity_of rows) 16 rows 0 n ≡ None
 unrefused-shape rows n low is =
@@ -140,7 +152,7 @@ made-unrefused r made =
     let q = problem_about o p in
     let falsehood = false_refusal (capped (first_false_claim o n (rows_of p.table) 0 (true_statements o p))) in
     ap (λ first. or_later first (or_later (strategy_refusal q r.strategy) falsehood)) (unrefused-shape (length p.table) n low rows)
-    ∙ ap (λ first. or_later first falsehood) (unrefused-strategy q r.strategy made.strategy)
+    ∙ ap (λ first. or_later first falsehood) (unrefused-strategy o p r.variables r.strategy count made.some made.strategy)
     ∙ ap (λ found. false_refusal (capped found)) (all_true o n (rows_of p.table) 0 (equality p.point ∷ successor prefix [] p.successor ∷ []))
 
 -- what is replied to a recipe holds

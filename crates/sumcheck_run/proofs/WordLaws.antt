@@ -1,5 +1,5 @@
 -- The numbers that words write.
-use Rattle.std.proofs.Common.{◌≡◌, ◌≢◌, ℕ, zero, suc, ◌^◌, ◌<◌, ◌≤◌, Bool, true, false, List, Option, Some, None, if◌then◌else◌, refl, sym, ap, subst, ◌∙◌, ◌==◌, arith}
+use Rattle.std.proofs.Common.{◌≡◌, ◌≢◌, ℕ, zero, suc, ◌^◌, ◌<◌, ◌≤◌, min, Bool, true, false, List, Option, Some, None, if◌then◌else◌, refl, sym, ap, subst, ◌∙◌, ◌==◌, arith}
 use Rattle.std.specs.Prelude.{bytes_eq, codes, decimal}
 use Rattle.std.specs.Option.{option_map}
 use Rattle.std.proofs.lemmas.Option.{same_Some}
@@ -7,10 +7,10 @@ use Rattle.std.proofs.lemmas.Bool.{false_from_ne_true}
 use Rattle.std.proofs.lemmas.Slice.Eq.{bytes_eq-Decides}
 use Rattle.std.proofs.lemmas.Fmt.{decimal_injective}
 use Rattle.sc_table.specs.declared.strategy.Strategy.{Strategy}
-use Rattle.sc_table.specs.declared.strategy.Strategy.TheVariants.{Plain, Represented}
+use Rattle.sc_table.specs.declared.strategy.Strategy.TheVariants.{Plain, Represented, SmallValue}
 use Rattle.sumcheck_run.specs.declared.command.Recipe.{Recipe}
 use Rattle.sumcheck_run.specs.Witnesses.{least_below}
-use Rattle.sumcheck_run.specs.Words.{written_below, recipe_by, recipe_of, IsNamed, IsMade}
+use Rattle.sumcheck_run.specs.Words.{written_below, most_small, recipe_by, recipe_of, IsNamed, IsMade}
 use Rattle.sumcheck_run.proofs.WitnessLaws.{least_below-first, least_below-none}
 
 unequal : (xs ys : List ℕ) → xs ≢ ys → bytes_eq xs ys ≡ false
@@ -57,27 +57,34 @@ written-low : (bound : ℕ) (word : List ℕ) (n : ℕ) → written_below bound 
 unfolding written_below
 written-low bound word n is = least_below-low bound (λ k. bytes_eq word (decimal k)) n is
 
-named_by : (plain represented : Bool) (s : Strategy) → (if plain then Some Plain else (if represented then Some Represented else None)) ≡ Some s → IsNamed s
-named_by true represented s is = subst IsNamed (same_Some Plain s is) tt
-named_by false true s is = subst IsNamed (same_Some Represented s is) tt
-named_by false false s is = cc
+named_by : (n : ℕ) (plain represented small : Bool) (s : Strategy) →
+    (if plain then Some Plain else (if represented then Some Represented else (if small then Some (SmallValue (min n most_small)) else None))) ≡ Some s → IsNamed n s
+named_by n true represented small s is = subst (IsNamed n) (same_Some Plain s is) tt
+named_by n false true small s is = subst (IsNamed n) (same_Some Represented s is) tt
+named_by n false false true s is = subst (IsNamed n) (same_Some (SmallValue (min n most_small)) s is) refl
+named_by n false false false s is = cc
 
 not_zero : (n : ℕ) → (suc n == 0) ≡ false
 not_zero n = grind arith
 
-made_by : (variables number : Option ℕ) (strategy : Option Strategy) (r : Recipe) → ((n : ℕ) → variables ≡ Some n → n < 25) → ((n : ℕ) → number ≡ Some n → n < 65537) →
-    ((s : Strategy) → strategy ≡ Some s → IsNamed s) → recipe_by variables number strategy ≡ Some r → IsMade r
+made_with : (n number : ℕ) (found : Option Strategy) (r : Recipe) → suc n < 25 → number < 65537 → ((s : Strategy) → found ≡ Some s → IsNamed (suc n) s) →
+    option_map (λ s. record { variables = suc n; number = number; strategy = s }) found ≡ Some r → IsMade r
+made_with n number None r few low named is = cc
+made_with n number (Some s) r few low named is =
+    subst IsMade (same_Some (record { variables = suc n; number = number; strategy = s }) r is)
+    (record { some = omega arith; few = omega (arith, few); number = low; strategy = named s refl })
+
+made_by : (variables number : Option ℕ) (strategy : ℕ → Option Strategy) (r : Recipe) → ((n : ℕ) → variables ≡ Some n → n < 25) → ((n : ℕ) → number ≡ Some n → n < 65537) →
+    ((n : ℕ) (s : Strategy) → strategy n ≡ Some s → IsNamed n s) → recipe_by variables number strategy ≡ Some r → IsMade r
 made_by None number strategy r few low named is = cc
 made_by (Some n) None strategy r few low named is = cc
-made_by (Some n) (Some number) None r few low named is = cc
-made_by (Some zero) (Some number) (Some strategy) r few low named is = cc
-made_by (Some (suc n)) (Some number) (Some strategy) r few low named is =
-    let below : suc n < 25 = few (suc n) refl in
-    subst IsMade (same_Some (record { variables = suc n; number = number; strategy = strategy }) r
-    (sym (ap (λ b. if b then None else Some (record { variables = suc n; number = number; strategy = strategy })) (not_zero n)) ∙ is))
-    (record { some = omega arith; few = omega arith; number = low number refl; strategy = named strategy refl })
+made_by (Some zero) (Some number) strategy r few low named is = cc
+made_by (Some (suc n)) (Some number) strategy r few low named is =
+    made_with n number (strategy (suc n)) r (few (suc n) refl) (low number refl) (named (suc n))
+    (sym (ap (λ b. if b then None else option_map (λ s. record { variables = suc n; number = number; strategy = s }) (strategy (suc n))) (not_zero n)) ∙ is)
 
 -- a recipe that words write makes a job
 pub recipe-made : (variables number strategy : List ℕ) (r : Recipe) → recipe_of variables number strategy ≡ Some r → IsMade r
 recipe-made variables number strategy r is =
-    made_by _ _ _ r (written-low 25 variables) (written-low 65537 number) (named_by (bytes_eq strategy (codes "plain")) (bytes_eq strategy (codes "represented"))) is
+    made_by _ _ _ r (written-low 25 variables) (written-low 65537 number)
+    (λ n. named_by n (bytes_eq strategy (codes "plain")) (bytes_eq strategy (codes "represented")) (bytes_eq strategy (codes "small-value"))) is

@@ -1,7 +1,7 @@
 -- The lines of a report, and the texts of refusals, of the numbers in them. Each line ends with a line feed.
 use Rattle.std.specs.Prelude.{ℕ, suc, List, [], ◌∷◌, ◌++◌, codes, decimal, Option, Some, None}
 use Rattle.sc_audit.specs.declared.error.Form.{Form}
-use Rattle.sc_audit.specs.declared.error.Form.TheVariants.{Groups, Verdict}
+use Rattle.sc_audit.specs.declared.error.Form.TheVariants.{Verdict}
 use Rattle.sc_audit.specs.declared.error.ShapeFault.{ShapeFault}
 use Rattle.sc_audit.specs.declared.error.ShapeFault.TheVariants.{TableLength, Difficulty, Arity}
 use Rattle.sc_audit.specs.declared.error.FitFault.{FitFault}
@@ -74,7 +74,6 @@ refuted_line = codes "verdict refuted\n"
 
 -- what is not built yet
 unfoldable pub unbuilt_text : Form → List ℕ
-unbuilt_text Groups = codes "unbuilt groups"
 unbuilt_text Verdict = codes "unbuilt verdict"
 
 -- a job of a wrong shape

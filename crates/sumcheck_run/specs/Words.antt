@@ -1,5 +1,6 @@
 -- What the words of a command line write.
-use Rattle.std.specs.Prelude.{ℕ, ◌+◌, ◌<◌, ◌≤◌, ◌==◌, List, codes, decimal, bytes_eq, if◌then◌else◌, Option, Some, None}
+use Rattle.std.specs.Prelude.{◌≡◌, ℕ, min, ◌+◌, ◌<◌, ◌≤◌, ◌==◌, List, codes, decimal, bytes_eq, if◌then◌else◌, Option, Some, None}
+use Rattle.std.specs.Option.{option_map}
 use Rattle.sc_table.specs.declared.strategy.Strategy.{Strategy}
 use Rattle.sc_table.specs.declared.strategy.Strategy.TheVariants.{Plain, Represented, SmallValue}
 use Rattle.sc_audit.specs.Refusals.{most_variables}
@@ -12,31 +13,39 @@ use Rattle.sumcheck_run.specs.Witnesses.{least_below}
 unfoldable pub written_below : ℕ → List ℕ → Option ℕ
 written_below bound word = least_below bound (λ n. bytes_eq word (decimal n))
 
--- the strategy that a word names, if it names one
-abbrev pub strategy_of : List ℕ → Option Strategy
-strategy_of word = if bytes_eq word (codes "plain") then Some Plain else (if bytes_eq word (codes "represented") then Some Represented else None)
+-- the greatest number of variables that the small-value rounds of a job that is made bind
+abbrev pub most_small : ℕ
+most_small = 8
 
--- a recipe, of one variable or more
-abbrev pub recipe_by : Option ℕ → Option ℕ → Option Strategy → Option Recipe
-recipe_by (Some n) (Some number) (Some strategy) = if n == 0 then None else Some (record { variables = n; number = number; strategy = strategy })
+-- the strategy that a word names for a job of n variables, if it names one
+abbrev pub strategy_of : ℕ → List ℕ → Option Strategy
+strategy_of n word =
+    if bytes_eq word (codes "plain") then Some Plain
+    else (if bytes_eq word (codes "represented") then Some Represented
+    else (if bytes_eq word (codes "small-value") then Some (SmallValue (min n most_small)) else None))
+
+-- a recipe, of one variable or more, where the strategy depends on how many
+abbrev pub recipe_by : Option ℕ → Option ℕ → (ℕ → Option Strategy) → Option Recipe
+recipe_by (Some n) (Some number) strategy =
+    if n == 0 then None else option_map (λ s. record { variables = n; number = number; strategy = s }) (strategy n)
 recipe_by variables number strategy = None
 
 -- the recipe that three words write: from 1 to 24 variables, a number from 0 to 65536, and a strategy
 abbrev pub recipe_of : List ℕ → List ℕ → List ℕ → Option Recipe
-recipe_of variables number strategy = recipe_by (written_below (most_variables + 1) variables) (written_below 65537 number) (strategy_of strategy)
+recipe_of variables number strategy = recipe_by (written_below (most_variables + 1) variables) (written_below 65537 number) (λ n. strategy_of n strategy)
 
--- a word names the strategy
-abbrev pub IsNamed : Strategy → Type 0
-IsNamed Plain = Unit {0}
-IsNamed Represented = Unit {0}
-IsNamed (SmallValue variables) = ⊥
+-- a word names the strategy for a job of n variables
+abbrev pub IsNamed : ℕ → Strategy → Type 0
+IsNamed n Plain = Unit {0}
+IsNamed n Represented = Unit {0}
+IsNamed n (SmallValue variables) = variables ≡ min n most_small
 
 -- a job is made by it
 pub record IsMade (r : Recipe) : Type 0 where
   pub some : 0 < r.variables
   pub few : r.variables ≤ most_variables
   pub number : r.number < 65537
-  pub strategy : IsNamed r.strategy
+  pub strategy : IsNamed r.variables r.strategy
 
 -- a recipe that a command has is one by which a job is made
 abbrev pub CommandFits : Option Command → Type 0

@@ -11,6 +11,9 @@ const MOST_VARIABLES: u64 = 24;
 
 const NUMBERS: u64 = 65537;
 
+// The greatest number of variables that the small-value rounds of such a job bind.
+const MOST_SMALL: usize = 8;
+
 /// What a job is made of, how its rounds are built aside.
 #[derive(Clone, Copy, Debug, PartialEq, Eq)]
 pub struct Recipe {
@@ -18,7 +21,7 @@ pub struct Recipe {
     pub variables: usize,
     /// The number that its values begin with, from 0 to 65536.
     pub number: u64,
-    /// How its rounds are built: plain or represented.
+    /// How its rounds are built. Small-value rounds are for as many variables as there are, at most 8.
     pub strategy: Strategy,
 }
 
@@ -53,14 +56,14 @@ pub fn read_command(words: &[String]) -> Option<Command>
 fn read_recipe(variables: &str, number: &str, strategy: &str) -> Option<Recipe>
     ensures { result ≡ recipe_of variables.now number.now strategy.now }
 {
-    let variables = read_number(variables, MOST_VARIABLES + 1)?;
+    let variables = read_number(variables, MOST_VARIABLES + 1)? as usize;
     let number = read_number(number, NUMBERS)?;
-    let strategy = read_strategy(strategy)?;
     if variables == 0 {
         return None;
     }
+    let strategy = read_strategy(strategy, variables)?;
     Some(Recipe {
-        variables: variables as usize,
+        variables,
         number,
         strategy,
     })
@@ -93,14 +96,18 @@ fn read_decimal(word: &str) -> Option<u64>
     }
 }
 
-// The strategy that a word names, if it names one.
-fn read_strategy(word: &str) -> Option<Strategy>
-    ensures { result ≡ strategy_of word.now }
+// The strategy that a word names for a job of so many variables, if it names one.
+fn read_strategy(word: &str, variables: usize) -> Option<Strategy>
+    ensures { result ≡ strategy_of variables word.now }
 {
     if word == "plain" {
         Some(Strategy::Plain)
     } else if word == "represented" {
         Some(Strategy::Represented)
+    } else if word == "small-value" {
+        Some(Strategy::SmallValue {
+            variables: variables.min(MOST_SMALL),
+        })
     } else {
         None
     }

@@ -127,7 +127,6 @@ pub(crate) fn unbuilt_text(alloc: Global, form: Form) -> Result<String, AllocErr
     ensures { IfOk result (λ s. string_bytes s ≡ unbuilt_text form) }
 {
     match form {
-        Form::Groups => String::from_str(alloc, "unbuilt groups"),
         Form::Verdict => String::from_str(alloc, "unbuilt verdict"),
     }
 }

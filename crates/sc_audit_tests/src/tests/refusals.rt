@@ -1,7 +1,7 @@
 //! What is refused before a round is played, each behind a history.
 use super::seventeen::F17;
 use super::{Case, Last, PREFIX, Task, assert_all};
-use sc_audit::{AuditError, FitFault, Form, ShapeFault, Strategy};
+use sc_audit::{AuditError, FitFault, ShapeFault, Strategy};
 use sc_definitions::Event::{Draw, Word};
 use std::process::Abort;
 
@@ -49,16 +49,6 @@ const SELECT: Case = Case {
     ..REFUSED
 };
 
-// A successor alone, in small-value rounds. Its value is false.
-const SUCCESSOR: Case = Case {
-    name: "a successor in small-value rounds",
-    claims: &[],
-    last: Last::Successor(&[], &[2, 5], 0),
-    task: Task::Build(Strategy::SmallValue { variables: 2 }),
-    answer: Err(AuditError::Unbuilt(Form::Groups)),
-    ..REFUSED
-};
-
 // A proof of one round.
 const FEW_ROUNDS: Case = Case {
     name: "a round too few",
@@ -70,7 +60,7 @@ const FEW_ROUNDS: Case = Case {
     ..REFUSED
 };
 
-static REFUSALS: [Case; 27] = [
+static REFUSALS: [Case; 25] = [
     REFUSED,
     Case {
         name: "small values for more variables than there are",
@@ -82,13 +72,6 @@ static REFUSALS: [Case; 27] = [
         ..REFUSED
     },
     SELECT,
-    SUCCESSOR,
-    Case {
-        name: "a selector in small-value rounds",
-        last: Last::Successor(&[5], &[7], 0),
-        answer: Err(AuditError::StrategyUnfit(FitFault::Selector { statement: 0 })),
-        ..SUCCESSOR
-    },
     Case {
         name: "small values for no variable and a select",
         last: Last::Select(2, 0),

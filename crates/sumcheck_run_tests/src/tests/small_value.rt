@@ -1,5 +1,5 @@
 //! What small-value builds are refused for, and the lines of grids.
-use super::{Refusal, assert_refused};
+use super::{Case, Refusal, assert_cases, assert_refused};
 use sc_audit::{Grid, Grids, Report, Verdict};
 use sc_field::F65537;
 use sc_rounds::SumcheckData;
@@ -18,7 +18,7 @@ const SMALL: &str =
     "mode":{"build":{"small-value":2}}}"#;
 
 // What stands for the groups of that job, and why it is refused.
-static UNFIT: [Refusal; 8] = [
+static UNFIT: [Refusal; 10] = [
     (
         "GROUPS",
         r#"{"kind":"eq","claims":[{"point":[0,1],"value":2}]},
@@ -39,10 +39,10 @@ static UNFIT: [Refusal; 8] = [
     (
         "GROUPS",
         r#"{"kind":"next",
-        "claims":[{"selector":[],"point":[2,3],"order":"suffix","value":3}]}"#,
-        "unbuilt groups",
+        "claims":[{"selector":[],"point":[2,3],"order":"suffix","value":4}]}"#,
+        "false-claim 0 claimed 4 true 3",
     ),
-    // a statement that does not fit stands behind one that is not built yet
+    // a statement that does not fit stands behind one that does
     (
         "GROUPS",
         r#"{"kind":"next",
@@ -61,8 +61,22 @@ static UNFIT: [Refusal; 8] = [
     (
         "GROUPS",
         r#"{"kind":"eq","claims":[{"point":[0,1],"value":3}]},
-        {"kind":"next","claims":[{"selector":[],"point":[2,3],"order":"prefix","value":3}]}"#,
-        "unbuilt groups",
+        {"kind":"next","claims":[{"selector":[],"point":[2,3],"order":"prefix","value":4}]}"#,
+        "false-claim 0 claimed 3 true 2",
+    ),
+    (
+        "GROUPS",
+        r#"{"kind":"eq","claims":[{"point":[0,1],"value":2}]},
+        {"kind":"next","claims":[{"selector":[],"point":[2,3],"order":"prefix","value":3},
+            {"selector":[],"point":[2,3],"order":"prefix","value":4}]}"#,
+        "false-claim 2 claimed 4 true 3",
+    ),
+    // its value is true
+    (
+        "GROUPS",
+        r#"{"kind":"next",
+        "claims":[{"selector":[5],"point":[7],"order":"prefix","value":12}]}"#,
+        "strategy-unfit selector 0",
     ),
     (
         "GROUPS",
@@ -74,6 +88,58 @@ static UNFIT: [Refusal; 8] = [
 #[test]
 fn statements_that_small_value_rounds_do_not_take(rt: HostRuntime) {
     assert_refused(&rt, rt.alloc(), SMALL, &UNFIT);
+}
+
+// A successor on the table of the first job, built by so many small-value rounds.
+const SUCCESSOR: &str =
+    r#"{"field":"65537","challenger":{"draws":[3,4],"witnesses":[]},"order":"prefix","bits":0,
+    "table":[1,2,3,4],"variables":2,"groups":[{"kind":"next",
+    "claims":[{"selector":[],"point":[2,3],"order":"prefix","value":3}]}],"batching":1,
+    "mode":{"build":{"small-value":2}}}"#;
+
+const SUCCESSOR_SUFFIX: &str =
+    r#"{"field":"65537","challenger":{"draws":[3,4],"witnesses":[]},"order":"suffix","bits":0,
+    "table":[1,2,3,4],"variables":2,"groups":[{"kind":"next",
+    "claims":[{"selector":[],"point":[2,3],"order":"prefix","value":3}]}],"batching":1,
+    "mode":{"build":{"small-value":1}}}"#;
+
+// Both, with their reports.
+static SUCCESSORS: [Case; 2] = [
+    (
+        SUCCESSOR,
+        0,
+        "claim 3
+round 0: 4 65531 challenge 3
+round 1: 65474 11 challenge 4
+residual 385
+eval 11
+weight 35
+grid 0 zero 4
+grid 0 infinity 65531
+grid 1 zero 0 65528 65531
+grid 1 infinity 2 5 0
+verdict holds
+",
+    ),
+    (
+        SUCCESSOR_SUFFIX,
+        0,
+        "claim 3
+round 0: 65528 7 challenge 3
+round 1: 24 12 challenge 4
+residual 360
+eval 12
+weight 30
+grid 0 zero 65528
+grid 0 infinity 7
+verdict holds
+",
+    ),
+];
+
+#[test]
+fn small_value_rounds_take_successors(rt: HostRuntime) {
+    assert_cases(&rt, rt.alloc(), &SUCCESSORS);
 }
 
 // A job with a scalar, built by no small-value round; TABLE is its table.

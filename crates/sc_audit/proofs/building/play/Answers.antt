@@ -1,5 +1,6 @@
+use Rattle.sc_audit.specs.SmallRounds.{strategy_by}
 use Rattle.sc_audit.proofs.building.play.Goals as goal
 
--- the rounds that were built by the strategy are replayed
+-- the rounds that were built are replayed
 pub returns-clause-answers : goal.returns-clause-answers
-returns-clause-answers g c = c.replay.ensures.answers c.args.strategy c.in_ok-built.ensures
+returns-clause-answers g c = c.replay.ensures.answers (strategy_by c.args.way) c.in_ok-built.ensures

@@ -28,7 +28,7 @@ returns g c =
     let o = g.EF.Field.ops in
     let job = c.args.fitting.now.job.now in
     let p = problem_in job in
-    let q = asked_to job (build (SmallValue c.args.variables)) (g.C.Challenger.rules c.args.challenger.now) (g.C.Challenger.history c.args.challenger.now) in
+    let q = asked_to job (build (SmallValue (length (batch_in c.args.batch).grids))) (g.C.Challenger.rules c.args.challenger.now) (g.C.Challenger.history c.args.challenger.now) in
     let ring = g.met.EF.Field.is_field.ring in
     let degree = sym g.met.EF.ExtensionField.degree_is in
     let setting = same_setting q ring refl (prover_for o p) _ _ _ _ p.variables c.in_ok-copied.ensures.rules c.in_ok-copied.ensures.history refl c.new-rounds.ensures degree refl in
@@ -49,7 +49,7 @@ returns g c =
     let claim : N c.combine_evals.new.eval ≡ claim_of o p =
     claim-batched o _ _ (claim-alone o ring _ _ _ _ _ (ap N c.ZERO-claim.ensures ∙ g.met.EF.Field.zero_is) c.combine_evals.ensures) in
     built_case q ring refl _ setting start refl after _ _ _ _ _ whole claim evals weights (g.met.EF.Field.number_below _) (g.met.EF.Field.number_below _)
-    (c.into_grids.ensures ∙ batch_grids o p (batch_in c.in_ok-batch.batch) c.in_ok-batch.ensures.batch c.args.variables c.in_ok-batch.ensures.rounds)
+    (c.into_grids.ensures ∙ batch_grids o p (batch_in c.args.batch) c.requires.batch _ refl)
 
 -- they were refused
 pub returns-in-Err : goal.returns-in-Err
@@ -58,7 +58,7 @@ returns-in-Err g c =
     let o = g.EF.Field.ops in
     let job = c.args.fitting.now.job.now in
     let p = problem_in job in
-    let q = asked_to job (build (SmallValue c.args.variables)) (g.C.Challenger.rules c.args.challenger.now) (g.C.Challenger.history c.args.challenger.now) in
+    let q = asked_to job (build (SmallValue (length (batch_in c.args.batch).grids))) (g.C.Challenger.rules c.args.challenger.now) (g.C.Challenger.history c.args.challenger.now) in
     let ring = g.met.EF.Field.is_field.ring in
     let degree = sym g.met.EF.ExtensionField.degree_is in
     let setting = same_setting q ring refl (prover_for o p) _ _ _ _ p.variables c.in_ok-copied.ensures.rules c.in_ok-copied.ensures.history refl c.new-rounds.ensures degree refl in

@@ -1,0 +1,104 @@
+//! Which way the rounds of a job are built, where its statements are true.
+ghost use Rattle.std.specs.Prelude.{◌≡◌, None, IfOk, length};
+ghost use Rattle.sc_table.specs.declared.strategy.Strategy.TheVariants.{SmallValue};
+ghost use Rattle.sc_svo.specs.Batches.{batch_in};
+ghost use Rattle.sc_audit.specs.Fitting.{stated_in};
+ghost use Rattle.sc_audit.specs.Refusals.{strategy_refusal, false_refusal, refusal_in};
+ghost use Rattle.sc_audit.specs.SmallRounds.{IsBatchOf, strategy_by, IsReady, TestsClaims};
+
+use crate::claims::{claims_of, first_other};
+use crate::error::AuditError;
+use crate::shape::FittingJob;
+use sc_definitions::FalseClaim;
+use sc_field::{ExtensionField, Field};
+use sc_svo::SvoBatch;
+use sc_table::Strategy;
+use std::alloc::Global;
+
+// How rounds are built, with what that takes.
+#[derive(Drop)]
+pub(crate) enum Way<F: Field, EF: ExtensionField<F>> {
+    // On the job's own table.
+    Plain,
+    // On the tables of the images in a representation.
+    Represented,
+    // The first rounds are read off the grids of this batch.
+    SmallValue(SvoBatch<F, EF>),
+}
+
+// The way of a strategy that fits, unless a statement is false. The values that the statements are
+// on are computed once: those of small-value rounds come with the batch.
+pub(crate) fn way_of<F: Field, EF: ExtensionField<F>>(
+    alloc: Global,
+    fitting: &FittingJob<'_, F, EF>,
+    strategy: Strategy,
+) -> Result<Way<F, EF>, AuditError>
+    requires { strategy_refusal (stated_in fitting.now) strategy ≡ None }
+    ensures strategy { IfOk result (λ w. strategy_by w ≡ strategy) }
+    ensures ready { IfOk result (λ w. IsReady EF.ops (stated_in fitting.now) w) }
+    ensures tests { TestsClaims EF.ops (stated_in fitting.now) result }
+{
+    match strategy {
+        Strategy::Plain => {
+            check_claims(fitting)?;
+            Ok(Way::Plain)
+        }
+        Strategy::Represented => {
+            check_claims(fitting)?;
+            Ok(Way::Represented)
+        }
+        Strategy::SmallValue { variables } => {
+            let batch = true_batch(alloc, fitting, variables)?;
+            Ok(Way::SmallValue(batch))
+        }
+    }
+}
+
+// Refuses the first statement that is false of a job's table.
+fn check_claims<F: Field, EF: ExtensionField<F>>(
+    fitting: &FittingJob<'_, F, EF>,
+) -> Result<(), AuditError>
+    ensures { TestsClaims EF.ops (stated_in fitting.now) result }
+{
+    refuse(fitting.job.constraint.first_false(&fitting.job.table))
+}
+
+// The batch of a job's statements, with the grids of the rounds for so many variables, unless a
+// statement is false.
+fn true_batch<F: Field, EF: ExtensionField<F>>(
+    alloc: Global,
+    fitting: &FittingJob<'_, F, EF>,
+    variables: usize,
+) -> Result<SvoBatch<F, EF>, AuditError>
+    requires { strategy_refusal (stated_in fitting.now) (SmallValue variables) ≡ None }
+    ensures batch { IfOk result
+        (λ b. IsBatchOf EF.ops (stated_in fitting.now) (batch_in b)) }
+    ensures rounds { IfOk result (λ b. length (batch_in b).grids ≡ variables) }
+    ensures tests { TestsClaims EF.ops (stated_in fitting.now) result }
+{
+    let job = fitting.job;
+    let claimed = claims_of(alloc, &job.constraint)?;
+    let (batch, values) = SvoBatch::with_values(
+        alloc,
+        job.order,
+        &job.table,
+        &claimed.claims,
+        variables,
+    )?;
+    refuse(first_other(&claimed.values, &values))?;
+    Ok(batch)
+}
+
+// Refuses a statement that is false, if there is one.
+fn refuse(found: Option<FalseClaim>) -> Result<(), AuditError>
+    ensures { refusal_in result ≡ false_refusal found }
+{
+    match found {
+        Some(fault) => Err(AuditError::FalseClaim {
+            statement: fault.statement,
+            claimed: fault.claimed,
+            actual: fault.actual,
+        }),
+        None => Ok(()),
+    }
+}
