@@ -1,7 +1,7 @@
 #!/usr/bin/env python3
 """Measures `make N 7 STRATEGY` over a range of N, for several programs side by side, and draws time and memory.
 
-usage: bench/plot.py [--from N] [--to N] [--repeats N] [--strategy plain|represented] [--out FILE.svg] NAME=PROGRAM [NAME=PROGRAM ..]
+usage: bench/plot.py [--from N] [--to N] [--repeats N] [--strategy plain|represented|small-value] [--out FILE.svg] NAME=PROGRAM [NAME=PROGRAM ..]
 
 Each PROGRAM is a command line, to which the words of the job are appended; NAME is what the picture calls it. The
 programs run one after the other in each repeat. Printed are the medians of processor time, less that of a job of two
@@ -97,7 +97,7 @@ def main():
     arguments.add_argument("--from", dest="first", type=int, default=16)
     arguments.add_argument("--to", dest="last", type=int, default=24)
     arguments.add_argument("--repeats", type=int, default=9)
-    arguments.add_argument("--strategy", choices=["plain", "represented"], default="plain")
+    arguments.add_argument("--strategy", choices=["plain", "represented", "small-value"], default="plain")
     arguments.add_argument("--out")
     arguments.add_argument("programs", nargs="+")
     given = arguments.parse_args()

@@ -22,7 +22,8 @@ pub(crate) fn arity(len: usize) -> Option<usize>
     None
 }
 
-/// A job of the right shape: its table has a row for each choice of its statements' variables, of which there are at most the greatest number.
+/// A job of the right shape: its table has a row for each choice of its statements' variables, of
+/// which there are at most the greatest number.
 #[derive(Drop)]
 pub(crate) struct FittingJob<'a, F: Field, EF: ExtensionField<F>> {
     pub(crate) job: &'a Job<F, EF>,
@@ -33,8 +34,9 @@ pub(crate) struct FittingJob<'a, F: Field, EF: ExtensionField<F>> {
 impl<'a, F: Field, EF: ExtensionField<F>> FittingJob<'a, F, EF> {
     ghost use Rattle.sc_audit.specs.Fitting.{job_in};
 
-    /// The job, unless its table's number of rows is no power of two up to that of the greatest number of variables, its difficulty is above the greatest one,
-    /// or its statements are on another number of variables than the table has, in this order.
+    /// The job, unless its table's number of rows is no power of two up to that of the greatest
+    /// number of variables, its difficulty is above the greatest one, or its statements are on
+    /// another number of variables than the table has, in this order.
     pub(crate) fn of(job: &'a Job<F, EF>, max_bits: usize) -> Result<Self, AuditError>
         ensures same { IfOk result (λ f. job_in f ≡ job.now) }
         ensures shape { shape_by (arity_of (vec_len job.now.table)) max_bits (vec_len job.now.table) job.now.pow_bits (constraint_arity job.now.constraint) ≡ refusal_in result }

@@ -2,8 +2,9 @@
 
 ghost use Rattle.std.specs.Prelude.{◌≡◌, ◌≤◌, length, IfOk};
 ghost use Rattle.sc_table.specs.Polys.{variables_of};
+ghost use Rattle.sc_table.specs.Strategy.{order_of};
 ghost use Rattle.sc_svo.specs.Batches.{batch_in};
-ghost use Rattle.sc_svo.specs.Points.{point_in, near_in};
+ghost use Rattle.sc_svo.specs.Points.{point_in, near_in, order_in};
 
 mod claims;
 mod grids;
@@ -117,6 +118,7 @@ fn point_in_parts(
     l0: usize,
 ) -> Result<SvoPoint<F65537, F65537>, NoMemory>
     requires { l0 ≤ 2 }
+    ensures order { IfOk result (λ p. order_in p ≡ order_of order) }
     ensures point { IfOk result (λ p. length (point_in p) ≡ 2) }
     ensures near { IfOk result (λ p. length (near_in p) ≡ l0) }
 {

@@ -21,7 +21,8 @@ pub struct Recipe {
     pub variables: usize,
     /// The number that its values begin with, from 0 to 65536.
     pub number: u64,
-    /// How its rounds are built. Small-value rounds are for as many variables as there are, at most 8.
+    /// How its rounds are built. Small-value rounds are for as many variables as there are, at most
+    /// 8.
     pub strategy: Strategy,
 }
 

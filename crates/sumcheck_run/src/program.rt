@@ -96,7 +96,8 @@ fn read_input<S: Source>(alloc: Global, reads: bool, source: &mut S) -> Result<V
     read_all(alloc, source, MAX_INPUT)
 }
 
-// Makes the reply to an input that was read, and writes it. Nothing is written before the reply is whole.
+// Makes the reply to an input that was read, and writes it. Nothing is written before the reply is
+// whole.
 fn respond<K: Sink>(alloc: Global, command: Option<Command>, input: Vec<u8>, sink: &mut K) -> Status
     requires { CommandFits command }
     ensures responds { Responds K.taken K.faults (reply_of command input.items)

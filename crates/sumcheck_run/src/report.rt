@@ -159,7 +159,8 @@ fn report_text<F: Field, EF: ExtensionField<F>>(
     Ok(text)
 }
 
-// The lines of rounds, as far as there are messages and challenges, with as many witnesses as there are.
+// The lines of rounds, as far as there are messages and challenges, with as many witnesses as there
+// are.
 fn push_rounds<F: Field, EF: Field>(
     text: &mut String,
     messages: &[RoundMessage<EF>],

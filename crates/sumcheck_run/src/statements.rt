@@ -14,7 +14,8 @@ use sc_table::Point;
 use std::alloc::Global;
 use sumcheck_jobs::{EqualityClaim, Group, ProductClaim, ScalarClaim, SuccessorClaim};
 
-/// The groups of claims on tables of so many variables as groups of statements, with the element whose powers batch them.
+/// The groups of claims on tables of so many variables as groups of statements, with the element
+/// whose powers batch them.
 pub(crate) fn constraint_of<F: Field, EF: ExtensionField<F>>(
     alloc: Global,
     groups: &[Group],

@@ -4,13 +4,17 @@
 //! The equality weights of the point are 2, -3, -4 and 6. So its successor weights are 0, 2, -3 and
 //! -4 + 6, and the value is 2 * 2 - 3 * 3 + 4 * 2.
 
-ghost use Rattle.std.specs.Prelude.{◌≤◌};
+ghost use Rattle.std.specs.Prelude.{◌≡◌, ◌≤◌, length, IfOk};
+ghost use Rattle.sc_definitions.specs.Tables.{suffix};
+ghost use Rattle.sc_table.specs.Polys.{variables_of, table_of};
+ghost use Rattle.sc_svo.specs.Points.{point_in, near_in, order_in};
+ghost use Rattle.sc_svo.specs.Partials.{IsPartial};
 
 use super::{are_grids, claim, four, point_in_parts};
 use VariableOrder::{Prefix, Suffix};
-use sc_field::{F257x2, F65537, Field, NoMemory};
-use sc_svo::{NextPartials, NextSvoPartials, SvoBatch};
-use sc_table::{Point, VariableOrder};
+use sc_field::{ExtensionField, F257x2, F65537, Field, NoMemory};
+use sc_svo::{NextPartials, NextSvoPartials, SvoBatch, SvoPoint};
+use sc_table::{Point, Poly, VariableOrder};
 use sc_tests_common::{elements, have_numbers, of, point};
 use std::alloc::Global;
 
@@ -72,6 +76,7 @@ fn is_answer(value: F65537, found: &NextSvoPartials<F65537>, wanted: &[Tables]) 
             .all(|(parts, tables)| are_parts(parts, tables))
 }
 
+// Whether the value and the tables are these in prefix order.
 fn prefix_agrees(alloc: Global, l0: usize, wanted: &[Tables]) -> Result<bool, NoMemory>
     requires { l0 ≤ 2 }
 {
@@ -80,18 +85,34 @@ fn prefix_agrees(alloc: Global, l0: usize, wanted: &[Tables]) -> Result<bool, No
     Ok(is_answer(value, &found, wanted))
 }
 
-// The same with the partial table given, and without.
+// The partial table of the last round that may be given in suffix order.
+fn compressed<F: Field, EF: ExtensionField<F>>(
+    alloc: Global,
+    point: &SvoPoint<F, EF>,
+    table: &Poly<F>,
+) -> Result<Poly<EF>, NoMemory>
+    requires order { order_in point.now ≡ suffix }
+    requires arity { variables_of table.now ≡ length (point_in point.now) }
+    ensures { IfOk result (IsPartial suffix EF.ops EF.number
+        (λ b. EF.embedding (table_of F.number table.now b)) (point_in point.now)
+        (near_in point.now)) }
+{
+    point.z_split().compress_prefix(alloc, table.as_slice())
+}
+
+// In suffix order, with that table and without.
 fn suffix_agrees(alloc: Global, l0: usize, wanted: &[Tables]) -> Result<bool, NoMemory>
     requires { l0 ≤ 2 }
 {
     let point = point_in_parts(alloc, Suffix, l0)?;
     let table = four(alloc)?;
-    let given = point.z_split().compress_prefix(alloc, table.as_slice())?;
+    let given = compressed(alloc, &point, &table)?;
     let (value, found) = point.eval_next_suffix(alloc, &table, None)?;
     let (again, others) = point.eval_next_suffix(alloc, &table, Some(&given))?;
     Ok(is_answer(value, &found, wanted) && is_answer(again, &others, wanted))
 }
 
+// The same of the table's slice, in the given order.
 fn slice_agrees(
     alloc: Global,
     order: VariableOrder,
@@ -141,12 +162,17 @@ static BOUND: [Bound; 4] = [
 fn bound_agree(alloc: Global, wanted: &Bound) -> Result<bool, NoMemory> {
     let (order, scale, old, new) = *wanted;
     let at = point(alloc, &[5])?;
-    let mut rows: [F65537; 2] = [of(old[0]), of(old[1])];
     let scale: F65537 = of(scale);
-    let point = point_in_parts(alloc, order, 1)?;
+    let mut rows: [F65537; 2] = [of(old[0]), of(old[1])];
     match order {
-        Prefix => point.accumulate_next_prefix_into(&mut rows, &at, scale),
-        Suffix => point.accumulate_next_suffix_into(&mut rows, &at, scale),
+        Prefix => {
+            let point = point_in_parts(alloc, Prefix, 1)?;
+            point.accumulate_next_prefix_into(&mut rows, &at, scale);
+        }
+        Suffix => {
+            let point = point_in_parts(alloc, Suffix, 1)?;
+            point.accumulate_next_suffix_into(&mut rows, &at, scale);
+        }
     }
     Ok(have_numbers(&rows, &new))
 }
@@ -245,11 +271,14 @@ fn parts_are_the_answers_at_rows(rt: HostRuntime) {
 // second has 0, 3 * -3 and 2 * -3 at 0, and 1 * 2, 1 * 5 and 0 at infinity. In suffix order the
 // first has 3 * -3, and 1 * 2 + 1 * 5; the second has 0, 2 * 2 and 1 * 2 at 0, and 2 * -3, 2 * 0
 // and 0 at infinity.
-type Lists = (VariableOrder, [(&'static [u64], &'static [u64]); 2]);
+type Lists = (VariableOrder, &'static [(&'static [u64], &'static [u64])]);
 
 static GRIDS: [Lists; 2] = [
-    (Prefix, [(&[4], &[65531]), (&[0, 65528, 65531], &[2, 5, 0])]),
-    (Suffix, [(&[65528], &[7]), (&[0, 4, 2], &[65531, 0, 0])]),
+    (
+        Prefix,
+        &[(&[4], &[65531]), (&[0, 65528, 65531], &[2, 5, 0])],
+    ),
+    (Suffix, &[(&[65528], &[7]), (&[0, 4, 2], &[65531, 0, 0])]),
 ];
 
 fn grids_agree(alloc: Global, wanted: &Lists) -> Result<bool, NoMemory> {
@@ -263,7 +292,7 @@ fn grids_agree(alloc: Global, wanted: &Lists) -> Result<bool, NoMemory> {
         &claims,
         2,
     )?;
-    Ok(have_numbers(&values, &[3]) && are_grids(batch.grids(), &lists))
+    Ok(have_numbers(&values, &[3]) && are_grids(batch.grids(), lists))
 }
 
 #[test]
