@@ -6,7 +6,9 @@ use Rattle.std.proofs.lemmas.Bool.Decides.{eqb_tells}
 use Rattle.serde_json.specs.Data.{Data}
 use Rattle.serde_json.specs.View.{view, items_view}
 use Rattle.serde_json.specs.declared.value.Value.{Value}
+use Rattle.serde_json.specs.declared.value.Value.TheVariants.{Array}
 use Rattle.serde_json.specs.Find.{as_array}
+use Rattle.serde_json.proofs.Views.{view-Array}
 use Rattle.sc_forms.specs.Forms.{all_of, both_of, list_of, list_form, list_of_length_form, pair_form}
 
 -- one of them is not of the form
@@ -97,3 +99,12 @@ list_of_length_form_none f d vs n is other = of_other_length (list_form f d) n (
 -- a list that has this number of items
 pub list_of_length_form_of : {B : Type 0} (f : Data → Option B) (d : Data) (vs : List Value) (n : ℕ) (r : Option (List B)) → as_array d ≡ Some (items_view vs) → length vs ≡ n → all_of (λ x. f (view x)) vs ≡ r → list_of_length_form f n d ≡ r
 list_of_length_form_of f d vs n r is count e = of_this_length (list_form f d) r n (list_form_of f d vs r is e) (λ xs was. length-all_of (λ x. f (view x)) vs xs (e ∙ was) ∙ count)
+
+-- one more item that is of the form
+pub all_of_push : {A B : Type 0} (f : A → Option B) (xs : List A) (ys : List B) (x : A) (y : B) → all_of f xs ≡ Some ys → f x ≡ Some y → all_of f (xs ++ x ∷ []) ≡ Some (ys ++ y ∷ [])
+all_of_push f [] ys x y before e = rw e (ap (λ l. Some (l ++ y ∷ [])) (same_Some _ _ before))
+all_of_push f (z ∷ xs) ys x y before e = more_at (f z) _ _ ys y (λ zs was. all_of_push f xs zs x y was e) before
+
+-- the items of a list that was moved out of a value
+pub items-of_array : (v : Value) (vs : _) → v ≡ Array vs → as_array (view v) ≡ Some (items_view vs.items)
+items-of_array v vs is = ap (λ t. as_array (view t)) is ∙ ap as_array (view-Array vs)

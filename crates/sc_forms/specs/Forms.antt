@@ -21,10 +21,6 @@ at_most_form most d = option_and_then (λ n. if nat_le n most then Some n else N
 abbrev pub literal_form : List ℕ → Data → Option ⊤
 literal_form text d = option_and_then (λ s. if bytes_eq s text then Some tt else None) (as_str d)
 
--- no value
-abbrev pub no_form : Data → Option ⊤
-no_form d = None
-
 -- ---- lists
 
 -- the items of an array

@@ -55,6 +55,16 @@ pub trait Form {
         ensures not_of_form { IsErrOf result Misread.NotOfForm
             → reads self.now (view value.now) ≡ None }
         ensures fits { IfOk result (fits self.now) };
+
+    /// The same of a value that is given up. A long list is given up as it is read, item by item.
+    fn take(&self, alloc: Global, value: Value) -> Result<Self::Out, Misread>
+        ensures ok { IfOk result (λ x. reads self.now (view value) ≡ Some x) }
+        ensures not_of_form { IsErrOf result Misread.NotOfForm
+            → reads self.now (view value) ≡ None }
+        ensures fits { IfOk result (fits self.now) }
+    {
+        self.read(alloc, &value)
+    }
 }
 
 /// Whether the value is an object.
@@ -82,4 +92,23 @@ pub fn member<F: Form>(
         Some(found) => form.read(alloc, found),
         None => Err(Misread::NotOfForm),
     }
+}
+
+/// The same of an object that is given up.
+pub fn take_member<F: Form>(
+    alloc: Global,
+    form: &F,
+    mut value: Value,
+    name: &str,
+) -> Result<F::Out, Misread>
+    ensures ok { IfOk result (λ x. member_form (F.reads form.now) name.now (view value) ≡ Some x) }
+    ensures not_of_form { IsErrOf result Misread.NotOfForm
+        → member_form (F.reads form.now) name.now (view value) ≡ None }
+    ensures fits { IfOk result (F.fits form.now) }
+{
+    let Some(found) = value.get_mut(name) else {
+        return Err(Misread::NotOfForm);
+    };
+    let taken = found.take();
+    form.take(alloc, taken)
 }

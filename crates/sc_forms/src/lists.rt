@@ -40,6 +40,13 @@ impl<F: Form> Form for ListOf<F> {
         };
         Ok(Row::new(read_items(alloc, &self.item, items)?))
     }
+
+    fn take(&self, alloc: Global, value: Value) -> Result<Row<F::Out>, Misread> {
+        match value {
+            Value::Array(items) => Ok(Row::new(take_items(alloc, &self.item, items)?)),
+            _ => Err(Misread::NotOfForm),
+        }
+    }
 }
 
 impl<F: Form> Form for ListOfLength<F> {
@@ -93,4 +100,19 @@ fn read_items<F: Form>(alloc: Global, form: &F, items: &[Value]) -> Result<Vec<F
         found.push_reserved(form.read(alloc, item)?);
     }
     Ok(found)
+}
+
+// The same of items that are given up.
+fn take_items<F: Form>(alloc: Global, form: &F, items: Vec<Value>) -> Result<Vec<F::Out>, Misread>
+    ensures ok { IfOk result (λ v. all_of (λ x. F.reads form.now (view x)) items.items
+        ≡ Some v.items) }
+    ensures not_of_form { IsErrOf result Misread.NotOfForm
+        → all_of (λ x. F.reads form.now (view x)) items.items ≡ None }
+    ensures fits { IfOk result (λ v. All (F.fits form.now) v.items) }
+{
+    let mut taken = Vec::with_capacity(alloc, items.len())?;
+    for item in items {
+        taken.push_reserved(form.take(alloc, item)?);
+    }
+    Ok(taken)
 }

@@ -1,5 +1,5 @@
 // Forms of unsigned numbers.
-ghost use Rattle.std.specs.Prelude.{◌≡◌, ◌<◌, ◌≤◌, None, Some, IfOk, IsErrOf};
+ghost use Rattle.std.specs.Prelude.{◌≡◌, ◌<◌, ◌≤◌, None, Some, IfOk, IfSome, IsErrOf};
 ghost use Rattle.serde_json.specs.View.{view};
 ghost use Rattle.sc_forms.specs.Forms.{below_form, at_most_form};
 
@@ -19,6 +19,21 @@ pub struct AtMost {
     pub most: u64,
 }
 
+impl Below {
+    // The number, where there is one below the bound.
+    fn admit(&self, found: Option<u64>) -> Result<u64, Misread>
+        ensures ok { IfOk result (λ n. (found ≡ Some n) × (n < self.now.bound)) }
+        ensures not_of_form { IsErrOf result Misread.NotOfForm
+            → IfSome found (λ n. self.now.bound ≤ n) }
+        ensures memory { ¬ IsErrOf result Misread.NoMemory }
+    {
+        match found {
+            Some(n) if n < self.bound => Ok(n),
+            _ => Err(Misread::NotOfForm),
+        }
+    }
+}
+
 impl Form for Below {
     type Out = u64;
 
@@ -34,8 +49,19 @@ impl Form for Below {
         ensures fits { IfOk result (λ n. n < self.now.bound) }
         ensures memory { ¬ IsErrOf result Misread.NoMemory }
     {
-        match value.as_u64() {
-            Some(n) if n < self.bound => Ok(n),
+        self.admit(value.as_u64())
+    }
+
+    /// It takes no memory.
+    fn take(&self, _alloc: Global, value: Value) -> Result<u64, Misread>
+        ensures ok { IfOk result (λ n. below_form self.now.bound (view value) ≡ Some n) }
+        ensures not_of_form { IsErrOf result Misread.NotOfForm
+            → below_form self.now.bound (view value) ≡ None }
+        ensures fits { IfOk result (λ n. n < self.now.bound) }
+        ensures memory { ¬ IsErrOf result Misread.NoMemory }
+    {
+        match value {
+            Value::Number(number) => self.admit(number.as_u64()),
             _ => Err(Misread::NotOfForm),
         }
     }

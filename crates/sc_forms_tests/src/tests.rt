@@ -3,8 +3,8 @@ ghost use Rattle.std.specs.Prelude.{codes, option_and_then, option_map};
 ghost use Rattle.sc_forms.specs.Forms.{below_form, list_form, member_form};
 
 use sc_forms::{
-    AtMost, Below, Form, ListOf, ListOfLength, Misread, NoForm, NoValue, PairOf, is_object, member,
-    read_value,
+    AtMost, Below, Form, ListOf, ListOfLength, Misread, NoValue, PairOf, is_object, member,
+    read_value, take_member,
 };
 use sc_memory::Row;
 use serde_json::Value;
@@ -26,6 +26,16 @@ fn read_text<F: Form>(
     Ok(form.read(alloc, &value))
 }
 
+// The same of the value given up.
+fn take_text<F: Form>(
+    alloc: Global,
+    form: &F,
+    text: &str,
+) -> Result<Result<F::Out, Misread>, NoValue> {
+    let value = read_value(alloc, text.as_bytes())?;
+    Ok(form.take(alloc, value))
+}
+
 // That each text is read as this number in the form, or refused.
 fn assert_numbers<F: Form<Out = u64>, A: Abort>(
     rt: &A,
@@ -36,6 +46,8 @@ fn assert_numbers<F: Form<Out = u64>, A: Abort>(
     for (text, want) in rows {
         let read = read_text(alloc, form, *text).expect(rt, "JSON");
         assert_eq!(rt; read, *want, "{text}");
+        let taken = take_text(alloc, form, *text).expect(rt, "JSON");
+        assert_eq!(rt; taken, *want, "{text}, given up");
     }
 }
 
@@ -49,6 +61,12 @@ fn assert_lists<F: Form<Out = Row<u64>>, A: Abort>(
     for (text, want) in rows {
         let read = read_text(alloc, form, *text).expect(rt, "JSON");
         assert_eq!(rt; read.ok().expect(rt, "a list").as_slice(), *want, "{text}");
+        let taken = take_text(alloc, form, *text).expect(rt, "JSON");
+        assert_eq!(rt;
+            taken.ok().expect(rt, "a list").as_slice(),
+            *want,
+            "{text}, given up"
+        );
     }
 }
 
@@ -63,6 +81,8 @@ fn assert_faults<F: Form, A: Abort>(
     for text in texts {
         let read = read_text(alloc, form, *text).expect(rt, "JSON");
         assert_eq!(rt; read.err(), fault, "{text}");
+        let taken = take_text(alloc, form, *text).expect(rt, "JSON");
+        assert_eq!(rt; taken.err(), fault, "{text}, given up");
     }
 }
 
@@ -165,6 +185,9 @@ fn a_list_of_lists(rt: HostRuntime) {
     let read = read_text(rt.alloc(), &form, "[[1],[],[2,3]]").expect(&rt, "JSON");
     let rows = read.ok().expect(&rt, "lists");
     assert!(rt; are_rows(rows.as_slice(), &ROWS));
+    let taken = take_text(rt.alloc(), &form, "[[1],[],[2,3]]").expect(&rt, "JSON");
+    let rows = taken.ok().expect(&rt, "lists");
+    assert!(rt; are_rows(rows.as_slice(), &ROWS));
 }
 
 static PAIRS: [(u64, u64); 2] = [(1, 2), (3, 4)];
@@ -205,6 +228,12 @@ fn number_in(
     Ok((is_object(&value), member(alloc, &UNBOUNDED, &value, name)))
 }
 
+// The number that is the member of a name of an object that is given up.
+fn number_of(alloc: Global, text: &str, name: &str) -> Result<Result<u64, Misread>, NoValue> {
+    let value = read_value(alloc, text.as_bytes())?;
+    Ok(take_member(alloc, &UNBOUNDED, value, name))
+}
+
 static MEMBERS: [(&str, &str, (bool, Result<u64, Misread>)); 4] = [
     ("{\"a\":1,\"b\":[],\"a\":2}", "a", (true, Ok(2))),
     ("{\"a\":1,\"b\":[],\"a\":2}", "b", (true, REFUSED)),
@@ -217,6 +246,8 @@ fn of_a_member_that_stands_twice_the_last_counts(rt: HostRuntime) {
     for (text, name, want) in MEMBERS.iter() {
         let found = number_in(rt.alloc(), *text, *name).expect(&rt, "JSON");
         assert_eq!(rt; found, *want, "{name} of {text}");
+        let taken = number_of(rt.alloc(), *text, *name).expect(&rt, "JSON");
+        assert_eq!(rt; taken, (*want).1, "{name} of {text}, given up");
     }
 }
 
@@ -311,19 +342,15 @@ fn a_table_of_a_million_numbers_is_read(rt: HostRuntime) {
     let form = ListOf {
         item: Below { bound: 65_537 },
     };
-    let row = form.read(rt.alloc(), &value).ok().expect(&rt, "a table");
-    let numbers = row.as_slice();
-    assert_eq!(rt;
-        (numbers.len(), numbers.first(), numbers.last()),
-        (1 << 20, Some(&65_536), Some(&0))
-    );
-}
-
-static NEVER_READ: [&str; 4] = ["\"next\"", "9", "null", "{}"];
-
-#[test]
-fn no_value_is_of_no_form(rt: HostRuntime) {
-    assert_refused(&rt, rt.alloc(), &NoForm, &NEVER_READ);
+    let read = form.read(rt.alloc(), &value).ok().expect(&rt, "a table");
+    let taken = form.take(rt.alloc(), value).ok().expect(&rt, "a table");
+    for row in [read, taken] {
+        let numbers = row.as_slice();
+        assert_eq!(rt;
+            (numbers.len(), numbers.first(), numbers.last()),
+            (1 << 20, Some(&65_536), Some(&0))
+        );
+    }
 }
 
 #[test]

@@ -1,1 +1,2 @@
 pub mod GroupCounts
+pub mod RestLaws

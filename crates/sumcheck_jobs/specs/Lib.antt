@@ -3,3 +3,4 @@ pub mod Elements
 pub mod Statements
 pub mod Groups
 pub mod Job
+pub mod Rest

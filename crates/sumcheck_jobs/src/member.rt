@@ -3,7 +3,7 @@ ghost use Rattle.std.specs.Prelude.{◌≡◌, Ok, Err, IfOk};
 ghost use Rattle.serde_json.specs.View.{view};
 ghost use Rattle.sumcheck_jobs.specs.Members.{member_name, needed};
 
-use sc_forms::{Form, Misread, member};
+use sc_forms::{Form, Misread, member, take_member};
 use serde_json::Value;
 use std::alloc::Global;
 use thiserror::Error;
@@ -68,7 +68,35 @@ pub(crate) fn need<F: Form>(
 {
     match member(alloc, form, value, name.name()) {
         Ok(found) => Ok(found),
-        Err(Misread::NotOfForm) => Err(Unread::Misfit(name)),
-        Err(Misread::NoMemory) => Err(Unread::NoMemory),
+        Err(error) => Err(told_of(error, name)),
+    }
+}
+
+/// The same of an object that is given up.
+pub(crate) fn take<F: Form>(
+    alloc: Global,
+    form: &F,
+    value: Value,
+    name: Member,
+) -> Result<F::Out, Unread>
+    ensures ok { IfOk result (λ x. needed (F.reads form.now) name (view value) ≡ Ok x) }
+    ensures misfit { (m : Member) → result ≡ Err (Unread.Misfit m)
+        → needed (F.reads form.now) name (view value) ≡ Err m }
+    ensures fits { IfOk result (F.fits form.now) }
+{
+    match take_member(alloc, form, value, name.name()) {
+        Ok(found) => Ok(found),
+        Err(error) => Err(told_of(error, name)),
+    }
+}
+
+// Why the job is not read whose member of this name is not read.
+fn told_of(error: Misread, name: Member) -> Unread
+    ensures { (m : Member) → result ≡ Unread.Misfit m
+        → (error ≡ Misread.NotOfForm) × (m ≡ name) }
+{
+    match error {
+        Misread::NotOfForm => Unread::Misfit(name),
+        Misread::NoMemory => Unread::NoMemory,
     }
 }

@@ -3,12 +3,13 @@ ghost use Rattle.std.specs.Prelude.{◌≡◌, ◌<◌, Option, Some, None, Ok, 
 ghost use Rattle.serde_json.specs.View.{view};
 ghost use Rattle.sumcheck_jobs.specs.Elements.{field_form, order_form, sizes_of};
 ghost use Rattle.sumcheck_jobs.specs.Job.{JobFits, ProofFits, ModeFits, ScriptFits, ChallengerFits, challenger_form, check_form, job_of, members_over, mode_form, proof_form, script_form, strategy_form};
+ghost use Rattle.sumcheck_jobs.specs.Rest.{rest_over, RestFits};
 
 use crate::groups::GroupsForm;
-use crate::job::{Challenger, FieldName, Job, Mode, Proof, Script, Sizes};
-use crate::member::{Member, Unread, need};
+use crate::job::{Challenger, FieldName, Group, Job, Mode, Proof, Script, Sizes};
+use crate::member::{Member, Unread, need, take};
 use sc_forms::{AtMost, Below, Form, ListOf, Misread, PairOf, is_object, member};
-use sc_table::{Strategy, VariableOrder};
+use sc_table::{Row, Strategy, VariableOrder};
 use serde_json::Value;
 use std::alloc::Global;
 
@@ -209,37 +210,75 @@ impl Form for ModeForm {
     }
 }
 
-/// The job that a value describes, or its first member that is missing or not of its form.
-pub fn read_job(alloc: Global, value: &Value) -> Result<Job, Unread>
-    ensures job { IfOk result (λ job. job_of (view value.now) ≡ Ok job) }
+/// The job that a value describes, or its first member that is missing or not of its form. The
+/// value is given up, and its table as it is read.
+pub fn read_job(alloc: Global, value: Value) -> Result<Job, Unread>
+    ensures job { IfOk result (λ job. job_of (view value) ≡ Ok job) }
     ensures misfit { (m : Member) → result ≡ Err (Unread.Misfit m)
-        → job_of (view value.now) ≡ Err m }
+        → job_of (view value) ≡ Err m }
     ensures fits { IfOk result (λ job. JobFits (sizes_of job.field) job) }
 {
-    if !is_object(value) {
+    if !is_object(&value) {
         return Err(Unread::Misfit(Member::Whole));
     }
-    let field = need(alloc, &FieldForm, value, Member::Field)?;
+    let field = need(alloc, &FieldForm, &value, Member::Field)?;
     read_members(alloc, value, field, field.sizes())
 }
 
-// The members behind the field, which has these sizes.
-fn read_members(alloc: Global, value: &Value, field: FieldName, sizes: Sizes) -> Result<Job, Unread>
-    ensures job { IfOk result (λ job. members_over field sizes (view value.now) ≡ Ok job) }
+// The members behind the field, which has these sizes. The table is read last, since the value is
+// given up for it; where it is not of its form, it is told before those that stand behind it.
+fn read_members(alloc: Global, value: Value, field: FieldName, sizes: Sizes) -> Result<Job, Unread>
+    ensures job { IfOk result (λ job. members_over field sizes (view value) ≡ Ok job) }
     ensures misfit { (m : Member) → result ≡ Err (Unread.Misfit m)
-        → members_over field sizes (view value.now) ≡ Err m }
+        → members_over field sizes (view value) ≡ Err m }
     ensures field { IfOk result (λ job. job.field ≡ field) }
     ensures fits { IfOk result (λ job. JobFits sizes job) }
 {
     let challenger = ChallengerForm { sizes };
-    let challenger = need(alloc, &challenger, value, Member::Challenger)?;
-    let order = need(alloc, &OrderForm, value, Member::Order)?;
+    let challenger = need(alloc, &challenger, &value, Member::Challenger)?;
+    let order = need(alloc, &OrderForm, &value, Member::Order)?;
     let most = AtMost { most: MOST_BITS };
-    let bits = need(alloc, &most, value, Member::Bits)?;
+    let bits = need(alloc, &most, &value, Member::Bits)?;
+    let rest = read_rest(alloc, &value, sizes);
     let entries = ListOf {
         item: Below { bound: sizes.base },
     };
-    let table = need(alloc, &entries, value, Member::Table)?;
+    let table = take(alloc, &entries, value, Member::Table)?;
+    let Rest {
+        variables,
+        groups,
+        batching,
+        mode,
+    } = rest?;
+    Ok(Job {
+        field,
+        challenger,
+        order,
+        bits,
+        table,
+        variables,
+        groups,
+        batching,
+        mode,
+    })
+}
+
+// The members behind the table.
+#[derive(Drop)]
+struct Rest {
+    variables: u64,
+    groups: Row<Group>,
+    batching: u64,
+    mode: Mode,
+}
+
+// They are read in their order.
+fn read_rest(alloc: Global, value: &Value, sizes: Sizes) -> Result<Rest, Unread>
+    ensures rest { IfOk result (λ rest. rest_over sizes (view value.now) ≡ Ok rest) }
+    ensures misfit { (m : Member) → result ≡ Err (Unread.Misfit m)
+        → rest_over sizes (view value.now) ≡ Err m }
+    ensures fits { IfOk result (λ rest. RestFits sizes rest) }
+{
     let most = AtMost {
         most: MOST_VARIABLES,
     };
@@ -254,12 +293,7 @@ fn read_members(alloc: Global, value: &Value, field: FieldName, sizes: Sizes) ->
     };
     let batching = need(alloc, &challenge, value, Member::Batching)?;
     let mode = need(alloc, &ModeForm { sizes }, value, Member::Mode)?;
-    Ok(Job {
-        field,
-        challenger,
-        order,
-        bits,
-        table,
+    Ok(Rest {
         variables,
         groups,
         batching,

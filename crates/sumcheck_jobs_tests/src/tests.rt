@@ -34,7 +34,7 @@ const JOB: &str = r#"{"field":"65537","challenger":"hash","order":"prefix","bits
 fn build_of<A: Abort>(rt: &A, alloc: Global, mode: &str) -> Result<Option<Strategy>, Unread> {
     let text = JOB.replace(alloc, "MODE", mode).expect(rt, "memory");
     let value = read_value(alloc, text.as_bytes()).expect(rt, "JSON");
-    match read_job(alloc, &value)?.mode {
+    match read_job(alloc, value)?.mode {
         Mode::Build(strategy) => Ok(Some(strategy)),
         Mode::Check(_) => Ok(None),
     }

@@ -35,7 +35,8 @@ pub struct Status {
     pub code: u8,
 }
 
-// What `audit` replies to an input. The parsed value is given up before the job is judged.
+// What `audit` replies to an input. The bytes are given up before the value is read, and the value
+// before the job is judged.
 #[tactic(auto, unfolding(crate::specs::Program::too_long, crate::specs::Program::bad_json))]
 fn audit(alloc: Global, input: Vec<u8>) -> Result<Answer, NoMemory>
     ensures { IfOk result (λ a. a ≡ json_reply audit_reply input.items) }
@@ -49,9 +50,7 @@ fn audit(alloc: Global, input: Vec<u8>) -> Result<Answer, NoMemory>
         Err(NoValue::NoMemory) => return Err(NoMemory),
     };
     drop(input);
-    let job = read_job(alloc, &value);
-    drop(value);
-    match job {
+    match read_job(alloc, value) {
         Ok(job) => judge_job(alloc, job),
         Err(Unread::Misfit(member)) => refuse_misfit(alloc, member),
         Err(Unread::NoMemory) => Err(NoMemory),

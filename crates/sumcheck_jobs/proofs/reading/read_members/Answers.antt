@@ -1,4 +1,8 @@
+use Rattle.std.proofs.Common.{◌≡◌, Err, rules}
 use Rattle.std.proofs.lemmas.Result.{IfOk-from_err}
+use Rattle.serde_json.specs.View.{view}
+use Rattle.sumcheck_jobs.specs.declared.member.Unread.TheVariants.{Misfit}
+use Rattle.sumcheck_jobs.proofs.RestLaws.{rest_misfit, rest_ok}
 use Rattle.sumcheck_jobs.proofs.reading.read_members.Goals as goal
 
 -- a refusal tells nothing of an answer
@@ -38,29 +42,12 @@ returns-in_err-table-clause-field c = IfOk-from_err c.from_residual-in_err-table
 pub returns-in_err-table-clause-fits : goal.returns-in_err-table-clause-fits
 returns-in_err-table-clause-fits c = IfOk-from_err c.from_residual-in_err-table.result _ c.from_residual-in_err-table.ensures.0
 
-pub returns-in_err-variables-clause-job : goal.returns-in_err-variables-clause-job
-returns-in_err-variables-clause-job c = IfOk-from_err c.from_residual-in_err-variables.result _ c.from_residual-in_err-variables.ensures.0
+-- a member behind the table is told where the table is of its form
+pub returns-in_err-variables-clause-misfit : goal.returns-in_err-variables-clause-misfit
+returns-in_err-variables-clause-misfit c = λ m told.
+    let is : c.read_rest-rest.result ≡ Err (Misfit m) = search rules in
+    rest_misfit c.args.field c.args.sizes (view c.args.value) _ _ _ _ c.in_ok-challenger.ensures.ok c.in_ok-order.ensures.ok c.in_ok-bits.ensures.ok c.in_ok-table.ensures.ok m (c.read_rest-rest.ensures.misfit m is)
 
-pub returns-in_err-variables-clause-field : goal.returns-in_err-variables-clause-field
-returns-in_err-variables-clause-field c = IfOk-from_err c.from_residual-in_err-variables.result _ c.from_residual-in_err-variables.ensures.0
-
-pub returns-in_err-variables-clause-fits : goal.returns-in_err-variables-clause-fits
-returns-in_err-variables-clause-fits c = IfOk-from_err c.from_residual-in_err-variables.result _ c.from_residual-in_err-variables.ensures.0
-
-pub returns-in_err-groups-clause-job : goal.returns-in_err-groups-clause-job
-returns-in_err-groups-clause-job c = IfOk-from_err c.from_residual-in_err-groups.result _ c.from_residual-in_err-groups.ensures.0
-
-pub returns-in_err-groups-clause-field : goal.returns-in_err-groups-clause-field
-returns-in_err-groups-clause-field c = IfOk-from_err c.from_residual-in_err-groups.result _ c.from_residual-in_err-groups.ensures.0
-
-pub returns-in_err-groups-clause-fits : goal.returns-in_err-groups-clause-fits
-returns-in_err-groups-clause-fits c = IfOk-from_err c.from_residual-in_err-groups.result _ c.from_residual-in_err-groups.ensures.0
-
-pub returns-in_err-batching-clause-job : goal.returns-in_err-batching-clause-job
-returns-in_err-batching-clause-job c = IfOk-from_err c.from_residual-in_err-batching.result _ c.from_residual-in_err-batching.ensures.0
-
-pub returns-in_err-batching-clause-field : goal.returns-in_err-batching-clause-field
-returns-in_err-batching-clause-field c = IfOk-from_err c.from_residual-in_err-batching.result _ c.from_residual-in_err-batching.ensures.0
-
-pub returns-in_err-batching-clause-fits : goal.returns-in_err-batching-clause-fits
-returns-in_err-batching-clause-fits c = IfOk-from_err c.from_residual-in_err-batching.result _ c.from_residual-in_err-batching.ensures.0
+pub returns-clause-job : goal.returns-clause-job
+returns-clause-job c =
+    rest_ok c.args.field c.args.sizes (view c.args.value) _ _ _ _ c.in_ok-challenger.ensures.ok c.in_ok-order.ensures.ok c.in_ok-bits.ensures.ok c.in_ok-table.ensures.ok c.in_ok-variables.field-0 c.in_ok-variables.ensures.rest

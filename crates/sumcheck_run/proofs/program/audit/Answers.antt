@@ -31,11 +31,11 @@ pub returns-in-Err-Misfit : goal.returns-in-Err-Misfit
 returns-in-Err-Misfit c =
     IfOk-weaker c.refuse_misfit.result _ _
     (λ a is. is ∙ sym (replied c.args.input.items _ (Err c.in-Err-Misfit.member) (omega arith) (ap value_of (sym c.deref.ensures.value) ∙ c.in-Ok.ensures.ok)
-    (c.read_job-job.ensures.misfit c.in-Err-Misfit.member (search rules))))
+    (c.read_job.ensures.misfit c.in-Err-Misfit.member (search rules))))
     c.refuse_misfit.ensures
 
-pub returns-in-Ok-job : goal.returns-in-Ok-job
-returns-in-Ok-job c =
+pub returns-in-Ok-read_job : goal.returns-in-Ok-read_job
+returns-in-Ok-read_job c =
     IfOk-weaker c.judge_job.result _ _
-    (λ a is. is ∙ sym (replied c.args.input.items _ _ (omega arith) (ap value_of (sym c.deref.ensures.value) ∙ c.in-Ok.ensures.ok) c.in-Ok-job.ensures.job))
+    (λ a is. is ∙ sym (replied c.args.input.items _ _ (omega arith) (ap value_of (sym c.deref.ensures.value) ∙ c.in-Ok.ensures.ok) c.in-Ok-read_job.ensures.job))
     c.judge_job.ensures.reply
