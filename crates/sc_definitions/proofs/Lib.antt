@@ -32,3 +32,9 @@ pub mod NextPartialLaws
 pub mod NextPartialSteps
 pub mod PlacedSums
 pub mod HonestRounds
+pub mod RootLaws
+pub mod PolyLaws
+pub mod ProductLaws
+pub mod InterpolationLaws
+pub mod ProductRounds
+pub mod WorkedProducts

@@ -4,6 +4,7 @@ pub mod Sixteen
 pub mod Tables
 pub mod Shifts
 pub mod Polynomials
+pub mod Interpolation
 pub mod Rounds
 pub mod Messages
 pub mod Statements
@@ -20,3 +21,4 @@ pub mod Grids
 pub mod Partials
 pub mod Parts
 pub mod Combined
+pub mod Products

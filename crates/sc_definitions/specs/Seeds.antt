@@ -110,3 +110,12 @@ quadratic_separator degree basis bits rounds = separator 1 Quadratic (rounds_ste
 unfoldable pub quadratic_seed : ℕ → Basis → ℕ → ℕ → List ℕ
 quadratic_seed degree basis bits zero = []
 quadratic_seed degree basis bits (suc n) = seed_words (quadratic_separator degree basis bits (suc n))
+
+-- the separator of rounds of any degree, which send as many values each as the degree is: the claimed sum comes before the rounds
+abbrev pub degree_separator : ℕ → ℕ → ℕ → ℕ → Separator
+degree_separator parts degree bits rounds =
+    separator 1 GenericDegree (step Message parts Scalar ClaimedSum ∷ [] ++ rounds_steps parts degree bits rounds) []
+
+-- the seed of such rounds, over an extension whose elements have so many parts, of a degree, at a difficulty of so many bits
+unfoldable pub degree_seed : ℕ → ℕ → ℕ → ℕ → List ℕ
+degree_seed parts degree bits rounds = seed_words (degree_separator parts degree bits rounds)

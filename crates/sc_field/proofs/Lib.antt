@@ -12,3 +12,4 @@ pub mod DelayedPairs
 pub mod EntryLaws
 pub mod WrittenLaws
 pub mod ColumnLaws
+pub mod NodeLaws

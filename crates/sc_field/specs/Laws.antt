@@ -1,8 +1,9 @@
 -- Laws of sums and powers in a ring.
-use Rattle.std.specs.Prelude.{◌≡◌, ℕ, ◌+◌, List, map}
+use Rattle.std.specs.Prelude.{◌≡◌, ℕ, ◌+◌, ◌<◌, List, [], ◌∷◌, length, map, All}
 use Rattle.std.specs.Iterator.{Yields}
 use Rattle.sc_definitions.specs.Ring.{Ops, ◌+⟨◌⟩◌, ◌*⟨◌⟩◌, power}
 use Rattle.sc_definitions.specs.Tables.{sum_below}
+use Rattle.sc_definitions.specs.Polynomials.{poly_at, IsNoneOf}
 use Rattle.sc_field.specs.declared.powers.Powers.{Powers}
 use Rattle.sc_field.specs.Powers.{base_of, start_of, GivesPower, ArePowers}
 
@@ -43,3 +44,19 @@ abbrev pub ItemsArePowers : {F : Type 0} → Ops → (F → ℕ) → Type 0
 ItemsArePowers {F} o number =
     (s t : Powers F) (xs : List F) → Yields (GivesPower o number) s xs t →
     ArePowers o (number (start_of s)) (number (base_of s)) (map number xs)
+
+-- different elements
+abbrev pub AreNodes : Ops → List ℕ → Type 0
+AreNodes o [] = Unit {0}
+AreNodes o (x ∷ xs) = (x < o.size) × IsNoneOf x xs × AreNodes o xs
+
+-- two polynomials agree at each of these
+abbrev pub AgreeAt : Ops → List ℕ → List ℕ → List ℕ → Type 0
+AgreeAt o cs ds [] = Unit {0}
+AgreeAt o cs ds (x ∷ xs) = (poly_at o cs x ≡ poly_at o ds x) × AgreeAt o cs ds xs
+
+-- two polynomials of d + 1 coefficients, which are elements, that agree at d + 1 nodes are equal
+abbrev pub InterpolationIsUnique : Ops → Type 0
+InterpolationIsUnique o =
+    (nodes cs ds : List ℕ) → AreNodes o nodes → length cs ≡ length nodes → length ds ≡ length nodes →
+    All (λ c. c < o.size) cs → All (λ d. d < o.size) ds → AgreeAt o cs ds nodes → cs ≡ ds

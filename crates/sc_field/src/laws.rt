@@ -1,7 +1,9 @@
 //! Laws of every field, as contracts: a caller calls the function and has them.
 ghost use Rattle.std.specs.Prelude.{◌≡◌, ◌<◌, ◌≤◌, ◌^◌};
 ghost use Rattle.sc_definitions.specs.Ring.{IsField};
-ghost use Rattle.sc_field.specs.Laws.{SumsSplit, SumsAdd, SumsExchange, FactorMovesIn, PowerOfNone, PowersSplit, PowerOfProduct, ItemsArePowers};
+ghost use Rattle.sc_field.specs.Laws.{SumsSplit, SumsAdd, SumsExchange, FactorMovesIn, PowerOfNone};
+ghost use Rattle.sc_field.specs.Laws.{PowersSplit, PowerOfProduct, ItemsArePowers};
+ghost use Rattle.sc_field.specs.Laws.{InterpolationIsUnique};
 
 use crate::field::Field;
 
@@ -27,4 +29,9 @@ pub fn power_laws<F: Field>()
     ensures split { PowersSplit F.ops }
     ensures product { PowerOfProduct F.ops }
     ensures items { ItemsArePowers F.ops F.number }
+{}
+
+/// A polynomial of degree at most d is determined by its values at d + 1 different nodes.
+pub fn interpolation_laws<F: Field>()
+    ensures unique { InterpolationIsUnique F.ops }
 {}

@@ -9,7 +9,7 @@ mod pairs;
 mod sixteen;
 mod sums;
 
-use sc_field::laws::{field_laws, power_laws, sum_laws};
+use sc_field::laws::{field_laws, interpolation_laws, power_laws, sum_laws};
 use sc_field::{Algebra, ExtensionField, F65537, Field, FromTable, IntoTranscriptField, NoMemory};
 use std::alloc::Global;
 
@@ -104,4 +104,5 @@ fn maps_no_whole_table(rt: HostRuntime) {
 fn laws_are_calls(_rt: HostRuntime) {
     sum_laws::<F65537>();
     power_laws::<F65537>();
+    interpolation_laws::<F65537>();
 }
