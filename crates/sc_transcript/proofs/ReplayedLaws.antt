@@ -53,7 +53,7 @@ room_left len i n cap e lt le = omega arith
 pub witness_due : (bits n i k : ℕ) → 0 < bits → k ≡ witness_count bits n → i < n → i < k
 witness_due bits n i k p e lt = grind (arith, nat_tests)
 
-some_is_some : {W : Type 0} (w : Option W) → IsSome w → w ≡ None → ⊥
+pub some_is_some : {W : Type 0} (w : Option W) → IsSome w → w ≡ None → ⊥
 some_is_some None s e = cc
 some_is_some (Some x) s e = cc
 

@@ -1,6 +1,7 @@
 -- What one round appends, from what its calls append.
-use Rattle.std.proofs.Common.{◌≡◌, ℕ, zero, suc, ◌<◌, true, false, List, [], ◌∷◌, ◌++◌, replicate, refl, ap, sym, ◌∙◌, subst, append_assoc, arith}
-use Rattle.std.proofs.lemmas.List.{append-nil}
+use Rattle.std.proofs.Common.{◌≡◌, ℕ, zero, suc, ◌+◌, ◌<◌, true, false, List, [], ◌∷◌, ◌++◌, length, get_or, map, take, flat_map, replicate, refl, ap, sym, ◌∙◌, subst, append_assoc, arith}
+use Rattle.std.proofs.lemmas.List.{append-nil, map-append, take_more}
+use Rattle.std.proofs.lemmas.Grind.{flat_map-append}
 use Rattle.sc_definitions.specs.declared.events.Event.{Event}
 use Rattle.sc_definitions.specs.declared.events.Event.TheVariants.{Word, Draw, Test}
 use Rattle.sc_definitions.specs.Events.{Rules, Extension, words, extension_draw, IsFirstWitness, NonePasses}
@@ -15,6 +16,28 @@ use Rattle.sc_definitions.proofs.ReplayLaws.{sent-pair}
 pub pair_sent : (E : Extension) (c q : ℕ) (h h₁ h₂ : List Event) → h₁ ≡ h ++ words (E.parts c) → h₂ ≡ h₁ ++ words (E.parts q) → h₂ ≡ h ++ sent E (c ∷ q ∷ [])
 pair_sent E c q h h₁ h₂ first second =
     second ∙ ap (λ t. t ++ words (E.parts q)) first ∙ append_assoc h (words (E.parts c)) (words (E.parts q)) ∙ ap (λ t. h ++ t) (sym (sent-pair E c q))
+
+-- the words of one value more
+sent-append : (E : Extension) (xs : List ℕ) (x : ℕ) → sent E (xs ++ x ∷ []) ≡ sent E xs ++ words (E.parts x)
+unfolding sent
+sent-append E xs x =
+    ap words (flat_map-append E.parts xs (x ∷ []) ∙ ap (λ t. flat_map E.parts xs ++ t) (append-nil (E.parts x)))
+    ∙ map-append _ (flat_map E.parts xs) (E.parts x)
+
+-- no values have no words
+pub sent_none : (E : Extension) (h : List Event) → h ≡ h ++ sent E []
+unfolding sent
+sent_none E h = sym (append-nil h)
+
+-- values that are observed one after the other
+pub sent_more : {X : Type 0} (E : Extension) (number : X → ℕ) (values : List X) (i : ℕ) (x : X) (h h₁ h₂ : List Event) → i < length values → x ≡ get_or values i x →
+    h₁ ≡ h ++ sent E (map number (take i values)) → h₂ ≡ h₁ ++ words (E.parts (number x)) → h₂ ≡ h ++ sent E (map number (take (i + 1) values))
+sent_more E number values i x h h₁ h₂ low is before now =
+    let others = map number (take i values) in
+    let all : map number (take (i + 1) values) ≡ others ++ number x ∷ [] =
+    ap (map number) (take_more values i x low ∙ ap (λ y. take i values ++ y ∷ []) (sym is)) ∙ map-append number (take i values) (x ∷ []) in
+    now ∙ ap (λ t. t ++ words (E.parts (number x))) before ∙ append_assoc h (sent E others) (words (E.parts (number x)))
+    ∙ ap (λ t. h ++ t) (sym (sent-append E others (number x))) ∙ ap (λ t. h ++ sent E t) (sym all)
 
 -- what a positive difficulty appends
 pub tested_positive : (bits w : ℕ) (h h₁ : List Event) → 0 < bits → h₁ ≡ h ++ Word w ∷ Test bits ∷ [] → h₁ ≡ h ++ witness_events bits w

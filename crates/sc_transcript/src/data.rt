@@ -9,6 +9,7 @@ ghost use Rattle.sc_transcript.specs.Shapes.{shape_of, seeded, pair_round};
 ghost use Rattle.sc_transcript.specs.Data.{rounds_in, wire_in, witness_count};
 ghost use Rattle.sc_transcript.specs.Replayed.{Leaves, LeavesReplay, replay_of};
 
+use crate::driver::witness_at;
 use crate::error::SumcheckError;
 use crate::transcript::{ProverTranscript, SumcheckShape, VerifierTranscript};
 use sc_challenger::Challenger;
@@ -268,18 +269,5 @@ pub fn verify_final_sumcheck_rounds<F: Field, EF: ExtensionField<F>, C: Challeng
             expected_rounds: rounds,
         }),
         Some(found) => found.verify_rounds(alloc, challenger, claimed_sum, rounds, pow_bits, basis),
-    }
-}
-
-// The witness of a round, if one came.
-#[tactic(auto, using(crate::proofs::WitnessReads::reads))]
-fn witness_at<F: Field>(witnesses: &[F], i: usize) -> Option<F>
-    ensures number { option_map_or F.number result 0 ≡ slice_index_or (map F.number witnesses.now) i 0 }
-    ensures some { i < length witnesses.now → IsSome result }
-{
-    if i < witnesses.len() {
-        Some(witnesses[i])
-    } else {
-        None
     }
 }

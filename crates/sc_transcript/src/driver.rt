@@ -1,6 +1,7 @@
 //! What every driver of rounds does with its challenger, whatever its rounds send: the steps of a round in a seed, the room that its events take, and the
 //! round itself, for the prover and for the verifier. The drivers of quadratic rounds stand on it, and so can rounds that send other values.
-ghost use Rattle.std.specs.Prelude.{◌≡◌, ◌+◌, ◌*◌, ◌<◌, ◌≤◌, ◌^◌, ◌++◌, ℕ, List, None, length, IfOk, OnOk, OnErr, IsSome, true, false};
+ghost use Rattle.std.specs.Prelude.{◌≡◌, ◌+◌, ◌*◌, ◌<◌, ◌≤◌, ◌^◌, ◌++◌, ℕ, List, None, length, map};
+ghost use Rattle.std.specs.Prelude.{slice_index_or, IfOk, OnOk, OnErr, IsSome, true, false};
 ghost use Rattle.std.specs.Option.{option_map_or};
 ghost use Rattle.sc_definitions.specs.declared.events.Event.{Event};
 ghost use Rattle.sc_definitions.specs.Events.{IsFirstWitness, NonePasses};
@@ -9,7 +10,9 @@ ghost use Rattle.sc_definitions.specs.Channels.{channel};
 ghost use Rattle.sc_definitions.specs.Seeds.{round_steps};
 ghost use Rattle.sc_transcript.specs.Rounds.{events_of, LeavesSent, LeavesTaken};
 
-use sc_challenger::{Challenger, GrindError, Interaction, Kind, Label, Length, grind, sample_ext};
+use sc_challenger::{
+    Challenger, GrindError, Interaction, Kind, Label, Length, grind, observe_ext, sample_ext,
+};
 use sc_field::{ExtensionField, Field, NoMemory};
 use thiserror::Error;
 
@@ -64,6 +67,23 @@ pub fn events_in_round(degree: usize, values: usize, pow_bits: usize) -> usize
 {
     let words = (values + 1) * degree;
     if pow_bits == 0 { words } else { words + 2 }
+}
+
+/// Absorbs values in order, each part after part. There is room for them, and no more is taken.
+pub fn observe_values<F: Field, EF: ExtensionField<F>, C: Challenger<F>>(
+    challenger: &mut C,
+    values: &[EF],
+)
+    requires { length values.now * EF.DEGREE ≤ C.spare challenger.old }
+    ensures rules { C.rules challenger.new ≡ C.rules challenger.old }
+    ensures history { C.history challenger.new
+        ≡ C.history challenger.old ++ sent EF.extension (map EF.number values.now) }
+    ensures spare { C.spare challenger.old
+        ≤ C.spare challenger.new + length values.now * EF.DEGREE }
+{
+    for i in 0..values.len() {
+        observe_ext::<F, EF, C>(challenger, values[i]).unwrap();
+    }
 }
 
 /// Ends a round whose values were absorbed: at a positive difficulty appends the first witness that passes and its test, and draws the challenge. There is
@@ -177,5 +197,19 @@ fn test_witness<F: Field, C: Challenger<F>>(
         Tested::Passes
     } else {
         Tested::Fails
+    }
+}
+
+/// The witness of a round, if one came.
+#[tactic(auto, using(crate::proofs::WitnessReads::reads))]
+pub fn witness_at<F: Field>(witnesses: &[F], i: usize) -> Option<F>
+    ensures number { option_map_or F.number result 0
+        ≡ slice_index_or (map F.number witnesses.now) i 0 }
+    ensures some { i < length witnesses.now → IsSome result }
+{
+    if i < witnesses.len() {
+        Some(witnesses[i])
+    } else {
+        None
     }
 }

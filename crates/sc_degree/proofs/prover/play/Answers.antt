@@ -1,0 +1,39 @@
+use Rattle.std.proofs.Common.{◌+◌, refl, ap, sym, subst, ◌∙◌}
+use Rattle.sc_transcript.proofs.ReplayedLaws.{same_channel}
+use Rattle.sc_degree.specs.declared.transcript.GenericDegreeShape.{GenericDegreeShape}
+use Rattle.sc_degree.specs.Drivers.{driver_in, channel_of}
+use Rattle.sc_degree.specs.Plays.{HasPlayed}
+use Rattle.sc_degree.proofs.PlayLaws.{played-none, more_at, filled_as}
+use Rattle.sc_degree.proofs.prover.play.Goals as goal
+
+pub loop-round-init : goal.loop-round-init
+loop-round-init g c =
+    let begun = driver_in c.args.transcript.now in
+    let channel = channel_of g.EF.ExtensionField.extension begun in
+    let prover = g.P.RoundProver.meaning c.args.prover.now in
+    record {
+      continues = record { lender = refl; rules = refl; shape = refl };
+      count = c.requires.none;
+      filled = c.requires.filled;
+      claimed = refl;
+      played = subst (HasPlayed g.EF.Field.ops channel begun.history prover) (sym c.requires.empty) (played-none g.EF.Field.ops channel begun.history prover);
+    }
+
+-- one round more
+pub loop-round-preserved : goal.loop-round-preserved
+loop-round-preserved g c =
+    let inv = c.loop-round.invariant in
+    let round = c.in-Ok.ensures in
+    record {
+      continues = record {
+        lender = round.continues.lender ∙ inv.continues.lender;
+        rules = round.continues.rules ∙ inv.continues.rules;
+        shape = round.continues.shape ∙ inv.continues.shape;
+      };
+      count = round.count ∙ ap (λ n. n + 1) inv.count;
+      filled = filled_as _ _ _ _ _ inv.continues.shape (ap (λ n. n + 1) inv.count) round.filled;
+      claimed = round.claimed ∙ inv.claimed;
+      played = more_at _ _ _ _ _ _ _
+          (same_channel _ _ g.EF.ExtensionField.extension g.F.Field.ops.size _ _ inv.continues.rules (ap (λ (s : GenericDegreeShape). s.pow_bits) inv.continues.shape))
+          inv.played round.round;
+    }

@@ -1,0 +1,39 @@
+use Rattle.std.proofs.Common.{◌≡◌, ℕ, ◌+◌, ◌<◌, length, map, set, subst, ◌∙◌, ap, arith}
+use Rattle.sc_definitions.specs.Ring.{plus}
+use Rattle.sc_definitions.specs.Tables.{sum_below, entries}
+use Rattle.sc_definitions.proofs.LoopLaws.{entry-read}
+use Rattle.sc_table.specs.Polys.{table_of}
+use Rattle.sc_table.specs.Blocks.{HasWritten}
+use Rattle.sc_table.proofs.FoldLaws.{written-none, written-more}
+use Rattle.sc_degree.specs.Nodes.{node_of}
+use Rattle.sc_degree.specs.Lines.{lines_at}
+use Rattle.sc_degree.proofs.table_product.add_block.Goals as goal
+
+pub loop-index-init : goal.loop-index-init
+loop-index-init g c = written-none g.EF.Field.number _ 0 c.args.values.now
+
+pub loop-index-preserved : goal.loop-index-preserved
+loop-index-preserved g c =
+    let e = g.EF.Field in
+    let fs = map (table_of e.number) c.args.tables.now in
+    let low = c.args.low in
+    let high = c.args.high in
+    let size = length c.args.products.now in
+    let i = c.loop-index.index in
+    let old = c.args.values.now in
+    let new = c.loop-index.values in
+    let sum : ℕ → ℕ → ℕ = λ n x. sum_below e.ops n (λ b. lines_at e.ops fs (low + b) (high + b) x) in
+    let table : ℕ → ℕ = λ k. plus e.ops (entries e.number old k) (sum size (node_of k)) in
+    let inside : i < length new = omega (arith, c.loop-index-test.true, c.loop-index.auto.values) in
+    let at : 0 + i ≡ i = omega arith in
+    let back : i ≡ 0 + i = omega arith in
+    let row = entry-read e.number new i c.index-values-index.result inside c.index-values-index.is in
+    let same = c.loop-index.invariant.behind i (omega arith) in
+    let gained : e.number c.block_sum-gained.result ≡ sum size (node_of i) =
+    c.block_sum-gained.ensures ∙ ap (λ n. sum n (e.number c.transmitted_node-node.result)) c.loop-index.auto.products ∙ ap (sum size) c.transmitted_node-node.ensures in
+    subst (λ k. HasWritten e.number table 0 (i + 1) old (set new k c.add.result)) at
+    (written-more e.number table 0 i old new c.add.result (omega (arith, inside)) c.loop-index.invariant
+    (subst (λ k. e.number c.add.result ≡ table k) back (cc (c.add.ensures, row, same, gained))))
+
+pub returns : goal.returns
+returns g c = λ k low. c.loop-index.invariant.written k (omega arith) (omega (arith, low, c.loop-index-test.false))

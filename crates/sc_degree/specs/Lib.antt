@@ -1,0 +1,11 @@
+pub mod Shapes
+pub mod Drivers
+pub mod Nodes
+pub mod Interpolators
+pub mod Proofs
+pub mod Provers
+pub mod Plays
+pub mod Lines
+pub mod Arities
+pub mod Products
+pub mod Laws

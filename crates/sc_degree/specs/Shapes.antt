@@ -1,0 +1,19 @@
+-- What stands before the rounds of a degree.
+use Rattle.std.specs.Prelude.{ℕ, List, [], ◌∷◌, ◌++◌}
+use Rattle.sc_definitions.specs.declared.events.Event.{Event}
+use Rattle.sc_definitions.specs.Events.{Extension, words}
+use Rattle.sc_definitions.specs.Transcript.{sent}
+use Rattle.sc_definitions.specs.Seeds.{degree_seed}
+use Rattle.sc_degree.specs.declared.transcript.GenericDegreeShape.{GenericDegreeShape}
+
+-- the words that a batch begins with, over an extension whose elements have so many parts
+abbrev pub seed_of : ℕ → GenericDegreeShape → List ℕ
+seed_of parts shape = degree_seed parts shape.degree shape.pow_bits shape.num_rounds
+
+-- what stands before the first round: the seed's words, and the parts of the claimed sum
+abbrev pub prelude_of : Extension → GenericDegreeShape → ℕ → List Event
+prelude_of E shape claimed = words (seed_of E.degree shape) ++ sent E (claimed ∷ [])
+
+-- the shape of so many rounds of a degree, at a difficulty
+abbrev pub shape_of : ℕ → ℕ → ℕ → GenericDegreeShape
+shape_of num_rounds degree pow_bits = record { num_rounds = num_rounds; degree = degree; pow_bits = pow_bits }

@@ -1,0 +1,188 @@
+//! What plays rounds of any degree, and how it proves.
+ghost use Rattle.std.specs.Prelude.{◌≡◌, ◌+◌, ◌<◌, ◌≤◌, [], ◌∷◌, map, vec_len, IfOk, OnOk};
+ghost use Rattle.sc_definitions.specs.Interpolation.{node_values};
+ghost use Rattle.sc_definitions.specs.Channels.{channel};
+ghost use Rattle.sc_degree.specs.Shapes.{shape_of};
+ghost use Rattle.sc_degree.specs.Drivers.{driver_in, channel_of, Continues, HasRoundLeft};
+ghost use Rattle.sc_degree.specs.Provers.{Prover, IsFolded, play_of, LeavesPlay};
+ghost use Rattle.sc_degree.specs.Plays.{IsFilled, standing_in, fresh_standing, LeavesRound};
+ghost use Rattle.sc_degree.specs.Plays.{LeavesRounds};
+
+use crate::error::GenericDegreeError;
+use crate::played::Played;
+use crate::proof::GenericDegreeProof;
+use crate::transcript::{GenericDegreeShape, ProverTranscript};
+use sc_challenger::Challenger;
+use sc_field::{ExtensionField, Field, NoMemory};
+use sc_table::Point;
+use std::alloc::Global;
+
+/// What plays rounds of any degree: a polynomial of several variables, each of at most that degree,
+/// whose sum over all rows is claimed. Each round binds the first variable that is left.
+pub trait RoundProver<EF: Field> {
+    // The degree, how many variables are left, and the polynomial of the round behind each list of
+    // challenges.
+    ghost meaning: { Self → Prover };
+
+    /// The degree of the rounds' polynomials, which is how many values a round sends.
+    fn degree(&self) -> usize
+        ensures { result ≡ (meaning self.now).degree };
+
+    /// How many variables are left.
+    fn num_variables(&self) -> usize
+        ensures { result ≡ (meaning self.now).variables };
+
+    /// Binds the next variable at `r`. At least one is left.
+    fn fold(&mut self, r: EF)
+        requires { 0 < (meaning self.old).variables }
+        ensures { IsFolded (EF.number r ∷ []) (meaning self.old) (meaning self.new) };
+
+    /// The values of the next round's polynomial at node 0 and at the nodes from 2 to the degree,
+    /// as many as the degree. A variable is left, and the nodes are elements.
+    fn round_poly(&self, alloc: Global) -> Result<Vec<EF>, NoMemory>
+        requires left { 0 < (meaning self.now).variables }
+        requires nodes { (meaning self.now).degree < EF.ops.size }
+        ensures { IfOk result (λ v. map EF.number v.items
+            ≡ node_values EF.ops (meaning self.now).degree ((meaning self.now).polynomial [])) };
+
+    /// Plays so many rounds, and answers the proof and the challenges in drawing order. The claimed
+    /// sum is observed as it is given, and not tested.
+    ///
+    /// The degree is the prover's own, from one on, and its nodes are elements; there are at most
+    /// as many rounds as variables are left, and the difficulty is at most the challenger's
+    /// [`Challenger::max_bits`].
+    ///
+    /// `NoWitness` names the round in which the difficulty is positive and no element of the base
+    /// field passes; the history then ends with that round's values, and the prover has folded in
+    /// the challenges of the rounds before it. After `NoMemory` history and prover are as they
+    /// were, or are those behind the seed, the claimed sum and some of the rounds.
+    final fn prove<F: Field, C: Challenger<F>>(
+        &mut self,
+        alloc: Global,
+        challenger: &mut C,
+        num_rounds: usize,
+        degree: usize,
+        pow_bits: usize,
+        claimed_sum: EF,
+    ) -> Result<(GenericDegreeProof<F, EF>, Point<EF>), GenericDegreeError>
+    where
+        EF: ExtensionField<F>,
+        requires degree { degree ≡ (meaning self.old).degree }
+        requires some { 1 ≤ degree }
+        requires nodes { degree < EF.ops.size }
+        requires variables { num_rounds ≤ (meaning self.old).variables }
+        requires difficulty { pow_bits ≤ (C.rules challenger.old).max_bits }
+        ensures rules { C.rules challenger.new ≡ C.rules challenger.old }
+        ensures left { LeavesPlay F.number EF.number (play_of EF.ops
+            (channel (C.rules challenger.old) EF.extension F.ops.size pow_bits)
+            (shape_of num_rounds degree pow_bits) (EF.number claimed_sum)
+            (C.history challenger.old)) (meaning self.old) (meaning self.new) result
+            (C.history challenger.new) }
+    {
+        let shape = GenericDegreeShape::new(num_rounds, degree, pow_bits);
+        play_batch(alloc, self, challenger, shape, claimed_sum)
+    }
+}
+
+// Makes room for what a batch plays, begins it, and plays its rounds.
+fn play_batch<F: Field, EF: ExtensionField<F>, C: Challenger<F>, P: RoundProver<EF>>(
+    alloc: Global,
+    prover: &mut P,
+    challenger: &mut C,
+    shape: GenericDegreeShape,
+    claimed_sum: EF,
+) -> Result<(GenericDegreeProof<F, EF>, Point<EF>), GenericDegreeError>
+    requires degree { shape.degree ≡ (P.meaning prover.old).degree }
+    requires nodes { shape.degree < EF.ops.size }
+    requires variables { shape.num_rounds ≤ (P.meaning prover.old).variables }
+    requires difficulty { shape.pow_bits ≤ (C.rules challenger.old).max_bits }
+    ensures rules { C.rules challenger.new ≡ C.rules challenger.old }
+    ensures left { LeavesPlay F.number EF.number (play_of EF.ops
+        (channel (C.rules challenger.old) EF.extension F.ops.size shape.pow_bits)
+        shape (EF.number claimed_sum) (C.history challenger.old))
+        (P.meaning prover.old) (P.meaning prover.new) result (C.history challenger.new) }
+{
+    let mut played = Played::new(alloc, shape, claimed_sum)?;
+    shape.begin::<F, EF, C>(alloc, challenger, claimed_sum)?;
+    let mut transcript = ProverTranscript::over(challenger, shape);
+    match play(alloc, prover, &mut transcript, &mut played) {
+        Ok(()) => {
+            transcript.finish();
+            Ok((played.proof, Point::new(played.challenges)))
+        }
+        Err(error) => {
+            transcript.abort();
+            Err(error)
+        }
+    }
+}
+
+// Plays all rounds of a batch that was begun.
+fn play<F: Field, EF: ExtensionField<F>, C: Challenger<F>, P: RoundProver<EF>>(
+    alloc: Global,
+    prover: &mut P,
+    transcript: &mut ProverTranscript<'_, C, F, EF>,
+    played: &mut Played<F, EF>,
+) -> Result<(), GenericDegreeError>
+    requires degree { (driver_in transcript.old).shape.degree ≡ (P.meaning prover.old).degree }
+    requires nodes { (P.meaning prover.old).degree < EF.ops.size }
+    requires variables { (driver_in transcript.old).shape.num_rounds
+        ≤ (P.meaning prover.old).variables }
+    requires none { (driver_in transcript.old).played ≡ 0 }
+    requires filled { IsFilled (driver_in transcript.old).shape 0 played.old }
+    requires empty { standing_in F.number EF.number
+        (P.meaning prover.old) (driver_in transcript.old).history played.old
+        ≡ fresh_standing (P.meaning prover.old) (driver_in transcript.old).history }
+    ensures continues { Continues (driver_in transcript.old) (driver_in transcript.new) }
+    ensures claimed { EF.number played.new.proof.claimed_sum
+        ≡ EF.number played.old.proof.claimed_sum }
+    ensures all { OnOk result ((driver_in transcript.new).played
+        ≡ (driver_in transcript.old).shape.num_rounds) }
+    ensures rounds { LeavesRounds EF.ops (channel_of EF.extension (driver_in transcript.old))
+        (driver_in transcript.old).shape.num_rounds (driver_in transcript.old).history
+        (P.meaning prover.old) (standing_in F.number EF.number
+        (P.meaning prover.new) (driver_in transcript.new).history played.new) result }
+{
+    let shape = transcript.shape();
+    for _round in 0..shape.num_rounds {
+        match play_round(alloc, prover, transcript, played) {
+            Ok(()) => {}
+            Err(error) => return Err(error),
+        }
+    }
+    Ok(())
+}
+
+// Plays the next round: sends what the prover says, and folds in the challenge.
+fn play_round<F: Field, EF: ExtensionField<F>, C: Challenger<F>, P: RoundProver<EF>>(
+    alloc: Global,
+    prover: &mut P,
+    transcript: &mut ProverTranscript<'_, C, F, EF>,
+    played: &mut Played<F, EF>,
+) -> Result<(), GenericDegreeError>
+    requires left { HasRoundLeft (driver_in transcript.old) }
+    requires degree { (driver_in transcript.old).shape.degree ≡ (P.meaning prover.old).degree }
+    requires nodes { (P.meaning prover.old).degree < EF.ops.size }
+    requires variables { 0 < (P.meaning prover.old).variables }
+    requires filled { IsFilled (driver_in transcript.old).shape
+        (driver_in transcript.old).played played.old }
+    ensures continues { Continues (driver_in transcript.old) (driver_in transcript.new) }
+    ensures claimed { EF.number played.new.proof.claimed_sum
+        ≡ EF.number played.old.proof.claimed_sum }
+    ensures count { OnOk result ((driver_in transcript.new).played
+        ≡ (driver_in transcript.old).played + 1) }
+    ensures filled { OnOk result (IsFilled (driver_in transcript.old).shape
+        ((driver_in transcript.old).played + 1) played.new) }
+    ensures round { LeavesRound EF.ops (channel_of EF.extension (driver_in transcript.old))
+        (driver_in transcript.old).played
+        (standing_in F.number EF.number
+        (P.meaning prover.old) (driver_in transcript.old).history played.old)
+        (standing_in F.number EF.number
+        (P.meaning prover.new) (driver_in transcript.new).history played.new) result }
+{
+    let values = prover.round_poly(alloc)?;
+    let (challenge, witness) = transcript.round(&values)?;
+    prover.fold(challenge);
+    played.push(transcript.shape(), values, witness, challenge);
+    Ok(())
+}

@@ -1,0 +1,27 @@
+use Rattle.std.proofs.Common.{refl, ◌∙◌, arith}
+use Rattle.sc_transcript.proofs.RoundWords.{sent_none, sent_more}
+use Rattle.sc_transcript.proofs.RoundRoom.{room_for_one}
+use Rattle.sc_transcript.proofs.driver.observe_values.Goals as goal
+
+pub loop-i-init : goal.loop-i-init
+loop-i-init g c = record {
+  rules = refl;
+  history = sent_none g.EF.ExtensionField.extension _;
+  room = omega (arith, c.requires);
+  spare = omega arith;
+}
+
+-- a value more is its parts more
+pub loop-i-preserved : goal.loop-i-preserved
+loop-i-preserved g c =
+    let told = c.observe_ext.ensures in
+    let went = c.unwrap.ensures in
+    let appended = rw went at told.ok in
+    let left = rw went at told.spare in
+    let before = c.loop-i.invariant in
+    record {
+      rules = told.rules ∙ before.rules;
+      history = sent_more g.EF.ExtensionField.extension g.EF.Field.number c.args.values.now c.loop-i.i _ _ _ _ c.loop-i-test.true c.index-values-i.is before.history appended;
+      room = omega (arith, before.room, left);
+      spare = omega (arith, before.spare, left);
+    }

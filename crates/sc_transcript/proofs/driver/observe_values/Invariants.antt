@@ -1,0 +1,15 @@
+use Rattle.std.proofs.Common.{◌≡◌, ◌+◌, ◌*◌, ◌≤◌, ◌++◌, length, map, take}
+use Rattle.sc_definitions.specs.Transcript.{sent}
+use Rattle.sc_transcript.proofs.driver.observe_values.Given as goal
+
+abbrev pub invariant-loop-i : goal.invariant-loop-i
+invariant-loop-i g l =
+    let c = g.C.Challenger in
+    let parts = g.EF.ExtensionField.DEGREE in
+    record {
+      rules : c.rules l.challenger ≡ c.rules l.initial.challenger;
+      history : c.history l.challenger
+          ≡ c.history l.initial.challenger ++ sent g.EF.ExtensionField.extension (map g.EF.Field.number (take l.i l.values));
+      room : length l.values * parts ≤ c.spare l.challenger + l.i * parts;
+      spare : c.spare l.initial.challenger ≤ c.spare l.challenger + l.i * parts;
+    }
