@@ -12,3 +12,4 @@ pub mod CountLaws
 pub mod CheckedReports
 pub mod CauseLaws
 pub mod AgreeingBuilds
+pub mod StatedLaws

@@ -6,5 +6,6 @@ pub mod Figures
 pub mod Audits
 pub mod Built
 pub mod SmallRounds
+pub mod Stated
 pub mod Checked
 pub mod Laws

@@ -31,6 +31,8 @@ use Rattle.sc_rounds.specs.Standings.{Batch as Rounds, batch_at, PlaysWhole}
 use Rattle.sc_svo.specs.Claims.{claims_in}
 use Rattle.sc_svo.specs.Batches.{Batch, batch_in, IsTableOf}
 use Rattle.sc_audit.specs.declared.job.Job.{Job}
+use Rattle.sc_audit.specs.declared.job.Mode.{Mode}
+use Rattle.sc_audit.specs.declared.job.Mode.TheVariants.{Build}
 use Rattle.sc_audit.specs.declared.error.AuditError.{AuditError}
 use Rattle.sc_audit.specs.declared.error.AuditError.TheVariants.{NoMemory}
 use Rattle.sc_audit.specs.declared.claims.Claimed.{Claimed}
@@ -104,6 +106,11 @@ module _ {F EF : Type 0} {f : FieldOf F} {q : PartialEqOf F} {x : ExtensionOf EF
   abbrev pub IsReady : Ops → Problem → Way F EF f q x a e r → Type 0
   IsReady o p (ways.SmallValue batch) = IsBatchOf o p (batch_in batch)
   IsReady o p way = Unit {0}
+
+  -- it is that of the build that is asked for, and takes nothing
+  abbrev pub IsSimpleWay : Mode F EF → Way F EF f q x a e r → Type 0
+  IsSimpleWay mode (ways.SmallValue batch) = ⊥
+  IsSimpleWay mode way = mode ≡ Build (strategy_by way)
 
 -- ---- its rounds
 

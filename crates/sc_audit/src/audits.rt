@@ -1,16 +1,19 @@
-//! The one call.
-ghost use Rattle.std.specs.Prelude.{◌≡◌, IfOk, IfErr};
-ghost use Rattle.sc_audit.specs.Cases.{asked_of, task_in};
-ghost use Rattle.sc_audit.specs.Refusals.{refusal_of};
+//! The calls.
+ghost use Rattle.std.specs.Prelude.{◌≡◌, IfOk, IfErr, IfSome};
+ghost use Rattle.sc_audit.specs.Cases.{asked_of, problem_in, task_in};
+ghost use Rattle.sc_audit.specs.Refusals.{refusal_of, shape_refusal};
 ghost use Rattle.sc_audit.specs.Figures.{report_in};
 ghost use Rattle.sc_audit.specs.Audits.{Answers, IsRefusedBy, HoldsIfBuilt, IsValid, MayMeet};
+ghost use Rattle.sc_audit.specs.Stated.{IsRestated, IsWayOf, LeavesStated};
 
-use crate::building::build;
+use crate::building::{build, play};
 use crate::checking::check;
 use crate::error::AuditError;
 use crate::job::{Job, Mode};
 use crate::report::Report;
 use crate::shape::FittingJob;
+use crate::stating::state_truth;
+use crate::ways::Way;
 use sc_challenger::Challenger;
 use sc_field::{ExtensionField, Field, IntoTranscriptField};
 use std::alloc::Global;
@@ -42,9 +45,77 @@ pub fn audit<F: Field, EF: ExtensionField<F>, R: IntoTranscriptField<EF>, C: Cha
     // A valid job is answered.
     ensures answered { IsValid (asked_of job.now (C.rules challenger.old) (C.history challenger.old)) → IfErr result MayMeet }
 {
+    audit_by::<F, EF, R, C>(alloc, job, None, challenger)
+}
+
+/// As [`audit`], of the job whose statements claim their true values, which are put in place of
+/// what they claim. What they claim before makes no difference, and a build tests none of them.
+///
+/// All else of the job stays, and so does what it claims where its shape is refused. After
+/// [`AuditError::NoMemory`] the statements claim what they did, or their true values. A build by
+/// small-value rounds that fit finds the true values on the way to its grids; for any other job
+/// each statement takes a pass over the table, and no memory.
+pub fn audit_true<F: Field, EF: ExtensionField<F>, R: IntoTranscriptField<EF>, C: Challenger<F>>(
+    alloc: Global,
+    job: &mut Job<F, EF>,
+    challenger: &mut C,
+) -> Result<Report<F, EF>, AuditError>
+    ensures rules { C.rules challenger.new ≡ C.rules challenger.old }
+
+    // All of the job stays but what its statements claim.
+    ensures kept { IsRestated job.old job.new }
+
+    // They claim their true values, unless the shape is refused; after want of memory these or the
+    // old ones.
+    ensures stated { LeavesStated
+        (shape_refusal (asked_of job.old (C.rules challenger.old) (C.history challenger.old)))
+        EF.ops (problem_in job.old) (problem_in job.new) result }
+
+    // What is answered is said of the job as it is then, as by `audit`.
+    ensures answers { Answers F.number EF.number
+        (refusal_of (asked_of job.new (C.rules challenger.old) (C.history challenger.old)))
+        (asked_of job.new (C.rules challenger.old) (C.history challenger.old))
+        result (C.history challenger.new) }
+    ensures holds { IfOk result (λ r. HoldsIfBuilt (task_in F.number EF.number job.new.mode)
+        (report_in F.number EF.number r).figures) }
+    ensures refused { IsRefusedBy
+        (refusal_of (asked_of job.new (C.rules challenger.old) (C.history challenger.old))) result }
+    ensures answered { IsValid
+        (asked_of job.new (C.rules challenger.old) (C.history challenger.old))
+        → IfErr result MayMeet }
+{
+    let way = state_truth(alloc, job, challenger.max_bits())?;
+    audit_by::<F, EF, R, C>(alloc, job, way, challenger)
+}
+
+// As `audit`. A way that is given is that of the job's build, whose statements are true: they are
+// not tested then.
+fn audit_by<F: Field, EF: ExtensionField<F>, R: IntoTranscriptField<EF>, C: Challenger<F>>(
+    alloc: Global,
+    job: &Job<F, EF>,
+    way: Option<Way<F, EF>>,
+    challenger: &mut C,
+) -> Result<Report<F, EF>, AuditError>
+    requires { IfSome way (IsWayOf job.now) }
+    ensures rules { C.rules challenger.new ≡ C.rules challenger.old }
+    ensures answers { Answers F.number EF.number
+        (refusal_of (asked_of job.now (C.rules challenger.old) (C.history challenger.old)))
+        (asked_of job.now (C.rules challenger.old) (C.history challenger.old))
+        result (C.history challenger.new) }
+    ensures holds { IfOk result (λ r. HoldsIfBuilt (task_in F.number EF.number job.now.mode)
+        (report_in F.number EF.number r).figures) }
+    ensures refused { IsRefusedBy
+        (refusal_of (asked_of job.now (C.rules challenger.old) (C.history challenger.old))) result }
+    ensures answered { IsValid
+        (asked_of job.now (C.rules challenger.old) (C.history challenger.old))
+        → IfErr result MayMeet }
+{
     let fitting = FittingJob::of(job, challenger.max_bits())?;
     match &job.mode {
-        Mode::Build(strategy) => build::<F, EF, R, C>(alloc, &fitting, *strategy, challenger),
+        Mode::Build(strategy) => match way {
+            Some(way) => play::<F, EF, R, C>(alloc, &fitting, way, challenger),
+            None => build::<F, EF, R, C>(alloc, &fitting, *strategy, challenger),
+        },
         Mode::Check(proof) => check(alloc, &fitting, proof, challenger),
     }
 }

@@ -46,7 +46,7 @@ pub(crate) fn build<F: Field, EF: ExtensionField<F>, R: IntoTranscriptField<EF>,
 
 // Builds the rounds of a job whose statements are true on a copy of the challenger, and replays
 // them on the challenger itself.
-fn play<F: Field, EF: ExtensionField<F>, R: IntoTranscriptField<EF>, C: Challenger<F>>(
+pub(crate) fn play<F: Field, EF: ExtensionField<F>, R: IntoTranscriptField<EF>, C: Challenger<F>>(
     alloc: Global,
     fitting: &FittingJob<'_, F, EF>,
     way: Way<F, EF>,

@@ -15,10 +15,11 @@ pub mod laws;
 mod report;
 mod shape;
 mod small_value;
+mod stating;
 mod strategies;
 mod ways;
 
-pub use audits::audit;
+pub use audits::{audit, audit_true};
 pub use error::{AuditError, FitFault, Form, ShapeFault};
 pub use job::{Job, Mode};
 pub use report::{Report, Verdict};

@@ -1,5 +1,6 @@
 //! Which way the rounds of a job are built, where its statements are true.
-ghost use Rattle.std.specs.Prelude.{◌≡◌, None, IfOk, length};
+ghost use Rattle.std.specs.Prelude.{◌≡◌, None, IfOk, length, map};
+ghost use Rattle.sc_definitions.specs.Statements.{claimed_values, true_values};
 ghost use Rattle.sc_table.specs.declared.strategy.Strategy.TheVariants.{SmallValue};
 ghost use Rattle.sc_svo.specs.Batches.{batch_in};
 ghost use Rattle.sc_audit.specs.Fitting.{stated_in};
@@ -10,7 +11,7 @@ use crate::claims::{claims_of, first_other};
 use crate::error::AuditError;
 use crate::shape::FittingJob;
 use sc_definitions::FalseClaim;
-use sc_field::{ExtensionField, Field};
+use sc_field::{ExtensionField, Field, NoMemory};
 use sc_svo::SvoBatch;
 use sc_table::Strategy;
 use std::alloc::Global;
@@ -76,17 +77,49 @@ fn true_batch<F: Field, EF: ExtensionField<F>>(
     ensures rounds { IfOk result (λ b. length (batch_in b).grids ≡ variables) }
     ensures tests { TestsClaims EF.ops (stated_in fitting.now) result }
 {
+    let found = batch_of(alloc, fitting, variables)?;
+    refuse(first_other(&found.claimed, &found.actual))?;
+    Ok(found.batch)
+}
+
+// A batch, with the values that its statements claim, and those that are true.
+#[derive(Drop)]
+pub(crate) struct Batched<F: Field, EF: ExtensionField<F>> {
+    pub(crate) batch: SvoBatch<F, EF>,
+    claimed: Vec<EF>,
+    pub(crate) actual: Vec<EF>,
+}
+
+// The batch of a job's statements, with the grids of the rounds for so many variables.
+pub(crate) fn batch_of<F: Field, EF: ExtensionField<F>>(
+    alloc: Global,
+    fitting: &FittingJob<'_, F, EF>,
+    variables: usize,
+) -> Result<Batched<F, EF>, NoMemory>
+    requires { strategy_refusal (stated_in fitting.now) (SmallValue variables) ≡ None }
+    ensures batch { IfOk result
+        (λ b. IsBatchOf EF.ops (stated_in fitting.now) (batch_in b.batch)) }
+    ensures rounds { IfOk result (λ b. length (batch_in b.batch).grids ≡ variables) }
+    ensures claimed { IfOk result (λ b. map EF.number b.claimed.items
+        ≡ claimed_values (stated_in fitting.now).statements) }
+    ensures actual { IfOk result (λ b. map EF.number b.actual.items ≡ true_values EF.ops
+        (stated_in fitting.now).variables (stated_in fitting.now).table
+        (stated_in fitting.now).statements) }
+{
     let job = fitting.job;
     let claimed = claims_of(alloc, &job.constraint)?;
-    let (batch, values) = SvoBatch::with_values(
+    let (batch, actual) = SvoBatch::with_values(
         alloc,
         job.order,
         &job.table,
         &claimed.claims,
         variables,
     )?;
-    refuse(first_other(&claimed.values, &values))?;
-    Ok(batch)
+    Ok(Batched {
+        batch,
+        claimed: claimed.values,
+        actual,
+    })
 }
 
 // Refuses a statement that is false, if there is one.

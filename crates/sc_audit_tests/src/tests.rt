@@ -8,6 +8,7 @@ ghost use Rattle.sc_statements.specs.SelectStatements.{select_arity};
 mod refusals;
 mod reports;
 mod seventeen;
+mod stated;
 mod successors;
 mod texts;
 

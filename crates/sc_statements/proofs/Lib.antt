@@ -7,3 +7,5 @@ pub mod FalseGroups
 pub mod BatchValues
 pub mod Selecting
 pub mod RowLaws
+pub mod ClaimLaws
+pub mod ClaimGroups

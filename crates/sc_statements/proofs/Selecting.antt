@@ -93,7 +93,7 @@ holds-test true n (x ∷ xs) is size = let none : n ≡ 0 = eqb-true n 0 (sym is
 holds-test false n (x ∷ xs) is size = ((λ _ e. let none : suc (length xs) ≡ 0 = ap length e in absurd (omega (arith, none))), (λ _. refl))
 
 -- the value at a place of a list of numbers
-slice_index-map : {X : Type 0} (number : X → ℕ) (xs : List X) (i : ℕ) (x : X) → i < length xs → x ≡ get_or xs i x → slice_index (map number xs) i ≡ number x
+pub slice_index-map : {X : Type 0} (number : X → ℕ) (xs : List X) (i : ℕ) (x : X) → i < length xs → x ≡ get_or xs i x → slice_index (map number xs) i ≡ number x
 slice_index-map number [] i x low is = absurd (omega (arith, low))
 slice_index-map number (y ∷ xs) zero x low is = ap number (sym is)
 slice_index-map number (y ∷ xs) (suc i) x low is = slice_index-map number xs i x (omega (arith, low)) is

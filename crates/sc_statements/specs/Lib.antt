@@ -8,5 +8,6 @@ pub mod SelectIterators
 pub mod Groups
 pub mod Constraints
 pub mod Batches
+pub mod Claimed
 pub mod FalseClaims
 pub mod Rows

@@ -8,6 +8,7 @@ ghost use Rattle.sc_field.specs.Powers.{base_of, start_of};
 ghost use Rattle.sc_table.specs.Polys.{most_table_variables, variables_of, table_of};
 ghost use Rattle.sc_statements.specs.Groups.{group_arity, group_statements};
 ghost use Rattle.sc_statements.specs.Batches.{gathered, AddsBatch};
+ghost use Rattle.sc_statements.specs.Claimed.{with_values, all_stated_truly};
 ghost use Rattle.sc_statements.specs.FalseClaims.{capped};
 
 use crate::statement::Statements;
@@ -215,5 +216,46 @@ impl<F: Field, EF: ExtensionField<F>> Constraint<F, EF> {
             passed = passed.saturating_add(group.len());
         }
         None
+    }
+
+    /// Each statement claims the value that stands at its place, over all groups in order, in place
+    /// of the one that it claimed. There are as many values as statements.
+    pub fn claim_values(&mut self, values: &[EF])
+        requires { length values.now
+            ≡ length (constraint_statements (λ x. EF.embedding (F.number x)) EF.number self.old) }
+        ensures arity { constraint_arity self.new ≡ constraint_arity self.old }
+        ensures challenge { constraint_challenge EF.number self.new
+            ≡ constraint_challenge EF.number self.old }
+        ensures power { constraint_power self.new ≡ constraint_power self.old }
+        ensures statements { constraint_statements (λ x. EF.embedding (F.number x))
+            EF.number self.new ≡ with_values
+            (constraint_statements (λ x. EF.embedding (F.number x)) EF.number self.old)
+            (map EF.number values.now) }
+    {
+        let mut from: usize = 0;
+        for group in self.statements.iter_mut() {
+            let to = from + group.len();
+            group.claim_values(&values[from..to]);
+            from = to;
+        }
+    }
+
+    /// Each statement claims its true value of a table, in place of the value that it claimed.
+    /// `rows` are the table's entries, row 0 first; it has as many variables as the statements say.
+    /// It takes no memory.
+    pub fn claim_truth(&mut self, rows: &[F])
+        requires { length rows.now ≡ 2 ^ constraint_arity self.old }
+        ensures arity { constraint_arity self.new ≡ constraint_arity self.old }
+        ensures challenge { constraint_challenge EF.number self.new
+            ≡ constraint_challenge EF.number self.old }
+        ensures power { constraint_power self.new ≡ constraint_power self.old }
+        ensures statements { constraint_statements (λ x. EF.embedding (F.number x))
+            EF.number self.new ≡ all_stated_truly EF.ops (constraint_arity self.old)
+            (λ b. EF.embedding (entries F.number rows.now b))
+            (constraint_statements (λ x. EF.embedding (F.number x)) EF.number self.old) }
+    {
+        for group in self.statements.iter_mut() {
+            group.claim_truth(rows);
+        }
     }
 }

@@ -7,6 +7,7 @@ ghost use Rattle.sc_definitions.specs.Statements.{Statement, AllTrueOf, first_fa
 ghost use Rattle.sc_table.specs.Polys.{variables_of, table_of};
 ghost use Rattle.sc_statements.specs.Batches.{gathered, AddsBatch};
 ghost use Rattle.sc_statements.specs.Weights.{weight_values};
+ghost use Rattle.sc_statements.specs.Claimed.{with_value, with_values, all_stated_truly};
 
 use sc_definitions::FalseClaim;
 use sc_field::{Algebra, Field};
@@ -38,6 +39,13 @@ pub trait StatementList<EF: Field>: Drop {
         requires size { length rows.now ≡ 2 ^ arity self.now }
         ensures { EF.number result ≡ slice_index (true_values EF.ops (arity self.now)
             (λ b. EF.embedding (entries A.number rows.now b)) (statements self.now)) index };
+
+    /// A statement claims this value from now on; all else stays.
+    fn claim(&mut self, index: usize, value: EF)
+        requires { index < length (statements self.old) }
+        ensures arity { arity self.new ≡ arity self.old }
+        ensures statements { statements self.new
+            ≡ with_value (statements self.old) index (EF.number value) };
 
     /// Adds `scale` times a statement's weights to the rows of a table, which has as many variables as the statements say.
     fn add_weights(&self, index: usize, table: &mut Poly<EF>, scale: EF)
@@ -76,6 +84,36 @@ pub(crate) fn first_false<A: Field, EF: Algebra<A>, S: StatementList<EF>>(
         }
     }
     None
+}
+
+// Each statement claims from now on the value that stands at its place.
+pub(crate) fn claim_values<EF: Field, S: StatementList<EF>>(statements: &mut S, values: &[EF])
+    requires { length values.now ≡ length (S.statements statements.old) }
+    ensures arity { S.arity statements.new ≡ S.arity statements.old }
+    ensures statements { S.statements statements.new
+        ≡ with_values (S.statements statements.old) (map EF.number values.now) }
+{
+    for i in 0..values.len() {
+        statements.claim(i, values[i]);
+    }
+}
+
+// Each statement claims from now on its true value of the table with these rows. It takes no
+// memory.
+pub(crate) fn claim_truth<A: Field, EF: Algebra<A>, S: StatementList<EF>>(
+    statements: &mut S,
+    rows: &[A],
+)
+    requires { length rows.now ≡ 2 ^ S.arity statements.old }
+    ensures arity { S.arity statements.new ≡ S.arity statements.old }
+    ensures statements { S.statements statements.new
+        ≡ all_stated_truly EF.ops (S.arity statements.old)
+        (λ b. EF.embedding (entries A.number rows.now b)) (S.statements statements.old) }
+{
+    for i in 0..statements.count() {
+        let actual: EF = statements.truth_at(i, rows);
+        statements.claim(i, actual);
+    }
 }
 
 // Whether every statement is true of the table with these rows. It takes no memory.

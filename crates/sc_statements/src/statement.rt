@@ -6,6 +6,7 @@ ghost use Rattle.sc_definitions.specs.Tables.{entries, value};
 ghost use Rattle.sc_definitions.specs.Statements.{first_false_claim, batched_weight, batched_claim};
 ghost use Rattle.sc_table.specs.Polys.{variables_of, table_of};
 ghost use Rattle.sc_statements.specs.Batches.{gathered, AddsBatch};
+ghost use Rattle.sc_statements.specs.Claimed.{with_values, all_stated_truly};
 
 mod eq;
 mod next;
@@ -79,6 +80,39 @@ impl<F: Field, EF: ExtensionField<F>> Statements<F, EF> {
             Statements::Eq(statement) => list::first_false(statement, rows),
             Statements::Next(statement) => list::first_false(statement, rows),
             Statements::Select(statement) => list::first_false(statement, rows),
+        }
+    }
+
+    // Each statement claims from now on the value that stands at its place.
+    pub(crate) fn claim_values(&mut self, values: &[EF])
+        requires { length values.now
+            ≡ length (group_statements (λ x. EF.embedding (F.number x)) EF.number self.old) }
+        ensures arity { group_arity self.new ≡ group_arity self.old }
+        ensures statements { group_statements (λ x. EF.embedding (F.number x)) EF.number self.new
+            ≡ with_values (group_statements (λ x. EF.embedding (F.number x)) EF.number self.old)
+            (map EF.number values.now) }
+    {
+        match self {
+            Statements::Eq(statement) => list::claim_values(statement, values),
+            Statements::Next(statement) => list::claim_values(statement, values),
+            Statements::Select(statement) => list::claim_values(statement, values),
+        }
+    }
+
+    // Each statement claims from now on its true value of the table with these rows. It takes no
+    // memory.
+    pub(crate) fn claim_truth(&mut self, rows: &[F])
+        requires { length rows.now ≡ 2 ^ group_arity self.old }
+        ensures arity { group_arity self.new ≡ group_arity self.old }
+        ensures statements { group_statements (λ x. EF.embedding (F.number x)) EF.number self.new
+            ≡ all_stated_truly EF.ops (group_arity self.old)
+            (λ b. EF.embedding (entries F.number rows.now b))
+            (group_statements (λ x. EF.embedding (F.number x)) EF.number self.old) }
+    {
+        match self {
+            Statements::Eq(statement) => list::claim_truth(statement, rows),
+            Statements::Next(statement) => list::claim_truth(statement, rows),
+            Statements::Select(statement) => list::claim_truth(statement, rows),
         }
     }
 

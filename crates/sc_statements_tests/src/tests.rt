@@ -7,6 +7,7 @@ ghost use Rattle.sc_statements.specs.EqStatements.{eq_arity, eq_statements};
 ghost use Rattle.sc_statements.specs.Weights.{weight_values};
 
 mod batches;
+mod claimed;
 mod kinds;
 
 use sc_field::{F65537, Field, NoMemory};

@@ -2,13 +2,12 @@
 use Rattle.std.proofs.Common.{◌≡◌, inl, inr, ℕ, zero, suc, ◌+◌, ◌^◌, ◌<◌, ◌≤◌, ◌==◌, ◌||◌, min, nat_lt, false, if◌then◌else◌, List, [], ◌∷◌, ◌++◌, length, map, None, Some, refl, sym, ap, ◌∙◌, arith}
 use Rattle.std.proofs.lemmas.Bool.Decides.{eqb_tells}
 use Rattle.std.proofs.lemmas.Bool.{ne_eqb, le-ltb}
-use Rattle.std.proofs.lemmas.List.{length-map}
 use Rattle.std.proofs.Common.{length-append}
 use Rattle.sc_definitions.specs.declared.events.Event.{Event}
 use Rattle.sc_definitions.specs.Ring.{Ops}
 use Rattle.sc_definitions.specs.Residues.{residues}
 use Rattle.sc_definitions.specs.Tables.{evaluation, prefix, rows_of}
-use Rattle.sc_definitions.specs.Statements.{Kind, equality, successor, Statement, first_false_claim}
+use Rattle.sc_definitions.specs.Statements.{Kind, equality, successor, Statement, claims, first_false_claim}
 use Rattle.sc_definitions.specs.Events.{Rules, own_extension}
 use Rattle.sc_definitions.specs.Scripted.{scripted_rules}
 use Rattle.sc_definitions.specs.Channels.{channel}
@@ -29,7 +28,8 @@ use Rattle.sc_svo.specs.Grids.{most_rounds}
 use Rattle.sc_audit.specs.declared.error.AuditError.TheVariants.{StrategyUnfit}
 use Rattle.sc_audit.specs.declared.error.FitFault.TheVariants.{Variables}
 use Rattle.sc_audit.specs.Cases.{build, Asked}
-use Rattle.sc_audit.specs.Refusals.{or_later, variables_refusal, first_unfit, strategy_refusal, exponent_from, arity_of, shape_by, false_refusal, refusal_of}
+use Rattle.sc_audit.specs.Refusals.{or_later, variables_refusal, first_unfit, strategy_refusal, exponent_from, arity_of, shape_by, false_refusal, shape_refusal, refusal_of}
+use Rattle.sc_audit.specs.Stated.{asked_truly}
 use Rattle.sc_audit.proofs.ShapeLaws.{exponent-next, exponent-found}
 use Rattle.sumcheck_run.specs.declared.command.Recipe.{Recipe}
 use Rattle.sumcheck_run.specs.declared.reply.Outcome.TheVariants.{Holds}
@@ -62,22 +62,16 @@ parts-same number n table point next batching et ep es eb = rw (et, ep, es, eb) 
 
 -- ---- what a job asks
 
--- a point has as many coordinates as its table has variables
-pub point-arity : {X : Type 0} (number : X → ℕ) (table point : List X) (n : ℕ) → length (map number table) ≡ 2 ^ length (map number point) → length table ≡ 2 ^ n → length point ≡ n
-point-arity number table point n fits size =
-    sym (length-map point number) ∙ pow-same _ _ (sym fits ∙ length-map table number ∙ size)
-
 -- the statements of two groups of one each
 pub two-groups : {F : Type 0} (number : F → ℕ) (of : F → ℕ) (groups : List (Statements F F)) (e : EqStatement F) (n : NextStatement F) (s t : Statement) →
     groups ≡ [] ++ Eq e ∷ [] ++ Next n ∷ [] → eq_statements number e ≡ s ∷ [] → next_statements number n ≡ t ∷ [] → all_statements of number groups ≡ s ∷ t ∷ []
 two-groups number of groups e n s t are one other =
     ap (all_statements of number) are ∙ ap (λ l. l ++ (next_statements number n ++ [])) one ∙ ap (λ l. s ∷ (l ++ [])) other
 
--- a job that has such a table and such statements asks this
-pub about-same : (o : Ops) (p : Parts) (strategy : Strategy) (R : Rules) (h : List Event) (rows n v : ℕ) (table f : ℕ → ℕ) (ss : List Statement) (c i : ℕ) →
-    rows ≡ length p.table → n ≡ v → v ≡ length p.point → table ≡ f → f ≡ rows_of p.table → c ≡ p.batching → i ≡ 0 →
-    ss ≡ true_statement o v f (equality p.point) ∷ true_statement o v f (successor prefix [] p.successor) ∷ [] →
-    ◌≡◌ {A = Asked} (record {
+-- a job that has such a table, with statements at such points, asks this once they claim their true values
+pub about-same : (o : Ops) (p : Parts) (strategy : Strategy) (R : Rules) (h : List Event) (rows n : ℕ) (table : ℕ → ℕ) (ss : List Statement) (c i : ℕ) →
+    rows ≡ length p.table → n ≡ length p.point → table ≡ rows_of p.table → c ≡ p.batching → i ≡ 0 → ss ≡ claims (equality p.point) 0 ∷ claims (successor prefix [] p.successor) 0 ∷ [] →
+    asked_truly (record {
       case = record {
         rows = rows;
         problem = record { basis = evaluation; order = prefix; variables = n; table = λ b. table b; statements = ss; batching = c; initial = i };
@@ -86,8 +80,8 @@ pub about-same : (o : Ops) (p : Parts) (strategy : Strategy) (R : Rules) (h : Li
       ops = o;
       channel = channel R own_extension o.size 0;
       history = h;
-    }) (asked_about o p strategy R h)
-about-same o p strategy R h rows n v table f ss c i er en ev et ef ec ei es = rw (es, er, en, ev, et, ef, ec, ei) refl
+    }) ≡ asked_about o p strategy R h
+about-same o p strategy R h rows n table ss c i er en et ec ei es = rw (es, er, en, et, ec, ei) refl
 
 -- what is answered to such a job of a recipe's parts and draws is replied to the recipe
 pub about-reply : (r : Recipe) (rows : ℕ) (q : Asked) (p : Parts) (draws : List ℕ) (good : List (List ℕ)) (R : Rules) (h : List Event) →
@@ -140,6 +134,18 @@ unrefused-shape rows n low is =
 all_true : (o : Ops) (n : ℕ) (f : ℕ → ℕ) (i : ℕ) (kinds : List Kind) → first_false_claim o n f i (map (true_statement o n f) kinds) ≡ None
 all_true o n f i [] = first_false_claim-none o n f i
 all_true o n f i (kind ∷ kinds) = first_false_claim-true o n f i (true_statement o n f kind) (map (true_statement o n f) kinds) refl ∙ all_true o n f (suc i) kinds
+
+-- the shape of such a job of a recipe's parts and draws is not refused
+pub about-shape : (r : Recipe) (q : Asked) (p : Parts) (draws : List ℕ) (good : List (List ℕ)) (R : Rules) (h : List Event) → IsMade r →
+    asked_truly q ≡ asked_about (residues 65537) p r.strategy R h → p ≡ parts_of r.number r.variables → R ≡ scripted_rules draws good → shape_refusal q ≡ None
+about-shape r q p draws good R h made eq ep es =
+    let o = residues 65537 in
+    let parts = parts_of r.number r.variables in
+    let n = length parts.point in
+    let count : n ≡ r.variables = values-count r.number (2 ^ r.variables) r.variables in
+    let low : n < 25 = omega (arith, count, made.few) in
+    ap shape_refusal (eq ∙ ap (λ k. asked_about o k r.strategy R h) ep ∙ ap (λ k. asked_about o parts r.strategy k h) es)
+    ∙ unrefused-shape (length parts.table) n low (parts-fit r.number r.variables).rows
 
 made-unrefused : (r : Recipe) → IsMade r → refusal_of (made_asked r) ≡ None
 made-unrefused r made =

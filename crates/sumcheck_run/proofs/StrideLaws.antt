@@ -1,5 +1,5 @@
 -- Values that stand eight places apart.
-use Rattle.std.proofs.Common.{◌≡◌, ℕ, zero, suc, ◌+◌, ◌*◌, ◌%◌, ◌-◌, ◌<◌, ◌≤◌, List, [], ◌∷◌, ◌++◌, length, slice_index, map, ap, sym, ◌∙◌, refl, arith, ⊎_elim}
+use Rattle.std.proofs.Common.{◌≡◌, ℕ, zero, suc, ◌+◌, ◌*◌, ◌%◌, ◌-◌, ◌<◌, ◌≤◌, List, [], ◌∷◌, ◌++◌, length, get_or, take, slice_index, map, ap, sym, ◌∙◌, refl, arith, ⊎_elim}
 use Rattle.std.proofs.lemmas.Bool.{cases_lt}
 use Rattle.std.proofs.lemmas.List.{length-append, map-append}
 use Rattle.sumcheck_run.specs.Made.{value_at, values_behind}
@@ -78,6 +78,13 @@ values_read number i (suc count) k low =
     let same : count ≡ k = omega (arith, low, at) in
     ap (slice_index (before ++ value_at number (i + count + 1) ∷ [])) (sym here) ∙ index-last before (value_at number (i + count + 1)) ∙ ap (λ c. value_at number (i + c + 1)) same)
     (cases_lt k count)
+
+-- a value among those before a place
+pub taken-read : {X : Type 0} (of : X → ℕ) (rows : List X) (k j : ℕ) (y : X) → j < k → k ≤ length rows → y ≡ get_or rows j y → of y ≡ slice_index (map of (take k rows)) j
+taken-read of [] k j y low within is = absurd (omega (arith, low, within))
+taken-read of (z ∷ rows) zero j y low within is = absurd (omega (arith, low))
+taken-read of (z ∷ rows) (suc k) zero y low within is = ap of is
+taken-read of (z ∷ rows) (suc k) (suc j) y low within is = taken-read of rows k j y (omega (arith, low)) (omega (arith, within)) is
 
 -- one value more, which was made of the one eight places before it
 pub rest_more : {X : Type 0} (of : X → ℕ) (number i k : ℕ) (xs new : List X) (y x : X) → 8 ≤ k → map of xs ≡ values_behind number i k → of y ≡ slice_index (map of xs) (k - 8) →

@@ -1,18 +1,19 @@
 //! The job that a recipe makes, and the report on it in short.
-ghost use Rattle.std.specs.Prelude.{◌≡◌, ℕ, ◌≤◌, List, [], ◌∷◌, length, map, string_bytes, IfOk};
+ghost use Rattle.std.specs.Prelude.{◌≡◌, ℕ, ◌≤◌, List, [], ◌∷◌, None, length, map};
+ghost use Rattle.std.specs.Prelude.{string_bytes, IfOk};
 ghost use Rattle.sc_definitions.specs.declared.events.Event.{Event};
 ghost use Rattle.sc_definitions.specs.Events.{Rules};
-ghost use Rattle.sc_definitions.specs.Statements.{equality, successor};
+ghost use Rattle.sc_definitions.specs.Statements.{claims, equality, successor};
 ghost use Rattle.sc_definitions.specs.Tables.{prefix};
 ghost use Rattle.sc_audit.specs.Cases.{asked_of};
 ghost use Rattle.sc_audit.specs.Figures.{report_in};
+ghost use Rattle.sc_audit.specs.Refusals.{shape_refusal};
+ghost use Rattle.sc_audit.specs.Stated.{asked_truly};
 ghost use Rattle.sc_statements.specs.EqStatements.{eq_arity, eq_statements};
 ghost use Rattle.sc_statements.specs.NextStatements.{next_arity, next_statements};
-ghost use Rattle.sc_table.specs.Polys.{variables_of, table_of};
 ghost use Rattle.sc_transcript.specs.Data.{pair_of};
 ghost use Rattle.sumcheck_run.specs.Made.{PartsFit, asked_about, made_reply, parts_end, parts_in};
-ghost use Rattle.sumcheck_run.specs.Made.{parts_of, sum_of, summary_lines, true_statement};
-ghost use Rattle.sumcheck_run.specs.Made.{value_at};
+ghost use Rattle.sumcheck_run.specs.Made.{parts_of, sum_of, summary_lines, value_at};
 ghost use Rattle.sumcheck_run.specs.Report.{case_reply, report_reply};
 ghost use Rattle.sumcheck_run.specs.Values.{last_of, number_of};
 ghost use Rattle.sumcheck_run.specs.Words.{IsMade};
@@ -23,12 +24,11 @@ use crate::refusals::refuse;
 use crate::reply::{Answer, Outcome};
 use crate::report::say_verdict;
 use crate::values::Values;
-use sc_audit::{Job, Mode, Report, audit};
+use sc_audit::{Job, Mode, Report, audit_true};
 use sc_challenger::{Challenger, ScriptedChallenger};
 use sc_field::{ExtensionField, F65537, Field, IntoTranscriptField, NoMemory};
 use sc_statements::{Constraint, EqStatement, NextStatement, Statements};
-use sc_table::{Point, Poly, RoundMessage, Strategy, VariableOrder};
-use sc_weights::{NextConstraint, RowWeights};
+use sc_table::{Point, RoundMessage, Strategy, VariableOrder};
 use std::alloc::Global;
 
 // How many statements there are, one in each of two groups.
@@ -44,12 +44,12 @@ pub(crate) fn make(alloc: Global, recipe: Recipe) -> Result<Answer, NoMemory>
     let mut values = Values::new(recipe.number);
     let parts = take_parts(alloc, &mut values, n)?;
     let draws = values.take(alloc, n)?;
-    let job = job_of(alloc, parts, recipe.strategy)?;
+    let mut job = job_of(alloc, parts, recipe.strategy)?;
     let mut challenger = ScriptedChallenger::new(alloc, draws, Vec::new(alloc));
     answer_in_short::<F65537, F65537, F65537, ScriptedChallenger<F65537>>(
         alloc,
         1 << n,
-        &job,
+        &mut job,
         &mut challenger,
     )
 }
@@ -86,92 +86,85 @@ fn take_parts(alloc: Global, values: &mut Values, n: usize) -> Result<Parts<F655
 
 // ---- The job
 
-// The audit of a build on a table, with the two statements that have its true values at the points.
+// The audit of a build on a table, with statements on its values at the two points. They claim
+// zero, until they claim their true values.
 fn job_of<F: Field>(
     alloc: Global,
     parts: Parts<F>,
     strategy: Strategy,
 ) -> Result<Job<F, F>, NoMemory>
     requires { PartsFit (parts_in F.number parts) }
-    ensures { IfOk result (λ j. (R : Rules) (h : List Event) → asked_of j R h
+    ensures { IfOk result (λ j. (R : Rules) (h : List Event) → asked_truly (asked_of j R h)
         ≡ asked_about F.ops (parts_in F.number parts) strategy R h) }
 {
-    let table = Poly::new(parts.table);
-    let equality = true_equality(alloc, &table, parts.point)?;
-    let successor = true_successor(alloc, &table, parts.successor)?;
+    let variables = parts.point.len();
+    let equality = equality_at(alloc, variables, parts.point)?;
+    let successor = successor_at(alloc, variables, parts.successor)?;
     let mut groups = Vec::with_capacity(alloc, STATEMENTS)?;
     groups.push(Statements::Eq(equality))?;
     groups.push(Statements::Next(successor))?;
     Ok(Job {
-        constraint: Constraint::new(parts.batching, table.num_variables(), groups),
-        table: table.into_evals(),
+        constraint: Constraint::new(parts.batching, variables, groups),
+        table: parts.table,
         order: VariableOrder::Prefix,
         pow_bits: 0,
         mode: Mode::Build(strategy),
     })
 }
 
-// The one statement that the table has its value at a point.
-fn true_equality<F: Field>(
+// The one statement on the value of a table of so many variables at a point. It claims zero.
+fn equality_at<F: Field>(
     alloc: Global,
-    table: &Poly<F>,
+    variables: usize,
     coords: Vec<F>,
 ) -> Result<EqStatement<F>, NoMemory>
-    requires { length coords.items ≡ variables_of table.now }
+    requires { length coords.items ≡ variables }
     ensures statements { IfOk result (λ s. eq_statements F.number s
-        ≡ true_statement F.ops (variables_of table.now) (table_of F.number table.now)
-        (equality (map F.number coords.items)) ∷ []) }
-    ensures arity { IfOk result (λ s. eq_arity s ≡ variables_of table.now) }
+        ≡ claims (equality (map F.number coords.items)) 0 ∷ []) }
+    ensures arity { IfOk result (λ s. eq_arity s ≡ variables) }
 {
-    let mut statement = EqStatement::initialize(alloc, table.num_variables());
-    let point = Point::new(coords);
-    let value = point.true_value(table.as_slice());
-    statement.add_evaluated_constraint(point, value)?;
+    let mut statement = EqStatement::initialize(alloc, variables);
+    statement.add_evaluated_constraint(Point::new(coords), F::ZERO)?;
     Ok(statement)
 }
 
-// The one statement that the table has its value at a point through the successor map.
-fn true_successor<F: Field>(
+// The same of the value through the successor map.
+fn successor_at<F: Field>(
     alloc: Global,
-    table: &Poly<F>,
+    variables: usize,
     coords: Vec<F>,
 ) -> Result<NextStatement<F>, NoMemory>
-    requires { length coords.items ≡ variables_of table.now }
+    requires { length coords.items ≡ variables }
     ensures statements { IfOk result (λ s. next_statements F.number s
-        ≡ true_statement F.ops (variables_of table.now) (table_of F.number table.now)
-        (successor prefix [] (map F.number coords.items)) ∷ []) }
-    ensures arity { IfOk result (λ s. next_arity s ≡ variables_of table.now) }
+        ≡ claims (successor prefix [] (map F.number coords.items)) 0 ∷ []) }
+    ensures arity { IfOk result (λ s. next_arity s ≡ variables) }
 {
-    let order = VariableOrder::Prefix;
-    let mut statement = NextStatement::initialize(alloc, table.num_variables());
-    let weights = NextConstraint {
-        selector: Point::new(Vec::new(alloc)),
-        point: Point::new(coords),
-        var_order: order,
-    };
-    let value = weights.true_value(table.as_slice());
-    let NextConstraint {
-        selector,
-        point,
-        ..
-    } = weights;
-    statement.add_evaluated_constraint(selector, point, value, order)?;
+    let mut statement = NextStatement::initialize(alloc, variables);
+    statement.add_evaluated_constraint(
+        Point::new(Vec::new(alloc)),
+        Point::new(coords),
+        F::ZERO,
+        VariableOrder::Prefix,
+    )?;
     Ok(statement)
 }
 
 // ---- The report
 
-// The answer to an audit of a table of so many rows, with its report in short.
+// The answer to an audit of a table of so many rows, whose statements claim their true values then,
+// with its report in short. Its shape is not refused.
 fn answer_in_short<F: Field, EF: ExtensionField<F>, R: IntoTranscriptField<EF>, C: Challenger<F>>(
     alloc: Global,
     rows: usize,
-    job: &Job<F, EF>,
+    job: &mut Job<F, EF>,
     challenger: &mut C,
 ) -> Result<Answer, NoMemory>
+    requires { shape_refusal (asked_of job.old (C.rules challenger.old) (C.history challenger.old))
+        ≡ None }
     ensures { IfOk result (λ a. a ≡ case_reply (summary_lines rows 2 EF.ops)
-        (asked_of job.now (C.rules challenger.old) (C.history challenger.old))) }
+        (asked_truly (asked_of job.old (C.rules challenger.old) (C.history challenger.old)))) }
 {
-    match audit::<F, EF, R, C>(alloc, job, challenger) {
+    match audit_true::<F, EF, R, C>(alloc, job, challenger) {
         Ok(report) => show_in_short(alloc, rows, &report),
         Err(error) => refuse(alloc, error),
     }

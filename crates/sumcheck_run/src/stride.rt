@@ -1,5 +1,5 @@
 //! Values made of those that stand some places before them.
-ghost use Rattle.std.specs.Prelude.{◌≡◌, ℕ, ◌+◌, ◌*◌, ◌%◌, ◌≤◌, length, map, vec_capacity};
+ghost use Rattle.std.specs.Prelude.{◌≡◌, ℕ, ◌+◌, ◌*◌, ◌%◌, ◌≤◌, length, map, take, vec_capacity};
 ghost use Rattle.sumcheck_run.specs.Made.{values_behind};
 ghost use Rattle.sumcheck_run.specs.Values.{number_of};
 
@@ -7,6 +7,10 @@ use sc_field::{F65537, Field};
 
 /// How many places stand between a value and the one that it is made of.
 pub(crate) const STRIDE: usize = 8;
+
+// How many values get their places at once, with zeros in them: so few that these are still near
+// when the values are written over them.
+const PIECE: usize = 256;
 
 /// Appends values to some that stand one behind the other, until there are so many. Each is made of
 /// the one that stands eight places before it, so that a value need not wait for the one before it.
@@ -19,8 +23,39 @@ pub(crate) fn push_rest(taken: &mut Vec<F65537>, count: usize)
         ≡ values_behind number i (length taken.old.items)
         → map number_of taken.new.items ≡ values_behind number i count }
 {
-    for k in taken.len()..count {
-        taken.push_reserved(value_behind(taken[k - STRIDE]));
+    while taken.len() < count {
+        let more = PIECE.min(count - taken.len());
+        push_piece(taken, more);
+    }
+}
+
+// Appends so many values.
+fn push_piece(taken: &mut Vec<F65537>, more: usize)
+    requires some { 8 ≤ length taken.old.items }
+    requires room { length taken.old.items + more ≤ vec_capacity taken.old }
+    ensures size { length taken.new.items ≡ length taken.old.items + more }
+    ensures room { vec_capacity taken.old ≤ vec_capacity taken.new }
+    ensures values { (number i : ℕ) → map number_of taken.old.items
+        ≡ values_behind number i (length taken.old.items)
+        → map number_of taken.new.items ≡ values_behind number i (length taken.old.items + more) }
+{
+    let from = taken.len();
+    // there is room
+    let _filled = taken.resize(from + more, F65537::ZERO);
+    write_rest(taken.as_mut_slice(), from);
+}
+
+// Writes the values from a place on.
+fn write_rest(rows: &mut [F65537], from: usize)
+    requires some { 8 ≤ from }
+    requires within { from ≤ length rows.old }
+    ensures size { length rows.new ≡ length rows.old }
+    ensures values { (number i : ℕ) → map number_of (take from rows.old)
+        ≡ values_behind number i from
+        → map number_of rows.new ≡ values_behind number i (length rows.old) }
+{
+    for k in from..rows.len() {
+        rows[k] = value_behind(rows[k - STRIDE]);
     }
 }
 
@@ -29,5 +64,6 @@ pub(crate) fn push_rest(taken: &mut Vec<F65537>, count: usize)
 fn value_behind(value: F65537) -> F65537
     ensures { number_of result ≡ (9345 * number_of value + 9344) % 65537 }
 {
-    F65537::element((9345 * value.index() + 9344) % 65537)
+    let behind = (9345 * (value.index() as u32) + 9344) % 65537;
+    F65537::element(behind as u64)
 }

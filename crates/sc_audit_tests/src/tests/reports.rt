@@ -12,7 +12,7 @@ use sc_table::VariableOrder;
 use std::process::Abort;
 
 // In suffix order, with the claims in two groups.
-const SUFFIX: Case = Case {
+pub(super) const SUFFIX: Case = Case {
     name: "suffix order",
     claims: &[(&[2, 5], 14)],
     further: &[(&[11, 3], 15)],
@@ -113,7 +113,7 @@ const REPRESENTED_SUFFIX: Case = Case {
     ..SUFFIX
 };
 
-const REPRESENTED_TESTED: Case = Case {
+pub(super) const REPRESENTED_TESTED: Case = Case {
     name: "prefix order with tests on a representation",
     task: Task::Build(Strategy::Represented),
     ..TESTED
@@ -122,21 +122,21 @@ const REPRESENTED_TESTED: Case = Case {
 // The rounds for so many variables, from the first on, are read off their grids.
 const SMALL_GRIDS: [Lists; 2] = [(&[15], &[7]), (&[14, 5, 16], &[13, 0, 0])];
 
-const SMALL: Case = Case {
+pub(super) const SMALL: Case = Case {
     name: "prefix order on small values",
     task: Task::Build(Strategy::SmallValue { variables: 2 }),
     grids: &SMALL_GRIDS,
     ..PREFIX
 };
 
-const SMALL_SUFFIX: Case = Case {
+pub(super) const SMALL_SUFFIX: Case = Case {
     name: "suffix order on small values",
     task: Task::Build(Strategy::SmallValue { variables: 2 }),
     grids: &[(&[2], &[13]), (&[14, 1, 13], &[16, 8, 0])],
     ..SUFFIX
 };
 
-const SMALL_TESTED: Case = Case {
+pub(super) const SMALL_TESTED: Case = Case {
     name: "prefix order with tests on small values",
     task: Task::Build(Strategy::SmallValue { variables: 2 }),
     grids: &SMALL_GRIDS,
@@ -378,7 +378,7 @@ const TURNED: Case = Case {
 };
 
 // The rounds with tests as a proof.
-const HANDED_IN: Case = Case {
+pub(super) const HANDED_IN: Case = Case {
     name: "the first witnesses that pass",
     task: Task::Check(&[(15, 7), (5, 11)], &[5, 6]),
     ..TESTED

@@ -106,14 +106,17 @@ const MIXED_SUFFIX: Case = Case {
     ..MIXED
 };
 
+// The same on small values.
+pub(super) const MIXED_SMALL: Case = Case {
+    name: "two kinds in prefix order on small values",
+    task: Task::Build(Strategy::SmallValue { variables: 2 }),
+    grids: &[(&[8], &[7]), (&[14, 11, 14], &[16, 1, 0])],
+    ..MIXED
+};
+
 static TWO_KINDS: [Case; 5] = [
     MIXED,
-    Case {
-        name: "two kinds in prefix order on small values",
-        task: Task::Build(Strategy::SmallValue { variables: 2 }),
-        grids: &[(&[8], &[7]), (&[14, 11, 14], &[16, 1, 0])],
-        ..MIXED
-    },
+    MIXED_SMALL,
     MIXED_SUFFIX,
     Case {
         name: "two kinds in suffix order on small values",

@@ -210,6 +210,10 @@ impl<EF: Field> StatementList<EF> for NextStatement<EF> {
         self.constraints[index].eval
     }
 
+    fn claim(&mut self, index: usize, value: EF) {
+        self.constraints[index].eval = value;
+    }
+
     fn truth_at<A: Field>(&self, index: usize, rows: &[A]) -> EF
     where
         EF: Algebra<A>,

@@ -267,6 +267,10 @@ impl<F: Field, EF: ExtensionField<F>> StatementList<EF> for SelectStatement<F, E
         self.evaluations[index]
     }
 
+    fn claim(&mut self, index: usize, value: EF) {
+        self.evaluations[index] = value;
+    }
+
     fn truth_at<A: Field>(&self, index: usize, rows: &[A]) -> EF
     where
         EF: Algebra<A>,

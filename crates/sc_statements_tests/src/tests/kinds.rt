@@ -17,7 +17,7 @@ use sc_tests_common::{have_numbers, of};
 use std::process::Abort;
 
 // A value that is claimed through the successor map.
-struct Successor {
+pub(super) struct Successor {
     selector: &'static [u64],
     has_selector: bool,
     coords: &'static [u64],
@@ -38,7 +38,7 @@ static ONE_VALUE: [Successor; 1] = [Successor {
 }];
 
 // The same, and at 7 in the slot of a selector at 5.
-static TWO_VALUES: [Successor; 2] = [
+pub(super) static TWO_VALUES: [Successor; 2] = [
     Successor {
         selector: &[],
         has_selector: false,
@@ -68,7 +68,10 @@ static FIRST_SLOT: [Successor; 1] = [Successor {
 }];
 
 // The statement of these values on two variables. One on another number is left out.
-fn successors<R: Abort + AllocGlobal>(rt: &R, values: &[Successor]) -> NextStatement<F65537>
+pub(super) fn successors<R: Abort + AllocGlobal>(
+    rt: &R,
+    values: &[Successor],
+) -> NextStatement<F65537>
     ensures { next_arity result ≡ 2 }
 {
     let mut statement = NextStatement::initialize(rt.alloc(), 2);
@@ -198,7 +201,7 @@ fn assert_told<R: Abort + AllocGlobal>(
 }
 
 // The values 49 and 1 that the scalars 2 and 0 select.
-fn two_scalars<R: Abort + AllocGlobal>(rt: &R) -> SelectStatement<F65537, F65537>
+pub(super) fn two_scalars<R: Abort + AllocGlobal>(rt: &R) -> SelectStatement<F65537, F65537>
     ensures arity { select_arity result ≡ 2 }
     ensures kind { points_of result ≡ [] }
 {
@@ -254,7 +257,10 @@ fn assert_last<R: Abort + AllocGlobal>(rt: &R, statement: &SelectStatement<F6553
 }
 
 // The statement of a value that the direct point (0, 3) selects.
-fn a_direct_point<R: Abort + AllocGlobal>(rt: &R, claimed: u64) -> SelectStatement<F65537, F65537>
+pub(super) fn a_direct_point<R: Abort + AllocGlobal>(
+    rt: &R,
+    claimed: u64,
+) -> SelectStatement<F65537, F65537>
     ensures { select_arity result ≡ 2 }
 {
     let mut statement = SelectStatement::initialize(rt.alloc(), 2);

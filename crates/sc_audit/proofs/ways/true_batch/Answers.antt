@@ -1,78 +1,25 @@
-use Rattle.std.proofs.Common.{◌≡◌, ◌<◌, ◌^◌, Ok, length, map, sym, ◌∙◌, ap, subst, arith}
+use Rattle.std.proofs.Common.{◌≡◌, ◌<◌, ◌^◌, Ok, length, map, sym, ◌∙◌, ap, arith}
 use Rattle.std.proofs.lemmas.List.{length-map}
-use Rattle.sc_definitions.specs.Tables.{entries}
-use Rattle.sc_definitions.specs.Statements.{claimed_values, true_value}
-use Rattle.sc_definitions.specs.Combined.{combined_weight}
-use Rattle.sc_definitions.proofs.Lengths.{pow-same}
+use Rattle.sc_definitions.specs.Statements.{claimed_values, true_value, true_values}
 use Rattle.sc_statements.proofs.FalseGroups.{capped-exact}
-use Rattle.sc_svo.specs.Batches.{batch_in, IsTableOf}
-use Rattle.sc_svo.specs.Claims.{AreOn, claims_in}
 use Rattle.sc_audit.specs.Cases.{problem_in}
-use Rattle.sc_audit.proofs.ClaimLaws.{fits_small, batch_weights, batch_values}
 use Rattle.sc_audit.proofs.ClaimTests.{tests_by, tests_err}
 use Rattle.sc_audit.proofs.ways.true_batch.Goals as goal
-
--- the statements are taken
-pub claims_of-requires : goal.claims_of-requires
-claims_of-requires g c =
-    let p = problem_in c.args.fitting.now.job.now in
-    (fits_small p.variables p.statements c.args.variables c.requires).taken
-
-pub with_values-requires : goal.with_values-requires
-with_values-requires g c =
-    let job = c.args.fitting.now.job.now in
-    let p = problem_in job in
-    let fits = fits_small p.variables p.statements c.args.variables c.requires in
-    record {
-      some = fits.some;
-      few = fits.few;
-      fits = record {
-        arity = p.variables;
-        rows_are = ap length c.deref.ensures.value ∙ sym job.table.ok.0 ∙ c.args.fitting.now.rows;
-        few = omega (arith, c.args.fitting.now.few);
-        within = fits.within;
-        on = subst (AreOn p.variables) (sym c.deref-2.ensures.value) c.in_ok-claimed.ensures.on;
-      };
-    }
-
--- the batch is on the problem's table, under its weights
-pub returns-clause-batch : goal.returns-clause-batch
-returns-clause-batch g c =
-    let job = c.args.fitting.now.job.now in
-    let p = problem_in job in
-    let o = g.EF.Field.ops in
-    let N = g.EF.Field.number in
-    let fits = fits_small p.variables p.statements c.args.variables c.requires in
-    let made = c.in_ok-batch.ensures.batch in
-    let cs = c.in_ok-claimed.claimed.claims.items in
-    record {
-      order = made.order_is;
-      variables = pow-same _ _ (sym made.variables ∙ ap length c.deref.ensures.value ∙ sym job.table.ok.0 ∙ c.args.fitting.now.rows);
-      weights = λ row low. ap (λ l. combined_weight o l row) (made.claims ∙ ap (claims_in N) c.deref-2.ensures.value)
-          ∙ batch_weights o g.met.EF.Field.is_field.ring p N cs c.in_ok-claimed.ensures.claims c.in_ok-claimed.ensures.on fits.taken row low;
-      within = omega (arith, made.rounds, fits.within);
-      grids = subst (λ xs. IsTableOf o (batch_in c.in_ok-batch.batch) (λ b. g.EF.Algebra.embedding (entries g.F.Field.number xs b))) c.deref.ensures.value made.grids;
-    }
 
 -- as many values are claimed as are true
 pub first_other-requires : goal.first_other-requires
 first_other-requires g c =
-    let job = c.args.fitting.now.job.now in
-    let p = problem_in job in
+    let p = problem_in c.args.fitting.now.job.now in
     let o = g.EF.Field.ops in
     let N = g.EF.Field.number in
-    let fits = fits_small p.variables p.statements c.args.variables c.requires in
-    let variables = pow-same _ _ (sym c.in_ok-batch.ensures.batch.variables ∙ ap length c.deref.ensures.value ∙ sym job.table.ok.0 ∙ c.args.fitting.now.rows) in
-    let actual = batch_values o g.met.EF.Field.is_field.ring p N c.in_ok-claimed.claimed.claims.items c.in_ok-claimed.ensures.claims c.in_ok-claimed.ensures.on fits.taken (map N c.deref-4.result.now) _ _ _
-    (ap (map N) c.deref-4.ensures.value ∙ c.in_ok-batch.ensures.values) variables (ap (λ xs b. g.EF.Algebra.embedding (entries g.F.Field.number xs b)) c.deref.ensures.value)
-    (ap (claims_in N) c.deref-2.ensures.value) in
-    let claimed : map N c.deref-3.result.now ≡ claimed_values p.statements = ap (map N) c.deref-3.ensures.value ∙ c.in_ok-claimed.ensures.values in
+    let claimed : map N c.deref.result.now ≡ claimed_values p.statements = ap (map N) c.deref.ensures.value ∙ c.in_ok-found.ensures.claimed in
+    let actual : map N c.deref-2.result.now ≡ true_values o p.variables p.table p.statements = ap (map N) c.deref-2.ensures.value ∙ c.in_ok-found.ensures.actual in
     omega (
       arith,
-      length-map c.deref-4.result.now N,
+      length-map c.deref-2.result.now N,
       ap length actual,
       length-map p.statements (λ s. true_value o p.variables p.table s.kind),
-      length-map c.deref-3.result.now N,
+      length-map c.deref.result.now N,
       ap length claimed,
       length-map p.statements (λ s. s.claimed),
     )
@@ -80,35 +27,25 @@ first_other-requires g c =
 -- a false statement is refused
 pub returns-in_err-refuse-clause-tests : goal.returns-in_err-refuse-clause-tests
 returns-in_err-refuse-clause-tests g c =
-    let job = c.args.fitting.now.job.now in
-    let p = problem_in job in
+    let p = problem_in c.args.fitting.now.job.now in
     let o = g.EF.Field.ops in
     let N = g.EF.Field.number in
-    let fits = fits_small p.variables p.statements c.args.variables c.requires in
-    let variables = pow-same _ _ (sym c.in_ok-batch.ensures.batch.variables ∙ ap length c.deref.ensures.value ∙ sym job.table.ok.0 ∙ c.args.fitting.now.rows) in
-    let actual = batch_values o g.met.EF.Field.is_field.ring p N c.in_ok-claimed.claimed.claims.items c.in_ok-claimed.ensures.claims c.in_ok-claimed.ensures.on fits.taken (map N c.deref-4.result.now) _ _ _
-    (ap (map N) c.deref-4.ensures.value ∙ c.in_ok-batch.ensures.values) variables (ap (λ xs b. g.EF.Algebra.embedding (entries g.F.Field.number xs b)) c.deref.ensures.value)
-    (ap (claims_in N) c.deref-2.ensures.value) in
-    let claimed : map N c.deref-3.result.now ≡ claimed_values p.statements = ap (map N) c.deref-3.ensures.value ∙ c.in_ok-claimed.ensures.values in
-    let few : length p.statements < 2 ^ 64 =
-    omega (arith, length-map c.in_ok-claimed.claimed.values.items N, ap length c.in_ok-claimed.ensures.values, length-map p.statements (λ s. s.claimed), c.in_ok-claimed.claimed.values.small) in
+    let found = c.in_ok-found.found.claimed in
+    let claimed : map N c.deref.result.now ≡ claimed_values p.statements = ap (map N) c.deref.ensures.value ∙ c.in_ok-found.ensures.claimed in
+    let actual : map N c.deref-2.result.now ≡ true_values o p.variables p.table p.statements = ap (map N) c.deref-2.ensures.value ∙ c.in_ok-found.ensures.actual in
+    let few : length p.statements < 2 ^ 64 = omega (arith, length-map found.items N, ap length c.in_ok-found.ensures.claimed, length-map p.statements (λ s. s.claimed), found.small) in
     tests_err o p c.first_other.result c.from_residual-in_err-refuse.result _ c.from_residual-in_err-refuse.ensures.1
     (c.first_other.ensures p.variables p.table p.statements claimed actual ∙ sym (capped-exact o p.variables p.table p.statements few)) c.in_err-refuse.ensures
 
 -- there is none
 pub returns-clause-tests : goal.returns-clause-tests
 returns-clause-tests g c =
-    let job = c.args.fitting.now.job.now in
-    let p = problem_in job in
+    let p = problem_in c.args.fitting.now.job.now in
     let o = g.EF.Field.ops in
     let N = g.EF.Field.number in
-    let fits = fits_small p.variables p.statements c.args.variables c.requires in
-    let variables = pow-same _ _ (sym c.in_ok-batch.ensures.batch.variables ∙ ap length c.deref.ensures.value ∙ sym job.table.ok.0 ∙ c.args.fitting.now.rows) in
-    let actual = batch_values o g.met.EF.Field.is_field.ring p N c.in_ok-claimed.claimed.claims.items c.in_ok-claimed.ensures.claims c.in_ok-claimed.ensures.on fits.taken (map N c.deref-4.result.now) _ _ _
-    (ap (map N) c.deref-4.ensures.value ∙ c.in_ok-batch.ensures.values) variables (ap (λ xs b. g.EF.Algebra.embedding (entries g.F.Field.number xs b)) c.deref.ensures.value)
-    (ap (claims_in N) c.deref-2.ensures.value) in
-    let claimed : map N c.deref-3.result.now ≡ claimed_values p.statements = ap (map N) c.deref-3.ensures.value ∙ c.in_ok-claimed.ensures.values in
-    let few : length p.statements < 2 ^ 64 =
-    omega (arith, length-map c.in_ok-claimed.claimed.values.items N, ap length c.in_ok-claimed.ensures.values, length-map p.statements (λ s. s.claimed), c.in_ok-claimed.claimed.values.small) in
+    let found = c.in_ok-found.found.claimed in
+    let claimed : map N c.deref.result.now ≡ claimed_values p.statements = ap (map N) c.deref.ensures.value ∙ c.in_ok-found.ensures.claimed in
+    let actual : map N c.deref-2.result.now ≡ true_values o p.variables p.table p.statements = ap (map N) c.deref-2.ensures.value ∙ c.in_ok-found.ensures.actual in
+    let few : length p.statements < 2 ^ 64 = omega (arith, length-map found.items N, ap length c.in_ok-found.ensures.claimed, length-map p.statements (λ s. s.claimed), found.small) in
     tests_by o p c.first_other.result (Ok c.in_ok-refuse.field-0)
     (c.first_other.ensures p.variables p.table p.statements claimed actual ∙ sym (capped-exact o p.variables p.table p.statements few)) c.in_ok-refuse.ensures

@@ -1,24 +1,36 @@
-use Rattle.std.proofs.Common.{◌<◌, ◌∙◌}
+use Rattle.std.proofs.Common.{◌<◌, ◌∙◌, ap}
 use Rattle.std.proofs.lemmas.List.Elements.{All-map}
 use Rattle.std.proofs.lemmas.Result.{IfOk-weaker}
 use Rattle.sc_audit.specs.Cases.{asked_of}
+use Rattle.sc_audit.proofs.StatedLaws.{asked-stated}
 use Rattle.sumcheck_run.specs.Made.{summary_lines}
+use Rattle.sumcheck_run.specs.Report.{case_reply}
 use Rattle.sumcheck_run.proofs.ReportLaws.{unrefused, reported-reply, told-reply}
 use Rattle.sumcheck_run.proofs.made.answer_in_short.Goals as goal
 
 pub returns-in-Ok : goal.returns-in-Ok
 returns-in-Ok g c =
-    let q = asked_of c.args.job.now (g.C.Challenger.rules c.args.challenger.now) (g.C.Challenger.history c.args.challenger.now) in
+    let R = g.C.Challenger.rules c.args.challenger.now in
+    let H = g.C.Challenger.history c.args.challenger.now in
+    let job = c.audit_true.new.job in
+    let call = c.audit_true.ensures in
+    let q = asked_of job R H in
     let lines = summary_lines c.args.rows 2 g.EF.Field.ops in
+    let told = asked-stated c.args.job.now job R H c.audit_true.result call.kept c.requires (λ none. cc (c.in-Ok.is, none)) call.stated in
     IfOk-weaker c.show_in_short.result _ _
-    (λ a e. e ∙ reported-reply lines q _ _ (unrefused c.in-Ok.report c.audit.result _ c.in-Ok.is c.audit.ensures.refused)
-    (All-map (λ n. n < g.F.Field.ops.size) g.F.Field.number _ (λ k d low. g.met.F.Field.number_below _)) c.in-Ok.ensures.answers)
+    (λ a e. e ∙ reported-reply lines q _ _ (unrefused c.in-Ok.report c.audit_true.result _ c.in-Ok.is call.refused)
+    (All-map (λ n. n < g.F.Field.ops.size) g.F.Field.number _ (λ k d low. g.met.F.Field.number_below _)) c.in-Ok.ensures.answers ∙ ap (case_reply lines) told)
     c.show_in_short.ensures
 
 pub returns-in-Err : goal.returns-in-Err
 returns-in-Err g c =
-    let q = asked_of c.args.job.now (g.C.Challenger.rules c.args.challenger.now) (g.C.Challenger.history c.args.challenger.now) in
+    let R = g.C.Challenger.rules c.args.challenger.now in
+    let H = g.C.Challenger.history c.args.challenger.now in
+    let job = c.audit_true.new.job in
+    let call = c.audit_true.ensures in
+    let q = asked_of job R H in
     let lines = summary_lines c.args.rows 2 g.EF.Field.ops in
     IfOk-weaker c.refuse.result _ _
-    (λ a e. e.0 ∙ told-reply lines q g.met.EF.Field.is_field.ring tt c.audit.result _ _ e.1 c.in-Err.is c.audit.ensures.refused c.in-Err.ensures.answers)
+    (λ a e. e.0 ∙ told-reply lines q g.met.EF.Field.is_field.ring tt c.audit_true.result _ _ e.1 c.in-Err.is call.refused c.in-Err.ensures.answers
+    ∙ ap (case_reply lines) (asked-stated c.args.job.now job R H c.audit_true.result call.kept c.requires (λ none. e.1 (cc (c.in-Err.is, none))) call.stated))
     c.refuse.ensures

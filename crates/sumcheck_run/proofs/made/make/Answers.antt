@@ -3,12 +3,19 @@ use Rattle.std.proofs.lemmas.Result.{IfOk-weaker}
 use Rattle.sc_audit.proofs.ShapeLaws.{shifted}
 use Rattle.sumcheck_run.specs.Made.{PartsFit, parts_in, parts_end}
 use Rattle.sumcheck_run.specs.Values.{number_of}
-use Rattle.sumcheck_run.proofs.MadeJobs.{made-holds, parts-fit, about-reply}
+use Rattle.sumcheck_run.proofs.MadeJobs.{made-holds, parts-fit, about-shape, about-reply}
 use Rattle.sumcheck_run.proofs.made.make.Goals as goal
 
 pub job_of-requires : goal.job_of-requires
 job_of-requires c =
     subst PartsFit (sym (c.in_ok-parts.ensures c.args.recipe.number c.new-values.ensures).0) (parts-fit c.args.recipe.number c.args.recipe.variables)
+
+-- the shape of what is made is not refused
+pub answer_in_short-requires : goal.answer_in_short-requires
+answer_in_short-requires c =
+    let r = c.args.recipe in
+    let parts = c.in_ok-parts.ensures r.number c.new-values.ensures in
+    about-shape r _ (parts_in number_of c.in_ok-parts.parts) _ _ _ c.new-challenger.result.events.items c.requires (c.in_ok-job.ensures _ _) parts.0 c.new-challenger.ensures.rules
 
 pub returns-clause-reply : goal.returns-clause-reply
 returns-clause-reply c =
