@@ -2,10 +2,11 @@
 use Rattle.std.proofs.Common.{◌≡◌, ◌≢◌, ℕ, zero, suc, ◌+◌, ◌-◌, ◌^◌, ◌<◌, ◌≤◌, List, [], ◌∷◌, ◌++◌, length, map, All, get_or, set, sym, ◌∙◌, ap, refl, subst, arith, ⊎_elim}
 use Rattle.std.proofs.lemmas.Bool.{cases_lt}
 use Rattle.std.proofs.lemmas.List.{length-append, length-map, get_or-set_same, get_or-set_other, get_or_default}
-use Rattle.sc_definitions.specs.Ring.{Ops, IsRing, minus}
+use Rattle.sc_definitions.specs.Ring.{Ops, IsRing, minus, times}
 use Rattle.sc_definitions.specs.Tables.{prefix, value, digits}
 use Rattle.sc_definitions.specs.Polynomials.{poly_plus, poly_times, poly_sum}
-use Rattle.sc_definitions.specs.Products.{line_of, lines_product, product_round}
+use Rattle.sc_definitions.specs.Products.{values_product, product_claim, line_of, lines_product, product_round}
+use Rattle.sc_definitions.proofs.Sums.{sum-same}
 use Rattle.sc_definitions.proofs.TableLaws.{length-digits}
 use Rattle.sc_table.specs.declared.poly.Poly.{Poly}
 use Rattle.sc_table.specs.Polys.{variables_of, table_of, IsFixed}
@@ -69,6 +70,19 @@ module _ {X : Type 0} (o : Ops) (ring : IsRing o) (number : X → ℕ) (r : ℕ)
       ∙ ap (poly_times o (line_of o (table_of number t) (r ∷ qs) m b))
       (lines-fixed ts us n qs m b (omega (arith, same)) (λ k d low. arity (suc k) d (omega (arith, low))) long (λ k d low. are (suc k) d (omega (arith, low))))
 
+  -- the product of the bound tables' values is that of the tables' with r first
+  values-fixed : (ts us : List (Poly X)) (n : ℕ) (zs : List ℕ) → length us ≡ length ts → All (λ t. variables_of t ≡ n) us → length zs ≡ n →
+      ((k : ℕ) (d : Poly X) → k < length ts → IsFixed prefix o number r (get_or ts k d) (get_or us k d)) →
+      values_product o (map (table_of number) us) zs ≡ values_product o (map (table_of number) ts) (r ∷ zs)
+  unfolding values_product
+  values-fixed [] [] n zs same arity long are = refl
+  values-fixed [] (u ∷ us) n zs same arity long are = absurd (omega (arith, same))
+  values-fixed (t ∷ ts) [] n zs same arity long are = absurd (omega (arith, same))
+  values-fixed (t ∷ ts) (u ∷ us) n zs same arity long are =
+      ap (λ v. times o v (values_product o (map (table_of number) us) zs)) ((are 0 u (omega arith)).values zs (long ∙ sym (arity 0 u (omega arith))))
+      ∙ ap (times o (value o (table_of number t) (r ∷ zs)))
+      (values-fixed ts us n zs (omega (arith, same)) (λ k d low. arity (suc k) d (omega (arith, low))) long (λ k d low. are (suc k) d (omega (arith, low))))
+
   -- as many variables are left in each
   pub fixed-arity : (ts us : List (Poly X)) (n m : ℕ) → length us ≡ length ts → All (λ t. variables_of t ≡ n) ts → n ≡ m + 1 →
       ((k : ℕ) (d : Poly X) → k < length ts → IsFixed prefix o number r (get_or ts k d) (get_or us k d)) → All (λ t. variables_of t ≡ m) us
@@ -80,7 +94,7 @@ module _ {X : Type 0} (o : Ops) (ring : IsRing o) (number : X → ℕ) (r : ℕ)
   pub folded : (ts us : List (Poly X)) (n m : ℕ) → length us ≡ length ts → All (λ t. variables_of t ≡ n) ts → n ≡ m + 1 →
       ((k : ℕ) (d : Poly X) → k < length ts → IsFixed prefix o number r (get_or ts k d) (get_or us k d)) →
       IsFolded (r ∷ []) (prover_of o (map (table_of number) ts) n) (prover_of o (map (table_of number) us) m)
-  unfolding product_round
+  unfolding product_round product_claim
   folded ts us n m same arity one_less are =
       let left = fixed-arity ts us n m same arity one_less are in
       record {
@@ -92,4 +106,10 @@ module _ {X : Type 0} (o : Ops) (ring : IsRing o) (number : X → ℕ) (r : ℕ)
             let e : k ≡ n - suc (suc (length qs)) = omega (arith, low, one_less) in
             sums-same o (2 ^ k) _ _ (λ b. lines-fixed ts us m qs k b same left behind are)
             ∙ ap (λ j. product_round o (map (table_of number) ts) (r ∷ qs) j) e;
+        claim = λ qs low.
+            let k = m - length qs in
+            let e : k ≡ n - suc (length qs) = omega (arith, one_less) in
+            sum-same o (2 ^ k) _ _ (λ b under. values-fixed ts us m (qs ++ digits k b) same left
+            (length-append qs (digits k b) ∙ ap (λ j. length qs + j) (length-digits o ring k b) ∙ omega (arith, low)) are)
+            ∙ ap (λ j. product_claim o (map (table_of number) ts) (r ∷ qs) j) e;
       }

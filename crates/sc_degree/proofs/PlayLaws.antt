@@ -1,11 +1,12 @@
 -- Rounds that are played one after the other.
-use Rattle.std.proofs.Common.{◌≡◌, ◌⊎◌, ℕ, zero, suc, ◌+◌, ◌<◌, ◌≤◌, List, [], ◌∷◌, ◌++◌, length, map, Result, Ok, Err, inl, inr, refl, ap, sym, ◌∙◌, subst, arith, append_assoc, length-append}
+use Rattle.std.proofs.Common.{◌≡◌, ℕ, zero, suc, ◌+◌, ◌<◌, ◌≤◌, List, [], ◌∷◌, ◌++◌, length, map, All, Result, Err, inl, inr, refl, ap, sym, ◌∙◌, subst, arith, append_assoc, length-append}
 use Rattle.std.proofs.lemmas.List.{append-nil, length-map}
+use Rattle.std.proofs.lemmas.List.Elements.{All-map}
 use Rattle.std.proofs.lemmas.List.FromFn.{length-map-range_with_len}
 use Rattle.std.proofs.lemmas.Grind.{flat_map-append}
 use Rattle.sc_definitions.specs.declared.events.Event.{Event}
 use Rattle.sc_definitions.specs.Ring.{Ops}
-use Rattle.sc_definitions.specs.Transcript.{Round, round_events, rounds_events, challenge, challenges, HasFirstWitness, IsBuilt}
+use Rattle.sc_definitions.specs.Transcript.{round_events, rounds_events, challenge, challenges, HasFirstWitness}
 use Rattle.sc_definitions.specs.Interpolation.{node_values}
 use Rattle.sc_definitions.specs.Channels.{Channel, Wire, empty_wire, with_rounds, NoWitnessFound}
 use Rattle.sc_definitions.proofs.BuiltLaws.{challenges-append, length-challenges, IsBuilt-append}
@@ -15,14 +16,14 @@ use Rattle.sc_degree.specs.declared.error.GenericDegreeError.TheVariants.{NoWitn
 use Rattle.sc_degree.specs.declared.played.Played.{Played}
 use Rattle.sc_degree.specs.declared.proof.GenericDegreeProof.{GenericDegreeProof}
 use Rattle.sc_degree.specs.declared.transcript.GenericDegreeShape.{GenericDegreeShape}
-use Rattle.sc_degree.specs.Proofs.{wire_in}
-use Rattle.sc_degree.specs.Provers.{Prover, IsFolded, honest_in, Play, begun, behind, PlaysRounds, IsPlayed, IsPlayedInPart, StopsAt, LeavesPlay}
-use Rattle.sc_degree.specs.Plays.{Standing, fresh_standing, IsFilled, next_values, PlaysOne, HasPlayed, StopsAfter, LeavesRounds}
+use Rattle.sc_degree.specs.Provers.{Prover, IsFolded, honest_in, Play, begun, behind, PlaysRounds, IsPlayed, LeavesPlay}
+use Rattle.sc_degree.specs.Drivers.{IsRefused}
+use Rattle.sc_degree.specs.Plays.{Standing, standing_in, fresh_standing, IsFilled, next_values, PlaysOne, HasPlayed, StopsAfter}
 
 -- ---- challenges that are folded in
 
 pub folded-none : (p : Prover) → IsFolded [] p p
-folded-none p = record { degree = refl; variables = omega arith; polynomial = λ qs low. refl }
+folded-none p = record { degree = refl; variables = omega arith; polynomial = λ qs low. refl; claim = λ qs low. refl }
 
 pub folded-more : (rs : List ℕ) (r : ℕ) (p s t : Prover) → IsFolded rs p s → IsFolded (r ∷ []) s t → IsFolded (rs ++ r ∷ []) p t
 folded-more rs r p s t many one = record {
@@ -30,6 +31,8 @@ folded-more rs r p s t many one = record {
   variables = omega (arith, many.variables, one.variables, length-append rs (r ∷ []));
   polynomial = λ qs low.
       one.polynomial qs low ∙ many.polynomial (r ∷ qs) (omega (arith, low, one.variables)) ∙ ap p.polynomial (sym (append_assoc rs (r ∷ []) qs));
+  claim = λ qs low.
+      one.claim qs low ∙ many.claim (r ∷ qs) (omega (arith, low, one.variables)) ∙ ap p.claim (sym (append_assoc rs (r ∷ []) qs));
 }
 
 -- ---- rounds
@@ -105,6 +108,20 @@ filled_as s s' n n' p es en filled = rw (← es, ← en) filled
 pub some_left : (total vars left drawn i : ℕ) → vars ≡ drawn + left → drawn ≡ i → i < total → total ≤ vars → 0 < left
 some_left total vars left drawn i is at low enough = omega arith
 
+-- the next round is refused
+pub stops_after : {F EF : Type 0} (base : F → ℕ) (number : EF → ℕ) (o : Ops) (c c₁ : Channel) (total i : ℕ) (start : List Event) (from p : Prover) (h : List Event) (played : Played F EF) (after : Standing) (e : GenericDegreeError) →
+    c₁ ≡ c → ((w : F) → base w < c.base_size) → HasPlayed o c start from (standing_in base number p h played) → length (map number played.challenges.items) ≡ i → i < total →
+    (after.prover ≡ p) × IsRefused c₁ i h (next_values o p) after.history e → StopsAfter o c total start from after e
+stops_after base number o c c₁ total i start from p h played after e same low so_far count few left = record {
+  last = standing_in base number p h played;
+  played = so_far;
+  few = subst (λ k. k < total) (sym count) few;
+  low = All-map (λ w. w < c.base_size) base played.proof.pow_witnesses.items (λ k d within. low _);
+  kept = left.0;
+  why = subst (λ ch. IsRefused ch (length (map number played.challenges.items)) h (next_values o p) after.history e) same
+      (subst (λ k. IsRefused c₁ k h (next_values o p) after.history e) (sym count) left.1);
+}
+
 -- ---- by the result
 
 module _ (q : Play) (p : Prover) where
@@ -146,6 +163,7 @@ module _ (q : Play) (p : Prover) where
         rs = last.drawn;
         plays = plays_rounds last after.prover b.played b.kept;
         count = sym l ∙ sym b.why.0;
+        low = subst (λ (w : Wire). All (λ x. x < q.channel.base_size) w.witnesses) b.played.wire b.low;
         some = subst (λ k. k < q.shape.num_rounds) (sym b.why.0) few;
         none = subst (NoWitnessFound q.channel (behind q b.played.rounds) (node_values q.ops p.degree (p.polynomial last.drawn))) (sym left) none';
       }

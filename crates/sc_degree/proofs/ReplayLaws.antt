@@ -1,27 +1,25 @@
 -- What a replay leaves, round after round and by its result.
-use Rattle.std.proofs.Common.{◌≡◌, ◌≢◌, ◌⊎◌, ℕ, ◌+◌, ◌<◌, ◌≤◌, List, [], ◌∷◌, ◌++◌, All, take, length, map, get_or, refl, ap, sym, subst, ◌∙◌, inl, inr, Option, Some, None, Result, Ok, Err, IsSome, Vec, Global, arith}
+use Rattle.std.proofs.Common.{◌≡◌, ℕ, ◌+◌, ◌<◌, List, [], ◌∷◌, ◌++◌, All, take, length, map, get_or, ap, sym, subst, ◌∙◌, inr, Option, Some, Err, IsSome, Vec, Global}
 use Rattle.std.specs.List.{slice_get}
 use Rattle.std.specs.Prelude.{vec_len}
-use Rattle.std.proofs.lemmas.Bool.Decides.{nat_tests}
 use Rattle.std.proofs.lemmas.List.{length-map, take_more, map-append}
 use Rattle.std.proofs.lemmas.List.Elements.{All-append, All-cons, All-nil}
 use Rattle.std.proofs.lemmas.Option.{get_or_from_slice_get, slice_get_within, slice_get-get_or}
 use Rattle.sc_definitions.specs.declared.events.Event.{Event}
-use Rattle.sc_definitions.specs.Ring.{Ops}
 use Rattle.sc_definitions.specs.Transcript.{Round, round_of, messages_of}
 use Rattle.sc_definitions.specs.Interpolation.{next_through}
 use Rattle.sc_definitions.specs.Channels.{Channel, Footing, footing, IsReplayed, WitnessFails}
 use Rattle.sc_definitions.specs.Events.{Extension}
-use Rattle.sc_definitions.proofs.ReplayLaws.{length-given_rounds, get_or-given_rounds, take_whole}
+use Rattle.sc_definitions.proofs.ReplayLaws.{length-given_rounds, get_or-given_rounds}
 use Rattle.sc_transcript.specs.Data.{witness_count}
 use Rattle.sc_transcript.proofs.ReplayedLaws.{witness_due, some_is_some}
 use Rattle.sc_transcript.proofs.WitnessReads.{message_at}
 use Rattle.sc_degree.specs.declared.error.GenericDegreeError.{GenericDegreeError}
-use Rattle.sc_degree.specs.declared.error.GenericDegreeError.TheVariants.{InvalidDegree, RoundCountMismatch, PowWitnessCountMismatch, PolyEvalCountMismatch, MissingPowWitness, InvalidPowWitness, NoMemory}
+use Rattle.sc_degree.specs.declared.error.GenericDegreeError.TheVariants.{PolyEvalCountMismatch, MissingPowWitness, InvalidPowWitness, NoMemory}
 use Rattle.sc_degree.specs.declared.proof.GenericDegreeProof.{GenericDegreeProof}
 use Rattle.sc_degree.specs.declared.transcript.GenericDegreeShape.{GenericDegreeShape}
 use Rattle.sc_degree.specs.Drivers.{Driver, channel_of, RejectsRound}
-use Rattle.sc_degree.specs.Proofs.{wire_in, rounds_of, Replay, rounds_in, start_of, AreWide, IsCounted, IsReplayedTo, EndsBehind, IsNarrow, EndsFailing, LeavesReplay, AreCounted, AreMiscounted}
+use Rattle.sc_degree.specs.Proofs.{wire_in, rounds_of, Replay, rounds_in, start_of, AreWide, IsCounted, IsReplayedTo, EndsBehind, IsNarrow, EndsFailing, LeavesReplay, AreCounted}
 
 -- ---- the rounds of a proof
 

@@ -1,13 +1,7 @@
 -- Shapes of rounds of any degree, by their seeds.
-use Rattle.std.proofs.Common.{◌≡◌, ◌≢◌, ℕ, zero, suc, ◌+◌, ◌^◌, ◌<◌, ◌≤◌, List, [], ◌∷◌, ◌++◌, length, get_or, take, drop, flat_map, refl, ap, sym, ◌∙◌, subst, arith}
-use Rattle.std.proofs.lemmas.List.{append_cancel_left}
-use Rattle.sc_definitions.specs.declared.interactions.Interaction.{Interaction}
-use Rattle.sc_definitions.specs.declared.interactions.Kind.TheVariants.{Message}
-use Rattle.sc_definitions.specs.declared.interactions.Length.TheVariants.{Scalar}
-use Rattle.sc_definitions.specs.declared.interactions.Label.TheVariants.{ClaimedSum}
-use Rattle.sc_definitions.specs.declared.interactions.Protocol.TheVariants.{GenericDegree}
+use Rattle.std.proofs.Common.{◌≡◌, ◌≢◌, ℕ, zero, suc, ◌^◌, ◌<◌, ◌≤◌, List, [], ◌++◌, get_or, take, drop, flat_map, refl, ap, sym, ◌∙◌, arith}
 use Rattle.sc_definitions.specs.Tables.{Basis}
-use Rattle.sc_definitions.specs.Seeds.{step, label_text, protocol_name, eight_bytes, length_prefixed, length_bytes, step_bytes, separator, separator_bytes, nibbles, seed_words, rounds_steps, degree_separator, degree_seed, quadratic_seed}
+use Rattle.sc_definitions.specs.Seeds.{label_text, protocol_name, eight_bytes, length_prefixed, length_bytes, step_bytes, separator_bytes, nibbles, seed_words, rounds_steps, degree_separator, degree_seed, quadratic_seed}
 use Rattle.sc_table.specs.Strategy.{basis_of}
 use Rattle.sc_transcript.specs.declared.transcript.SumcheckShape.{SumcheckShape}
 use Rattle.sc_transcript.specs.Shapes.{seed_of as quadratic_seed_of}

@@ -1,5 +1,5 @@
 -- A play between its rounds, as the functions that play it see it.
-use Rattle.std.specs.Prelude.{◌≡◌, ℕ, zero, suc, ◌+◌, ◌<◌, ◌≤◌, List, [], ◌∷◌, ◌++◌, length, map, vec_len, vec_capacity, Result, Ok, Err}
+use Rattle.std.specs.Prelude.{◌≡◌, ℕ, ◌<◌, ◌≤◌, List, [], ◌∷◌, ◌++◌, length, map, All, vec_len, vec_capacity, Result, Ok, Err}
 use Rattle.sc_definitions.specs.declared.events.Event.{Event}
 use Rattle.sc_definitions.specs.Ring.{Ops}
 use Rattle.sc_definitions.specs.Transcript.{Round, rounds_events, challenges, IsBuilt}
@@ -71,11 +71,12 @@ pub record HasPlayed (o : Ops) (c : Channel) (start : List Event) (from : Prover
   pub history : now.history ≡ start ++ rounds_events c.extension c.bits rounds
   pub wire : now.wire ≡ with_rounds c.bits empty_wire rounds
 
--- Some were, fewer than `total`, and the next one is refused.
+-- Some were, fewer than `total`, with witnesses that are numbers of elements, and the next one is refused.
 pub record StopsAfter (o : Ops) (c : Channel) (total : ℕ) (start : List Event) (from : Prover) (after : Standing) (e : GenericDegreeError) : Type 0 where
   pub last : Standing
   pub played : HasPlayed o c start from last
   pub few : length last.drawn < total
+  pub low : All (λ w. w < c.base_size) last.wire.witnesses
   pub kept : after.prover ≡ last.prover
   pub why : IsRefused c (length last.drawn) last.history (next_values o last.prover) after.history e
 

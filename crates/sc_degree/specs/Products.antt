@@ -1,7 +1,7 @@
 -- A product of tables, as contracts see it.
 use Rattle.std.specs.Prelude.{ℕ, suc, ◌-◌, List, length, map}
 use Rattle.sc_definitions.specs.Ring.{Ops}
-use Rattle.sc_definitions.specs.Products.{product_round}
+use Rattle.sc_definitions.specs.Products.{product_claim, product_round}
 use Rattle.sc_table.specs.Polys.{table_of}
 use Rattle.sc_degree.specs.declared.table_product.TableProduct.{TableProduct}
 use Rattle.sc_degree.specs.Provers.{Prover}
@@ -12,6 +12,7 @@ prover_of o fs variables = record {
   degree = length fs;
   variables = variables;
   polynomial = λ rs. product_round o fs rs (variables - suc (length rs));
+  claim = λ rs. product_claim o fs rs (variables - length rs);
 }
 
 -- the tables, by the numbers of their values

@@ -1,10 +1,10 @@
 -- What plays rounds of any degree, and what it leaves.
-use Rattle.std.specs.Prelude.{◌≡◌, ◌⊎◌, ℕ, ◌+◌, ◌<◌, ◌≤◌, List, [], ◌++◌, length, map, Result, Ok, Err}
+use Rattle.std.specs.Prelude.{◌≡◌, ◌⊎◌, ℕ, ◌+◌, ◌<◌, ◌≤◌, List, [], ◌++◌, length, map, All, Result, Ok, Err}
 use Rattle.sc_definitions.specs.declared.events.Event.{Event}
 use Rattle.sc_definitions.specs.Ring.{Ops}
 use Rattle.sc_definitions.specs.Transcript.{Round, rounds_events, challenges, IsBuilt}
 use Rattle.sc_definitions.specs.Interpolation.{node_values}
-use Rattle.sc_definitions.specs.Channels.{Channel, Wire, empty_wire, with_rounds, NoWitnessFound}
+use Rattle.sc_definitions.specs.Channels.{Channel, Wire, empty_wire, with_rounds, witnesses_of, NoWitnessFound}
 use Rattle.sc_degree.specs.declared.error.GenericDegreeError.{GenericDegreeError}
 use Rattle.sc_degree.specs.declared.error.GenericDegreeError.TheVariants.{NoWitness, NoMemory}
 use Rattle.sc_degree.specs.declared.proof.GenericDegreeProof.{GenericDegreeProof}
@@ -12,18 +12,20 @@ use Rattle.sc_degree.specs.declared.transcript.GenericDegreeShape.{GenericDegree
 use Rattle.sc_degree.specs.Shapes.{prelude_of}
 use Rattle.sc_degree.specs.Proofs.{wire_in}
 
--- A prover: the degree of its rounds, how many variables are left, and the round polynomial, by its coefficients, after each list of fewer challenges;
--- the polynomial after none is the current one.
+-- A prover: the degree of its rounds, how many variables are left, the round polynomial, by its coefficients, after each list of fewer challenges, and
+-- the true claim after each list of at most as many; the polynomial and the claim after none are the current ones.
 pub record Prover : Type 0 where
   pub degree : ℕ
   pub variables : ℕ
   pub polynomial : List ℕ → List ℕ
+  pub claim : List ℕ → ℕ
 
 -- the same prover with the challenges rs folded in
 pub record IsFolded (rs : List ℕ) (before after : Prover) : Type 0 where
   pub degree : after.degree ≡ before.degree
   pub variables : before.variables ≡ length rs + after.variables
   pub polynomial : (qs : List ℕ) → length qs < after.variables → after.polynomial qs ≡ before.polynomial (rs ++ qs)
+  pub claim : (qs : List ℕ) → length qs ≤ after.variables → after.claim qs ≡ before.claim (rs ++ qs)
 
 -- what it sends after the challenges rs, with m variables behind the round's: the values of its polynomial at the nodes of its degree
 abbrev pub honest_in : Ops → Prover → List ℕ → ℕ → List ℕ
@@ -71,12 +73,13 @@ pub record IsPlayedInPart (q : Play) (before after : Prover) (h' : List Event) :
   pub few : length rounds ≤ q.shape.num_rounds
   pub history : h' ≡ behind q rounds
 
--- The rounds before round i were, and no witness was found for what that one sends.
+-- The rounds before round i were, with witnesses that are numbers of elements, and no witness was found for what that one sends.
 pub record StopsAt (q : Play) (before after : Prover) (i : ℕ) (h' : List Event) : Type 0 where
   pub rounds : List Round
   pub rs : List ℕ
   pub plays : PlaysRounds q before after rounds rs
   pub count : length rounds ≡ i
+  pub low : All (λ w. w < q.channel.base_size) (witnesses_of q.channel.bits rounds)
   pub some : i < q.shape.num_rounds
   pub none : NoWitnessFound q.channel (behind q rounds) (node_values q.ops before.degree (before.polynomial rs)) h'
 

@@ -53,6 +53,16 @@ abbrev pub after : Ops → Tables → List ℕ → Tables
 after o t [] = t
 after o t (r ∷ rs) = after o (bound_all o r t) rs
 
+-- the sum over all rows of two products
+abbrev pub claim_of_two : Ops → Tables → ℕ
+claim_of_two o t =
+    sum_below o (length t.a) (λ k. slice_index t.a k *⟨ o ⟩ slice_index t.b k) +⟨ o ⟩ sum_below o (length t.c) (λ k. slice_index t.c k *⟨ o ⟩ slice_index t.d k)
+
 -- the prover of these tables, with so many variables left
 abbrev pub sum_of_two : Ops → Tables → ℕ → Prover
-sum_of_two o t variables = record { degree = 2; variables = variables; polynomial = λ rs. round_of_two o (after o t rs) }
+sum_of_two o t variables = record {
+  degree = 2;
+  variables = variables;
+  polynomial = λ rs. round_of_two o (after o t rs);
+  claim = λ rs. claim_of_two o (after o t rs);
+}

@@ -1,9 +1,10 @@
-use Rattle.std.proofs.Common.{◌+◌, refl, ap, sym, subst, ◌∙◌}
+use Rattle.std.proofs.Common.{◌+◌, refl, ap, sym, subst, ◌∙◌, arith}
+use Rattle.std.proofs.lemmas.List.{length-map}
 use Rattle.sc_transcript.proofs.ReplayedLaws.{same_channel}
 use Rattle.sc_degree.specs.declared.transcript.GenericDegreeShape.{GenericDegreeShape}
 use Rattle.sc_degree.specs.Drivers.{driver_in, channel_of}
 use Rattle.sc_degree.specs.Plays.{HasPlayed}
-use Rattle.sc_degree.proofs.PlayLaws.{played-none, more_at, filled_as}
+use Rattle.sc_degree.proofs.PlayLaws.{played-none, more_at, filled_as, stops_after}
 use Rattle.sc_degree.proofs.prover.play.Goals as goal
 
 pub loop-round-init : goal.loop-round-init
@@ -37,3 +38,12 @@ loop-round-preserved g c =
           (same_channel _ _ g.EF.ExtensionField.extension g.F.Field.ops.size _ _ inv.continues.rules (ap (λ (s : GenericDegreeShape). s.pow_bits) inv.continues.shape))
           inv.played round.round;
     }
+
+-- the next round is refused
+pub returns-in-Err-clause-rounds : goal.returns-in-Err-clause-rounds
+returns-in-Err-clause-rounds g c =
+    let inv = c.loop-round.invariant in
+    stops_after g.F.Field.number g.EF.Field.number g.EF.Field.ops _ _ _ _ _ _ _ _ c.loop-round.played _ c.in-Err.error
+    (same_channel _ _ g.EF.ExtensionField.extension g.F.Field.ops.size _ _ inv.continues.rules (ap (λ (s : GenericDegreeShape). s.pow_bits) inv.continues.shape))
+    g.met.F.Field.number_below inv.played (length-map _ _ ∙ sym c.loop-round.played.challenges.ok.0 ∙ inv.filled.drawn ∙ sym inv.count)
+    (omega (arith, inv.count, c.loop-round-test.true, ap (λ (s : GenericDegreeShape). s.num_rounds) c.shape-shape.ensures)) c.in-Err.ensures.round

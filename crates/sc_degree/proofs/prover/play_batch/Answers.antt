@@ -1,4 +1,4 @@
-use Rattle.std.proofs.Common.{map, refl, ap, sym, ◌∙◌, rules}
+use Rattle.std.proofs.Common.{map, refl, ap, ◌∙◌, rules}
 use Rattle.sc_definitions.specs.Channels.{channel}
 use Rattle.sc_transcript.proofs.ReplayedLaws.{same_channel}
 use Rattle.sc_transcript.proofs.Lent.{returned}

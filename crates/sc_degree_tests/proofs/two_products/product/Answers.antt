@@ -1,4 +1,4 @@
-use Rattle.std.proofs.Common.{◌≡◌, ◌/◌, refl, ap, map, length, sym, ◌∙◌, arith}
+use Rattle.std.proofs.Common.{◌/◌, refl, ap, map, sym, ◌∙◌, arith}
 use Rattle.sc_definitions.proofs.Sums.{sum-zero}
 use Rattle.sc_degree_tests.specs.Sums.{constant, linear, leading}
 use Rattle.sc_degree_tests.proofs.TwoLaws.{entry_is, gap_is, sum_more, constant_is, linear_is, leading_is}

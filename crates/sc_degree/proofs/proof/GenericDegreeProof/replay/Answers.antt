@@ -4,7 +4,7 @@ use Rattle.std.proofs.Math.Nat.{le_antisymm}
 use Rattle.std.proofs.lemmas.List.Elements.{All-nil}
 use Rattle.sc_definitions.specs.Transcript.{Round, round_of}
 use Rattle.sc_definitions.specs.Channels.{channel, footing}
-use Rattle.sc_transcript.proofs.ReplayedLaws.{same_channel, replays_begin, replays_step, room_left}
+use Rattle.sc_transcript.proofs.ReplayedLaws.{same_channel, replays_begin, replays_step}
 use Rattle.sc_transcript.proofs.Lent.{returned}
 use Rattle.sc_degree.specs.declared.transcript.GenericDegreeShape.{GenericDegreeShape}
 use Rattle.sc_degree.specs.Proofs.{Replay, replay_of, rounds_of}

@@ -1,4 +1,4 @@
-use Rattle.std.proofs.Common.{◌≡◌, ◌<◌, length, ◌∙◌, arith}
+use Rattle.std.proofs.Common.{◌∙◌, arith}
 use Rattle.sc_degree_tests.proofs.Arity.{first_arity-is}
 use Rattle.sc_degree_tests.proofs.tests.table_product.product_of.Goals as goal
 
