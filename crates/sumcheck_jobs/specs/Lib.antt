@@ -4,3 +4,4 @@ pub mod Statements
 pub mod Groups
 pub mod Job
 pub mod Rest
+pub mod ProductJob

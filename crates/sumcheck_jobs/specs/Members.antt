@@ -4,7 +4,7 @@ use Rattle.std.specs.Option.{ok_or}
 use Rattle.serde_json.specs.Data.{Data}
 use Rattle.sc_forms.specs.Forms.{member_form}
 use Rattle.sumcheck_jobs.specs.declared.member.Member.{Member}
-use Rattle.sumcheck_jobs.specs.declared.member.Member.TheVariants.{Whole, Field, Challenger, Order, Bits, Table, Variables, Groups, Batching, Mode}
+use Rattle.sumcheck_jobs.specs.declared.member.Member.TheVariants.{Whole, Field, Challenger, Order, Bits, Table, Tables, Variables, Groups, Batching, Mode}
 
 abbrev pub member_name : Member → List ℕ
 member_name Whole = codes "job"
@@ -13,6 +13,7 @@ member_name Challenger = codes "challenger"
 member_name Order = codes "order"
 member_name Bits = codes "bits"
 member_name Table = codes "table"
+member_name Tables = codes "tables"
 member_name Variables = codes "variables"
 member_name Groups = codes "groups"
 member_name Batching = codes "batching"

@@ -1,12 +1,15 @@
 //! The job that a JSON value describes, or the first member for which it describes none.
 //!
-//! What a value is read as is one function of the definitions, `job_of` in `specs/Job.antt`, and what the numbers of a job have that was read is one
-//! relation, `JobFits`. Elements stand by their numbers; which statements the claims make is said in `specs/Statements.antt`.
+//! What a value is read as is one function of the definitions, `job_of` in `specs/Job.antt`, and
+//! what the numbers of a job have that was read is one relation, `JobFits`; for the jobs of
+//! `product` these are `product_job_of` and `ProductJobFits` in `specs/ProductJob.antt`. Elements
+//! stand by their numbers; which statements the claims make is said in `specs/Statements.antt`.
 #![tactic(auto)]
 
 mod groups;
 mod job;
 mod member;
+mod product;
 mod reading;
 
 pub use job::{
@@ -14,4 +17,5 @@ pub use job::{
     Script, Sizes, SuccessorClaim,
 };
 pub use member::{Member, Unread};
+pub use product::{ProductJob, ProductMode, ProductProof, read_product};
 pub use reading::read_job;

@@ -16,12 +16,12 @@ use std::alloc::Global;
 // The greatest number of a point's coordinates, and of small-value rounds that can be named.
 const MOST_VARIABLES: u64 = 64;
 
-// The greatest difficulty that a job can name.
-const MOST_BITS: u64 = 65535;
+/// The greatest difficulty that a job can name.
+pub(crate) const MOST_BITS: u64 = 65535;
 
-// A field by its name.
+/// A field by its name.
 #[derive(Clone, Copy)]
-struct FieldForm;
+pub(crate) struct FieldForm;
 
 impl Form for FieldForm {
     type Out = FieldName;
@@ -62,10 +62,10 @@ impl Form for ScriptForm {
     }
 }
 
-// The hash challenger by its name, or a scripted one.
+/// The hash challenger by its name, or a scripted one.
 #[derive(Clone, Copy)]
-struct ChallengerForm {
-    sizes: Sizes,
+pub(crate) struct ChallengerForm {
+    pub(crate) sizes: Sizes,
 }
 
 impl Form for ChallengerForm {

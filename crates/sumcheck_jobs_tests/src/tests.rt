@@ -1,13 +1,14 @@
-//! The texts of the errors, and the forms of a build.
+//! The texts of the errors, the forms of a build, and jobs of `product`.
 use sc_forms::read_value;
 use sc_table::Strategy;
 use std::alloc::Global;
 use std::process::Abort;
-use sumcheck_jobs::{Member, Mode, Unread, read_job};
+use sumcheck_jobs::{Member, Mode, ProductJob, ProductMode, Unread, read_job, read_product};
 
-static MISFITS: [(Member, &str); 2] = [
+static MISFITS: [(Member, &str); 3] = [
     (Member::Whole, "`job` is missing, or not of its form"),
     (Member::Bits, "`bits` is missing, or not of its form"),
+    (Member::Tables, "`tables` is missing, or not of its form"),
 ];
 
 #[test]
@@ -98,5 +99,105 @@ fn anything_else_is_a_bad_mode(rt: HostRuntime) {
     for mode in &NO_BUILDS {
         let found = build_of(&rt, rt.alloc(), *mode);
         assert_eq!(rt; found, Err(Unread::Misfit(Member::Mode)), "{mode}");
+    }
+}
+
+// A job of `product` with these tables, and this mode.
+const PRODUCT: &str = r#"{"field":"16","challenger":"hash","bits":3,
+    "tables":TABLES,"mode":MODE}"#;
+
+// What this job is read as.
+fn product_of<A: Abort>(
+    rt: &A,
+    alloc: Global,
+    tables: &str,
+    mode: &str,
+) -> Result<ProductJob, Unread> {
+    let text = PRODUCT
+        .replace(alloc, "TABLES", tables)
+        .expect(rt, "memory");
+    let text = text.replace(alloc, "MODE", mode).expect(rt, "memory");
+    let value = read_value(alloc, text.as_bytes()).expect(rt, "JSON");
+    read_product(alloc, value)
+}
+
+// Tables, and the length of each.
+static TABLES: [(&str, &[usize]); 4] = [
+    ("[[]]", &[0]),
+    ("[[15],[0,1],[]]", &[1, 2, 0]),
+    ("[[1],[2],[3],[4],[5],[6],[7]]", &[1, 1, 1, 1, 1, 1, 1]),
+    (
+        "[[1],[2],[3],[4],[5],[6],[7],[8]]",
+        &[1, 1, 1, 1, 1, 1, 1, 1],
+    ),
+];
+
+#[test]
+fn from_one_to_eight_tables(rt: HostRuntime) {
+    for (tables, lengths) in &TABLES {
+        let job = product_of(&rt, rt.alloc(), *tables, r#""build""#).expect(&rt, "a job");
+        assert_eq!(rt; job.tables.len(), lengths.len(), "{tables}");
+        for i in 0..lengths.len() {
+            assert_eq!(rt; job.tables.as_slice()[i].len(), lengths[i], "{tables}");
+        }
+        assert!(rt; matches!(job.mode, ProductMode::Build), "{tables}");
+    }
+}
+
+static NO_TABLES: [&str; 6] = [
+    "[]",
+    "[[1],[2],[3],[4],[5],[6],[7],[8],[9]]",
+    "[[16]]",
+    "[1]",
+    "{}",
+    "null",
+];
+
+#[test]
+fn anything_else_is_no_tables(rt: HostRuntime) {
+    for tables in &NO_TABLES {
+        let found = product_of(&rt, rt.alloc(), *tables, r#""build""#);
+        assert!(rt;
+            matches!(found, Err(Unread::Misfit(Member::Tables))),
+            "{tables}"
+        );
+    }
+}
+
+// The proof has rounds of any widths, and the other members of the mode are ignored.
+const CHECK: &str = r#"{"build":"build","check":
+    {"claimed":7,"rounds":[[],[1,2,3]],"witnesses":[4,5],"more":0},"other":null}"#;
+
+#[test]
+fn a_proof_of_a_product(rt: HostRuntime) {
+    let job = product_of(&rt, rt.alloc(), "[[1]]", CHECK).expect(&rt, "a job");
+    let ProductJob { mode, .. } = job;
+    let ProductMode::Check(proof) = mode else {
+        panic!(rt; "no check");
+    };
+    assert_eq!(rt; proof.claimed, 7);
+    assert_eq!(rt; proof.rounds.len(), 2);
+    assert_eq!(rt; proof.rounds.as_slice()[0].as_slice(), [0; 0].as_slice());
+    assert_eq!(rt; proof.rounds.as_slice()[1].as_slice(), [1, 2, 3].as_slice());
+    assert_eq!(rt; proof.witnesses.as_slice(), [4, 5].as_slice());
+}
+
+static NO_MODES: [&str; 6] = [
+    r#""check""#,
+    r#"{"build":"plain"}"#,
+    r#"{"check":null}"#,
+    r#"{"check":{"rounds":[],"witnesses":[]}}"#,
+    r#"{"check":{"claimed":16,"rounds":[],"witnesses":[]}}"#,
+    r#"{"check":{"claimed":0,"rounds":[1],"witnesses":[]}}"#,
+];
+
+#[test]
+fn anything_else_is_no_mode_of_a_product(rt: HostRuntime) {
+    for mode in &NO_MODES {
+        let found = product_of(&rt, rt.alloc(), "[[1]]", *mode);
+        assert!(rt;
+            matches!(found, Err(Unread::Misfit(Member::Mode))),
+            "{mode}"
+        );
     }
 }

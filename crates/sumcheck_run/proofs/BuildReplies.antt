@@ -22,11 +22,13 @@ use Rattle.sumcheck_jobs.specs.declared.job.FieldName.{FieldName}
 use Rattle.sumcheck_jobs.specs.declared.job.FieldName.TheVariants.{F65537, F257x2, F16}
 use Rattle.sumcheck_jobs.specs.declared.job.Job.{Job}
 use Rattle.sumcheck_jobs.specs.declared.job.Mode.TheVariants.{Build}
-use Rattle.sumcheck_run.specs.declared.reply.Outcome.TheVariants.{Holds, NoWitness}
-use Rattle.sumcheck_run.specs.Reply.{no_witness}
-use Rattle.sumcheck_run.specs.Witnesses.{honest_rounds}
-use Rattle.sumcheck_run.specs.Report.{Fields, fields_of, judge, task_of, asked_by, finding_reply, report_lines, or_no_witness, rounds_of, report_from, rounds_reply, reply_by, case_reply, judge_over}
-use Rattle.sumcheck_run.proofs.WitnessLaws.{IsBuiltOr, honest_rounds-built}
+use Rattle.sumcheck_replies.specs.declared.reply.Outcome.TheVariants.{Holds, NoWitness}
+use Rattle.sumcheck_replies.specs.Reply.{no_witness}
+use Rattle.sumcheck_replies.specs.Witnesses.{honest_rounds}
+use Rattle.sumcheck_replies.specs.Fields.{Fields, fields_of}
+use Rattle.sumcheck_replies.specs.Refusals.{finding_reply}
+use Rattle.sumcheck_run.specs.Report.{judge, task_of, asked_by, report_lines, or_no_witness, rounds_of, report_from, rounds_reply, reply_by, case_reply, judge_over}
+use Rattle.sumcheck_replies.proofs.WitnessLaws.{IsBuiltOr, honest_rounds-built}
 
 capped-none : (found : Option FalseClaim) → false_refusal (capped found) ≡ None → found ≡ None
 capped-none None e = refl
@@ -72,7 +74,7 @@ pub case_holds : (lines : Reported → List ℕ) (q : Asked) → IsRing q.ops �
     refusal_of q ≡ None → ((case_reply lines q).outcome ≡ Holds) ⊎ ((0 < q.channel.bits) × ((case_reply lines q).outcome ≡ NoWitness))
 unfolding case_reply
 case_holds lines q ring offered strategy task none =
-    let built = honest_rounds (honest_of q.ops q.case.problem) q.channel.rules q.channel.extension q.channel.base_size q.channel.bits (start_of q).history [] q.case.problem.variables in
+    let built = honest_rounds (honest_of q.ops q.case.problem) q.channel (start_of q).history [] q.case.problem.variables in
     let is : (case_reply lines q).outcome ≡ (rounds_reply lines q (or_no_witness built)).outcome =
     ap (λ first. (reply_by first (rounds_reply lines q (rounds_of q q.case.task))).outcome) none
     ∙ ap (λ t. (rounds_reply lines q (rounds_of q t)).outcome) task in

@@ -1,7 +1,4 @@
 pub mod GroupLaws
-pub mod LineLaws
-pub mod GridLines
-pub mod WitnessLaws
 pub mod BuildReplies
 pub mod ReportLaws
 pub mod Outcomes

@@ -32,7 +32,7 @@ use Rattle.sc_audit.specs.Refusals.{or_later, variables_refusal, first_unfit, st
 use Rattle.sc_audit.specs.Stated.{asked_truly}
 use Rattle.sc_audit.proofs.ShapeLaws.{exponent-next, exponent-found}
 use Rattle.sumcheck_run.specs.declared.command.Recipe.{Recipe}
-use Rattle.sumcheck_run.specs.declared.reply.Outcome.TheVariants.{Holds}
+use Rattle.sumcheck_replies.specs.declared.reply.Outcome.TheVariants.{Holds}
 use Rattle.sumcheck_run.specs.Report.{case_reply}
 use Rattle.sumcheck_run.specs.Words.{most_small, IsNamed, IsMade}
 use Rattle.sumcheck_run.specs.Made.{value_at, Parts, parts_of, parts_end, PartsFit, true_statement, true_statements, problem_about, asked_about, values_behind, made_asked, made_reply, summary_lines}

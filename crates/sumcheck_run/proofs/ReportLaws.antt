@@ -1,10 +1,10 @@
 -- The answer to a job, from what an audit answers.
-use Rattle.std.proofs.Common.{◌≡◌, ◌≢◌, inl, inr, ℕ, ◌+◌, suc, ◌<◌, List, [], ◌++◌, All, slice_index, length, take, map, Option, None, Some, false, refl, ap, sym, subst, ◌∙◌, arith}
+use Rattle.std.proofs.Common.{◌≡◌, ◌≢◌, inl, inr, ℕ, ◌+◌, suc, ◌<◌, List, [], ◌++◌, All, length, take, map, Option, None, Some, false, refl, ap, sym, subst, ◌∙◌, arith}
 use Rattle.std.specs.Prelude.{⊤, Result, Ok, Err}
 use Rattle.std.proofs.lemmas.List.{length-map}
 use Rattle.sc_definitions.specs.declared.events.Event.{Event}
 use Rattle.sc_definitions.specs.Ring.{IsRing}
-use Rattle.sc_definitions.specs.Tables.{evaluation, IsOffered, entries, rows_of}
+use Rattle.sc_definitions.specs.Tables.{evaluation, IsOffered, entries}
 use Rattle.sc_definitions.specs.Statements.{Statement}
 use Rattle.sc_definitions.specs.Events.{Rules, NonePasses}
 use Rattle.sc_definitions.specs.Channels.{channel}
@@ -21,14 +21,12 @@ use Rattle.sc_audit.specs.Figures.{Figures, Reported, holds, figures_of}
 use Rattle.sc_audit.specs.Audits.{AreRounds, IsPlayed, IsAudited, IsLucky, WitnessFails, FindsNoWitness, IsCaused, IsRefusedBy, figures_from, grids_for}
 use Rattle.sumcheck_jobs.specs.declared.job.Job.{Job}
 use Rattle.sumcheck_jobs.specs.Statements.{all_claims}
-use Rattle.sumcheck_run.specs.Report.{Fields, task_of, asked_with, rules_of, refusal_reply, finding_reply, report_lines, report_reply, or_no_witness, unless_failing, passing_rounds, rounds_of, rounds_reply, reply_by, case_reply, judge_over}
-use Rattle.sumcheck_run.proofs.WitnessLaws.{AreLow, honest_rounds-whole, honest_rounds-none, none_passes, first_failing-at, first_failing-none}
+use Rattle.sumcheck_replies.specs.Fields.{Fields}
+use Rattle.sumcheck_replies.specs.Refusals.{refusal_reply, finding_reply}
+use Rattle.sumcheck_run.specs.Report.{task_of, asked_with, rules_of, report_lines, report_reply, or_no_witness, unless_failing, passing_rounds, rounds_of, rounds_reply, reply_by, case_reply, judge_over}
+use Rattle.sumcheck_replies.proofs.NumberLaws.{entries-numbers}
+use Rattle.sumcheck_replies.proofs.WitnessLaws.{AreLow, honest_rounds-whole, honest_rounds-none, none_passes, first_failing-at, first_failing-none}
 use Rattle.sumcheck_run.proofs.BuildReplies.{all-true, built-finding}
-
--- the table of elements is that of their numbers
-pub entries-numbers : {X : Type 0} (number : X → ℕ) (xs : List X) (ns : List ℕ) → map number xs ≡ ns → entries number xs ≡ rows_of ns
-unfolding entries rows_of
-entries-numbers number xs ns is = ap (λ ys b. slice_index ys b) is
 
 -- what elements ask is what their numbers do
 pub asked-same : {X : Type 0} (k : Fields) (number : X → ℕ) (xs : List X) (bits n : ℕ) (ss : List Statement) (c i : ℕ) (t : Task) (job : Job) (R : Rules) (h : List Event) →

@@ -3,25 +3,26 @@ use Rattle.std.proofs.Common.{◌≡◌, ◌⊎◌, ◌<◌, ◌≤◌, ◌++◌
 use Rattle.std.proofs.lemmas.Bool.{cases_Bool, cond-true, lt-ltb, ltb-true, ltb-false, leb-false, eqb-false, false≢true}
 use Rattle.std.proofs.lemmas.List.{append-nil}
 use Rattle.std.specs.Io.KnownBytes.{Appends}
+use Rattle.serde_json.specs.Data.{Data}
 use Rattle.sc_streams.specs.Faults.{HasRisen}
 use Rattle.sumcheck_run.specs.declared.command.Command.{Command}
-use Rattle.sumcheck_run.specs.declared.command.Command.TheVariants.{Audit, Make}
-use Rattle.sumcheck_run.specs.declared.reply.Outcome.{Outcome}
-use Rattle.sumcheck_run.specs.declared.reply.Outcome.TheVariants.{Holds, Refuted, Usage, JobRefused, ProofRefused, NoWitness}
-use Rattle.sumcheck_run.specs.Reply.{Reply, code_of}
-use Rattle.sumcheck_run.specs.Program.{max_input, too_long, audit_reply, json_reply, reads_input, reply_of}
+use Rattle.sumcheck_run.specs.declared.command.Command.TheVariants.{Audit, Product, Make}
+use Rattle.sumcheck_replies.specs.declared.reply.Outcome.{Outcome}
+use Rattle.sumcheck_replies.specs.declared.reply.Outcome.TheVariants.{Holds, Refuted, Usage, JobRefused, ProofRefused, NoWitness}
+use Rattle.sumcheck_replies.specs.Reply.{Reply, code_of}
+use Rattle.sumcheck_run.specs.Program.{max_input, too_long, audit_reply, product_reply, json_reply, reads_input, reply_of}
 use Rattle.sumcheck_run.specs.Run.{IsRead, IsAnswered, IsCutShort, IsInput, TellsUsage, WritesReply, Responds}
 use Rattle.sumcheck_run.proofs.Outcomes.{usage-only, usage-code}
 
 -- ---- what is replied to what was read
 
 -- an input past the limit has one reply
-too_long-reply : (xs : List ℕ) → max_input < length xs → json_reply audit_reply xs ≡ too_long
-too_long-reply xs over = cond-true _ _ _ (lt-ltb _ _ over)
+too_long-reply : (reply : Data → Reply) (xs : List ℕ) → max_input < length xs → json_reply reply xs ≡ too_long
+too_long-reply reply xs over = cond-true _ _ _ (lt-ltb _ _ over)
 
-past : (xs ys input : List ℕ) → input ≡ xs ++ ys → max_input < length xs → json_reply audit_reply xs ≡ json_reply audit_reply input
-past xs ys input is over =
-    let longer : max_input < length input = rw is (omega (arith, length-append xs ys)) in too_long-reply xs over ∙ sym (too_long-reply input longer)
+past : (reply : Data → Reply) (xs ys input : List ℕ) → input ≡ xs ++ ys → max_input < length xs → json_reply reply xs ≡ json_reply reply input
+past reply xs ys input is over =
+    let longer : max_input < length input = rw is (omega (arith, length-append xs ys)) in too_long-reply reply xs over ∙ sym (too_long-reply reply input longer)
 
 whole : (xs ys input : List ℕ) → input ≡ xs ++ ys → ys ≡ [] → xs ≡ input
 whole xs ys input is end = rw (is, end, append-nil) refl
@@ -32,18 +33,24 @@ by_size a b = elim (cases_Bool (ltb a b)) [
   | inr e ↦ inr (ltb-false a b e)
 ]
 
+-- the same of a command that replies to a value, where it was read as one that reads
+json_same : (reply : Data → Reply) (left left' : Option (List ℕ)) (old new : ℕ) (xs input : List ℕ) → IsRead true left left' xs → IsInput true left old new input →
+    json_reply reply xs ≡ json_reply reply input
+json_same reply left None old new xs input read is = let taken = rw is.0 at read.taken in absurd taken
+json_same reply left (Some ys) old new xs input read is =
+    let taken = rw is.0 at read.taken in
+    elim (by_size max_input (length xs)) [
+      | inl over ↦ past reply xs ys input taken over
+      | inr fits ↦ ap (json_reply reply) (whole xs ys input taken (read.whole refl fits))
+    ]
+
 -- The reply to what was read is the reply to all that the source had.
 same_reply : (command : Option Command) (left left' : Option (List ℕ)) (old new : ℕ) (xs input : List ℕ) → IsRead (reads_input command) left left' xs →
     IsInput (reads_input command) left old new input → reply_of command xs ≡ reply_of command input
 same_reply None left left' old new xs input read is = refl
 same_reply (Some (Make recipe)) left left' old new xs input read is = refl
-same_reply (Some Audit) left None old new xs input read is = let taken = rw is.0 at read.taken in absurd taken
-same_reply (Some Audit) left (Some ys) old new xs input read is =
-    let taken = rw is.0 at read.taken in
-    elim (by_size max_input (length xs)) [
-      | inl over ↦ past xs ys input taken over
-      | inr fits ↦ ap (json_reply audit_reply) (whole xs ys input taken (read.whole refl fits))
-    ]
+same_reply (Some Audit) left left' old new xs input read is = json_same audit_reply left left' old new xs input read is
+same_reply (Some Product) left left' old new xs input read is = json_same product_reply left left' old new xs input read is
 
 -- ---- a reply that is written
 

@@ -1,6 +1,3 @@
-pub mod Reply
-pub mod Lines
-pub mod Witnesses
 pub mod Report
 pub mod Words
 pub mod Made

@@ -14,8 +14,8 @@ use Rattle.sc_audit.specs.Cases.{build, Asked}
 use Rattle.sc_audit.specs.Figures.{Reported}
 use Rattle.sumcheck_run.specs.declared.command.Recipe.{Recipe}
 use Rattle.sumcheck_run.specs.declared.made.Parts.{Parts as PartsOf}
-use Rattle.sumcheck_run.specs.Reply.{Reply}
-use Rattle.sumcheck_run.specs.Lines.{counts_lines, claim_line, pairs_line, residual_line}
+use Rattle.sumcheck_replies.specs.Reply.{Reply}
+use Rattle.sumcheck_replies.specs.Lines.{counts_lines, claim_line, pairs_line, residual_line}
 use Rattle.sumcheck_run.specs.Report.{case_reply}
 
 -- ---- the values

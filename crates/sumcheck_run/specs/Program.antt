@@ -3,16 +3,19 @@ use Rattle.std.specs.Prelude.{ℕ, List, [], ◌∷◌, length, codes, Bool, tru
 use Rattle.std.specs.Option.{option_map}
 use Rattle.serde_json.specs.Data.{Data}
 use Rattle.sc_forms.specs.Values.{value_of}
-use Rattle.sumcheck_run.specs.Reply.{Reply, refused, usage}
+use Rattle.sumcheck_replies.specs.Reply.{Reply, refused, usage}
 use Rattle.sumcheck_jobs.specs.Job.{job_of}
+use Rattle.sumcheck_jobs.specs.ProductJob.{product_job_of}
 use Rattle.sumcheck_jobs.specs.Members.{misfit_text}
 use Rattle.sumcheck_jobs.specs.declared.member.Member.{Member}
 use Rattle.sumcheck_run.specs.Report.{judge}
+use Rattle.sumcheck_product.specs.Products.{product_answer}
 use Rattle.sumcheck_run.specs.Words.{recipe_of}
 use Rattle.sumcheck_run.specs.Made.{made_reply}
 use Rattle.sumcheck_jobs.specs.declared.job.Job.{Job}
+use Rattle.sumcheck_jobs.specs.declared.product.ProductJob.{ProductJob}
 use Rattle.sumcheck_run.specs.declared.command.Command.{Command}
-use Rattle.sumcheck_run.specs.declared.command.Command.TheVariants.{Audit, Make}
+use Rattle.sumcheck_run.specs.declared.command.Command.TheVariants.{Audit, Product, Make}
 
 -- the greatest number of bytes of an input
 abbrev pub max_input : ℕ
@@ -32,6 +35,14 @@ job_reply (Err m) = refused (misfit_text m)
 abbrev pub audit_reply : Data → Reply
 audit_reply d = job_reply (job_of d)
 
+abbrev pub product_job_reply : Result ProductJob Member → Reply
+product_job_reply (Ok job) = product_answer job
+product_job_reply (Err m) = refused (misfit_text m)
+
+-- what `product` replies to a value
+abbrev pub product_reply : Data → Reply
+product_reply d = product_job_reply (product_job_of d)
+
 abbrev pub value_reply : (Data → Reply) → Option Data → Reply
 value_reply reply None = bad_json
 value_reply reply (Some d) = reply d
@@ -43,17 +54,19 @@ json_reply reply input = if nat_lt max_input (length input) then too_long else v
 -- the command that the words are
 abbrev pub command_of : List (List ℕ) → Option Command
 command_of [] = None
-command_of (w ∷ []) = if bytes_eq w (codes "audit") then Some Audit else None
+command_of (w ∷ []) = if bytes_eq w (codes "audit") then Some Audit else (if bytes_eq w (codes "product") then Some Product else None)
 command_of (w ∷ n ∷ number ∷ strategy ∷ []) = if bytes_eq w (codes "make") then option_map Make (recipe_of n number strategy) else None
 command_of words = None
 
 abbrev pub reads_input : Option Command → Bool
 reads_input None = false
 reads_input (Some Audit) = true
+reads_input (Some Product) = true
 reads_input (Some (Make recipe)) = false
 
 -- what a command and an input are answered
 abbrev pub reply_of : Option Command → List ℕ → Reply
 reply_of None input = usage
 reply_of (Some Audit) input = json_reply audit_reply input
+reply_of (Some Product) input = json_reply product_reply input
 reply_of (Some (Make recipe)) input = made_reply recipe

@@ -1,57 +1,32 @@
 -- What a job is answered.
 use Rattle.std.specs.Prelude.{ℕ, List, [], ◌∷◌, ◌++◌, length, map, Option, Some, None, Result, Ok, Err}
 use Rattle.std.specs.Option.{option_map}
-use Rattle.sc_definitions.specs.Ring.{Ops}
-use Rattle.sc_definitions.specs.Residues.{residues}
-use Rattle.sc_definitions.specs.Quadratic.{quadratic, pair_extension}
-use Rattle.sc_definitions.specs.Sixteen.{tower}
 use Rattle.sc_definitions.specs.Tables.{evaluation, rows_of}
 use Rattle.sc_definitions.specs.declared.events.Event.{Event}
-use Rattle.sc_definitions.specs.Events.{Rules, Extension, own_extension}
-use Rattle.sc_definitions.specs.Scripted.{scripted_rules}
+use Rattle.sc_definitions.specs.Events.{Rules, Extension}
 use Rattle.sc_definitions.specs.Transcript.{Round}
 use Rattle.sc_definitions.specs.Replays.{given_rounds}
 use Rattle.sc_definitions.specs.Channels.{channel}
 use Rattle.sc_definitions.specs.Problem.{Problem, honest_of}
-use Rattle.sc_challenger.specs.Hashed.{hash_rules}
 use Rattle.sc_table.specs.Strategy.{order_of}
 use Rattle.sc_audit.specs.declared.error.AuditError.{AuditError}
-use Rattle.sc_audit.specs.declared.error.AuditError.TheVariants.{Unbuilt, JobShape, StrategyUnfit, FalseClaim, MissingSumcheckData, RoundCountMismatch, PowWitnessCountMismatch, InvalidPowWitness, NoWitness, NoMemory}
-use Rattle.sc_audit.specs.declared.error.Form.TheVariants.{Verdict}
+use Rattle.sc_audit.specs.declared.error.AuditError.TheVariants.{InvalidPowWitness, NoWitness}
 use Rattle.sc_audit.specs.Cases.{Case, Given, Task, build, check, Asked, start_of}
 use Rattle.sc_audit.specs.Refusals.{refusal_of}
-use Rattle.sc_audit.specs.Figures.{Figures, Finding, Reported, holds, refuted, lucky}
+use Rattle.sc_audit.specs.Figures.{Figures, Reported}
 use Rattle.sc_audit.specs.Audits.{figures_from, grids_for}
-use Rattle.sumcheck_run.specs.declared.reply.Outcome.TheVariants.{Holds, Refuted}
-use Rattle.sumcheck_jobs.specs.declared.job.FieldName.{FieldName}
-use Rattle.sumcheck_jobs.specs.declared.job.FieldName.TheVariants.{F65537, F257x2, F16}
 use Rattle.sumcheck_jobs.specs.declared.job.Job.{Job}
-use Rattle.sumcheck_jobs.specs.declared.job.Challenger.{Challenger}
-use Rattle.sumcheck_jobs.specs.declared.job.Challenger.TheVariants.{Scripted, Hash}
 use Rattle.sumcheck_jobs.specs.declared.job.Proof.{Proof}
 use Rattle.sumcheck_jobs.specs.declared.job.Mode.{Mode}
 use Rattle.sumcheck_jobs.specs.declared.job.Mode.TheVariants.{Build, Check}
-use Rattle.sumcheck_run.specs.Reply.{Reply, no_witness, proof_refused, refused}
+use Rattle.sumcheck_replies.specs.Fields.{Fields, fields_of, rules_by}
+use Rattle.sumcheck_replies.specs.Refusals.{refusal_reply, finding_reply}
+use Rattle.sumcheck_replies.specs.Reply.{Reply}
 use Rattle.sumcheck_jobs.specs.Statements.{all_claims}
-use Rattle.sumcheck_run.specs.Witnesses.{honest_rounds, first_failing}
-use Rattle.sumcheck_run.specs.Lines.{claim_line, round_lines, residual_line, eval_line, weight_line, grid_lines, holds_line, refuted_line, unbuilt_text, shape_fault_text, fit_fault_text, false_claim_text, missing_text, rounds_text, witnesses_text, witness_text}
+use Rattle.sumcheck_replies.specs.Witnesses.{honest_rounds, first_failing}
+use Rattle.sumcheck_replies.specs.Lines.{claim_line, round_lines, residual_line, eval_line, weight_line, grid_lines}
 
 -- ---- the case that a job is
-
--- A field that challenges are in, over a base field: its operations on numbers, how many elements the base field has, the parts of an element in the
--- base field, and the number of a base element's image.
-pub record Fields : Type 0 where
-  pub ops : Ops
-  pub base_size : ℕ
-  pub extension : Extension
-  pub embedding : ℕ → ℕ
-
--- The fields of a name: the integers modulo 65537 over themselves; a + b u over the integers modulo 257, where u^2 = 3; the field of 16 elements over
--- itself, whose numbers have the bits of 1, w, y and wy, where w^2 = w + 1 and y^2 = y + w.
-abbrev pub fields_of : FieldName → Fields
-fields_of F65537 = record { ops = residues 65537; base_size = 65537; extension = own_extension; embedding = λ n. n }
-fields_of F257x2 = record { ops = quadratic (residues 257) 3; base_size = 257; extension = pair_extension (residues 257); embedding = λ n. n }
-fields_of F16 = record { ops = tower; base_size = 16; extension = own_extension; embedding = λ n. n }
 
 -- the job's problem: a table of values, with its statements batched from the power 0 on
 abbrev pub problem_of : (ℕ → ℕ) → Job → Problem
@@ -84,11 +59,6 @@ case_of embedding job = record {
   task = task_of job.mode;
 }
 
--- what a challenger over a base field of so many elements answers
-abbrev pub rules_by : ℕ → Challenger → Rules
-rules_by base_size (Scripted script) = scripted_rules script.draws script.witnesses
-rules_by base_size Hash = hash_rules base_size
-
 -- what the job's challenger answers
 abbrev pub rules_of : Fields → Job → Rules
 rules_of k job = rules_by k.base_size job.challenger
@@ -117,25 +87,6 @@ figure_lines r =
 unfoldable pub report_lines : Reported → List ℕ
 report_lines r = figure_lines r.figures ++ grid_lines 0 r.grids
 
--- A refusal. Want of memory is a status of its own, and has no text.
-abbrev pub refusal_reply : AuditError → Reply
-refusal_reply (Unbuilt form) = refused (unbuilt_text form)
-refusal_reply (JobShape fault) = refused (shape_fault_text fault)
-refusal_reply (StrategyUnfit fault) = refused (fit_fault_text fault)
-refusal_reply (FalseClaim statement claimed actual) = refused (false_claim_text statement claimed actual)
-refusal_reply (MissingSumcheckData rounds) = proof_refused (missing_text rounds)
-refusal_reply (RoundCountMismatch expected actual) = proof_refused (rounds_text expected actual)
-refusal_reply (PowWitnessCountMismatch expected actual) = proof_refused (witnesses_text expected actual)
-refusal_reply (InvalidPowWitness round bits) = proof_refused (witness_text round bits)
-refusal_reply (NoWitness round) = no_witness round
-refusal_reply NoMemory = refused []
-
--- a report's lines with what the rounds say of the statements; what is said of lucky ones comes later
-abbrev pub finding_reply : Finding → List ℕ → Reply
-finding_reply holds lines = record { outcome = Holds; text = lines ++ holds_line }
-finding_reply refuted lines = record { outcome = Refuted; text = lines ++ refuted_line }
-finding_reply lucky lines = refusal_reply (Unbuilt Verdict)
-
 -- what is replied to a report that is shown by these lines
 abbrev pub report_reply : (Reported → List ℕ) → Reported → Reply
 report_reply lines r = finding_reply r.figures.finding (lines r)
@@ -157,7 +108,7 @@ passing_rounds R E bits h rounds = unless_failing (first_failing R E bits h roun
 -- The rounds of what is asked: those that an honest prover builds, or those of the proof; or why they cannot be played.
 abbrev pub rounds_of : Asked → Task → Result (List Round) AuditError
 rounds_of q (build strategy) =
-    or_no_witness (honest_rounds (honest_of q.ops q.case.problem) q.channel.rules q.channel.extension q.channel.base_size q.channel.bits (start_of q).history [] q.case.problem.variables)
+    or_no_witness (honest_rounds (honest_of q.ops q.case.problem) q.channel (start_of q).history [] q.case.problem.variables)
 rounds_of q (check None) = Ok []
 rounds_of q (check (Some given)) =
     passing_rounds q.channel.rules q.channel.extension q.channel.bits (start_of q).history (given_rounds given.messages given.witnesses)

@@ -5,9 +5,9 @@ use Rattle.sc_table.specs.declared.strategy.Strategy.{Strategy}
 use Rattle.sc_table.specs.declared.strategy.Strategy.TheVariants.{Plain, Represented, SmallValue}
 use Rattle.sc_audit.specs.Refusals.{most_variables}
 use Rattle.sumcheck_run.specs.declared.command.Command.{Command}
-use Rattle.sumcheck_run.specs.declared.command.Command.TheVariants.{Audit, Make}
+use Rattle.sumcheck_run.specs.declared.command.Command.TheVariants.{Audit, Product, Make}
 use Rattle.sumcheck_run.specs.declared.command.Recipe.{Recipe}
-use Rattle.sumcheck_run.specs.Witnesses.{least_below}
+use Rattle.sumcheck_replies.specs.Witnesses.{least_below}
 
 -- the number below a bound that a word writes in decimal digits, without a sign or a leading zero, if it writes one
 unfoldable pub written_below : ℕ → List ℕ → Option ℕ
@@ -51,4 +51,5 @@ pub record IsMade (r : Recipe) : Type 0 where
 abbrev pub CommandFits : Option Command → Type 0
 CommandFits None = Unit {0}
 CommandFits (Some Audit) = Unit {0}
+CommandFits (Some Product) = Unit {0}
 CommandFits (Some (Make recipe)) = IsMade recipe

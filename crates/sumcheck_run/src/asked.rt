@@ -1,18 +1,20 @@
 //! The audit that a job asks for.
-ghost use Rattle.std.specs.Prelude.{◌≡◌, List, IfOk};
+ghost use Rattle.std.specs.Prelude.{◌≡◌, ◌<◌, List, All, IfOk, map};
 ghost use Rattle.sc_definitions.specs.declared.events.Event.{Event};
 ghost use Rattle.sc_definitions.specs.Events.{Rules};
 ghost use Rattle.sc_audit.specs.Cases.{asked_of, given_in, task_in};
 ghost use Rattle.sumcheck_jobs.specs.Job.{JobFits, ModeFits, ProofFits};
-ghost use Rattle.sumcheck_run.specs.Report.{asked_with, given_of, task_of};
+ghost use Rattle.sc_transcript.specs.Data.{pair_of};
+ghost use Rattle.sumcheck_run.specs.Report.{asked_with, given_of, task_of, values_of};
 
-use crate::elements::{elements, messages};
 use crate::statements::constraint_of;
 use sc_audit::{Job as AuditJob, Mode as AuditMode};
 use sc_field::{ExtensionField, Field, NoMemory};
 use sc_rounds::SumcheckData;
+use sc_table::RoundMessage;
 use std::alloc::Global;
 use sumcheck_jobs::{Job, Mode, Proof};
+use sumcheck_replies::elements;
 
 /// The audit of the elements that a job names by their numbers.
 pub(crate) fn audit_job<F: Field, EF: ExtensionField<F>>(
@@ -61,4 +63,19 @@ fn proof_data<F: Field, EF: ExtensionField<F>>(
         polynomial_evaluations: messages(alloc, proof.rounds.as_slice())?,
         pow_witnesses: elements(alloc, proof.witnesses.as_slice())?,
     })
+}
+
+// The messages of the two values with these numbers.
+fn messages<F: Field>(alloc: Global, pairs: &[(u64, u64)]) -> Result<Vec<RoundMessage<F>>, NoMemory>
+    requires { All (λ pair. (pair.0 < F.ops.size) × (pair.1 < F.ops.size)) pairs.now }
+    ensures { IfOk result (λ v. map (pair_of F.number) v.items ≡ map values_of pairs.now) }
+{
+    let mut found = Vec::with_capacity(alloc, pairs.len())?;
+    for pair in pairs {
+        found.push(RoundMessage {
+            c_a: F::element(pair.0),
+            c_inf: F::element(pair.1),
+        })?;
+    }
+    Ok(found)
 }

@@ -32,6 +32,8 @@ pub enum Command {
     /// Builds the rounds of the job that the input describes, or checks those of the proof that
     /// came with it, and reports on them.
     Audit,
+    /// The same of a job of rounds over the product of several tables.
+    Product,
     /// Makes a job, builds its rounds, and reports on them in short.
     Make(Recipe),
 }
@@ -43,6 +45,7 @@ pub fn read_command(words: &[String]) -> Option<Command>
 {
     match words {
         [name] if name.as_str() == "audit" => Some(Command::Audit),
+        [name] if name.as_str() == "product" => Some(Command::Product),
         [name, variables, number, strategy] if name.as_str() == "make" => {
             match read_recipe(variables.as_str(), number.as_str(), strategy.as_str()) {
                 Some(recipe) => Some(Command::Make(recipe)),
@@ -118,5 +121,5 @@ fn read_strategy(word: &str, variables: usize) -> Option<Strategy>
 pub fn needs_input(command: Option<Command>) -> bool
     ensures { result ≡ reads_input command }
 {
-    matches!(command, Some(Command::Audit))
+    matches!(command, Some(Command::Audit | Command::Product))
 }

@@ -1,11 +1,11 @@
 //! The lines of grids.
 ghost use Rattle.std.specs.Prelude.{◌≡◌, ◌++◌, OnOk, map, string_bytes};
 ghost use Rattle.sc_svo.specs.Grids.{grids_shown};
-ghost use Rattle.sumcheck_run.specs.Lines.{grid_line, grid_lines};
+ghost use Rattle.sumcheck_replies.specs.Lines.{grid_line, grid_lines};
 
-use crate::lines;
 use sc_audit::Grids;
 use sc_field::{Field, NoMemory};
+use sumcheck_replies::lines;
 
 /// Two lines for the grid of each round: the values with the round's variable at 0, and then those
 /// with it at infinity.
@@ -22,7 +22,7 @@ pub(crate) fn push_grids<EF: Field>(text: &mut String, grids: &Grids<EF>) -> Res
     Ok(())
 }
 
-// The line of one list of a round's grid, in time linear in its length.
+// The line of one list of a round's grid.
 fn push_grid<EF: Field>(
     text: &mut String,
     i: usize,
@@ -33,9 +33,7 @@ fn push_grid<EF: Field>(
         ≡ string_bytes text.old ++ grid_line i place.now (map EF.number values.now)) }
 {
     lines::push_grid_name(text, i, place)?;
-    for value in values {
-        lines::push_spaced(text, value.index())?;
-    }
+    lines::push_values(text, values)?;
     lines::push_end(text)?;
     Ok(())
 }

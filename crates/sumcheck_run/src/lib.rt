@@ -6,13 +6,9 @@
 
 mod asked;
 mod command;
-mod elements;
 mod grids;
-mod lines;
 mod made;
 mod program;
-mod refusals;
-mod reply;
 mod report;
 mod statements;
 mod stride;
@@ -20,10 +16,12 @@ mod values;
 
 pub use command::{Command, Recipe, needs_input, read_command};
 pub use program::{Status, run};
-pub use reply::{Answer, Outcome};
 pub use report::{judge_job, show_report};
 pub use sc_streams::{Failed, MemSink, MemSource, PlainSource, Sink, Source, StdSink, StdSource};
 pub use sumcheck_jobs::{
-    Challenger, EqualityClaim, FieldName, Group, Job, Member, Mode, ProductClaim, Proof,
-    ScalarClaim, Script, Sizes, SuccessorClaim, Unread, read_job,
+    Challenger, EqualityClaim, FieldName, Group, Job, Member, Mode, ProductClaim, ProductJob,
+    ProductMode, ProductProof, Proof, ScalarClaim, Script, Sizes, SuccessorClaim, Unread, read_job,
+    read_product,
 };
+pub use sumcheck_product::judge_product;
+pub use sumcheck_replies::{Answer, Outcome};

@@ -19,9 +19,6 @@ ghost use Rattle.sumcheck_run.specs.Values.{last_of, number_of};
 ghost use Rattle.sumcheck_run.specs.Words.{IsMade};
 
 use crate::command::Recipe;
-use crate::lines;
-use crate::refusals::refuse;
-use crate::reply::{Answer, Outcome};
 use crate::report::say_verdict;
 use crate::values::Values;
 use sc_audit::{Job, Mode, Report, audit_true};
@@ -30,6 +27,7 @@ use sc_field::{ExtensionField, F65537, Field, IntoTranscriptField, NoMemory};
 use sc_statements::{Constraint, EqStatement, NextStatement, Statements};
 use sc_table::{Point, RoundMessage, Strategy, VariableOrder};
 use std::alloc::Global;
+use sumcheck_replies::{Answer, Outcome, lines, refuse};
 
 // How many statements there are, one in each of two groups.
 const STATEMENTS: usize = 2;

@@ -2,11 +2,12 @@
 ghost use Rattle.std.specs.Prelude.{◌≡◌, ◌⊎◌, ◌<◌, ◌≤◌, ◌+◌, List, ℕ, Some, None, false, map};
 ghost use Rattle.std.specs.Prelude.{string_bytes, IfOk, IsOk, IsErrOf};
 ghost use Rattle.sc_streams.specs.Faults.{HasRisen};
-ghost use Rattle.sumcheck_run.specs.Program.{audit_reply, bad_json, command_of, json_reply};
-ghost use Rattle.sumcheck_run.specs.Program.{max_input, reads_input, reply_of, too_long};
-ghost use Rattle.sumcheck_run.specs.Reply.{refused};
+ghost use Rattle.sumcheck_run.specs.Program.{audit_reply, command_of, json_reply, max_input};
+ghost use Rattle.sumcheck_run.specs.Program.{product_reply, reads_input, reply_of};
+ghost use Rattle.sumcheck_replies.specs.Reply.{refused};
 ghost use Rattle.sumcheck_jobs.specs.Members.{misfit_text};
 ghost use Rattle.sumcheck_run.specs.Run.{IsAnswered, IsCutShort, IsInput, IsOfReply, IsRead};
+ghost use Rattle.sumcheck_run.specs.Run.{IsReadAs};
 ghost use Rattle.sumcheck_run.specs.Run.{ReadsLittle, Responds, TellsFaults, TellsUsage};
 ghost use Rattle.sumcheck_run.specs.Run.{WritesReply, reading_failed, want_of_memory};
 ghost use Rattle.sumcheck_run.specs.Run.{writing_failed};
@@ -14,15 +15,16 @@ ghost use Rattle.sumcheck_run.specs.Made.{made_reply};
 ghost use Rattle.sumcheck_run.specs.Words.{CommandFits};
 
 use crate::command::{Command, Recipe, needs_input, read_command};
-use crate::lines;
 use crate::made::make;
-use crate::reply::{Answer, Outcome};
 use crate::report::judge_job;
 use sc_field::NoMemory;
 use sc_forms::{NoValue, read_value};
 use sc_streams::{ReadFault, Sink, Source, read_all, write_all};
+use serde_json::Value;
 use std::alloc::Global;
-use sumcheck_jobs::{Member, Unread, read_job};
+use sumcheck_jobs::{Member, Unread, read_job, read_product};
+use sumcheck_product::judge_product;
+use sumcheck_replies::{Answer, Outcome, lines};
 
 // The greatest number of bytes of an input.
 const MAX_INPUT: usize = 67_108_864;
@@ -35,23 +37,55 @@ pub struct Status {
     pub code: u8,
 }
 
-// What `audit` replies to an input. The bytes are given up before the value is read, and the value
-// before the job is judged.
+// What an input is.
+#[derive(Drop)]
+enum Input {
+    // A JSON value.
+    Value(Value),
+    // None, or too long, which is answered so.
+    Refused(Answer),
+}
+
+// The value that an input is, if it is one. The bytes are given up.
 #[tactic(auto, unfolding(crate::specs::Program::too_long, crate::specs::Program::bad_json))]
+fn parse(alloc: Global, input: Vec<u8>) -> Result<Input, NoMemory>
+    ensures { IfOk result (IsReadAs input.items) }
+{
+    if input.len() > MAX_INPUT {
+        return Ok(Input::Refused(Answer::refused(alloc, "too-long")?));
+    }
+    match read_value(alloc, &input) {
+        Ok(value) => Ok(Input::Value(value)),
+        Err(NoValue::Bad) => Ok(Input::Refused(Answer::refused(alloc, "bad-json")?)),
+        Err(NoValue::NoMemory) => Err(NoMemory),
+    }
+}
+
+// What `audit` replies to an input. The parsed value is given up before the job is judged.
 fn audit(alloc: Global, input: Vec<u8>) -> Result<Answer, NoMemory>
     ensures { IfOk result (λ a. a ≡ json_reply audit_reply input.items) }
 {
-    if input.len() > MAX_INPUT {
-        return Answer::refused(alloc, "too-long");
-    }
-    let value = match read_value(alloc, &input) {
-        Ok(value) => value,
-        Err(NoValue::Bad) => return Answer::refused(alloc, "bad-json"),
-        Err(NoValue::NoMemory) => return Err(NoMemory),
+    let value = match parse(alloc, input)? {
+        Input::Value(value) => value,
+        Input::Refused(answer) => return Ok(answer),
     };
-    drop(input);
     match read_job(alloc, value) {
         Ok(job) => judge_job(alloc, job),
+        Err(Unread::Misfit(member)) => refuse_misfit(alloc, member),
+        Err(Unread::NoMemory) => Err(NoMemory),
+    }
+}
+
+// What `product` replies to an input. The parsed value is given up before the job is judged.
+fn product(alloc: Global, input: Vec<u8>) -> Result<Answer, NoMemory>
+    ensures { IfOk result (λ a. a ≡ json_reply product_reply input.items) }
+{
+    let value = match parse(alloc, input)? {
+        Input::Value(value) => value,
+        Input::Refused(answer) => return Ok(answer),
+    };
+    match read_product(alloc, value) {
+        Ok(job) => judge_product(alloc, job),
         Err(Unread::Misfit(member)) => refuse_misfit(alloc, member),
         Err(Unread::NoMemory) => Err(NoMemory),
     }
@@ -71,6 +105,7 @@ fn answer(alloc: Global, command: Option<Command>, input: Vec<u8>) -> Result<Ans
     match command {
         None => Answer::usage(alloc),
         Some(Command::Audit) => audit(alloc, input),
+        Some(Command::Product) => product(alloc, input),
         Some(Command::Make(recipe)) => make(alloc, recipe),
     }
 }

@@ -1,21 +1,19 @@
 //! The answer to a job.
 ghost use Rattle.std.specs.Prelude.{◌≡◌, ◌⊎◌, ◌<◌, ◌++◌, IfOk, OnOk, None, [], map, string_bytes};
-ghost use Rattle.sc_definitions.specs.Scripted.{scripted_rules};
 ghost use Rattle.sc_transcript.specs.Data.{pair_of};
 ghost use Rattle.sc_audit.specs.Cases.{asked_of};
 ghost use Rattle.sc_audit.specs.Figures.{report_in, finding_in};
 ghost use Rattle.sc_audit.specs.Refusals.{refusal_of};
 ghost use Rattle.sumcheck_jobs.specs.Elements.{sizes_of};
-ghost use Rattle.sumcheck_jobs.specs.Job.{JobFits, ScriptFits};
-ghost use Rattle.sumcheck_run.specs.Lines.{round_lines};
-ghost use Rattle.sumcheck_run.specs.Report.{Fields, asked_by, case_reply, fields_of, finding_reply};
+ghost use Rattle.sumcheck_jobs.specs.Job.{JobFits};
+ghost use Rattle.sumcheck_replies.specs.Lines.{round_lines};
+ghost use Rattle.sumcheck_replies.specs.Fields.{Fields, fields_of};
+ghost use Rattle.sumcheck_replies.specs.Refusals.{finding_reply};
+ghost use Rattle.sumcheck_run.specs.Report.{asked_by, case_reply};
 ghost use Rattle.sumcheck_run.specs.Report.{judge, judge_over, report_lines, report_reply};
 
 use crate::asked::audit_job;
 use crate::grids::push_grids;
-use crate::refusals::refuse;
-use crate::reply::{Answer, Outcome};
-use crate::{elements, lines};
 use sc_audit::{AuditError, Form, Job as AuditJob, Report, Strategy, Verdict, audit};
 use sc_challenger::{Challenger, HashChallenger, ScriptedChallenger};
 use sc_field::{
@@ -23,7 +21,8 @@ use sc_field::{
 };
 use sc_table::RoundMessage;
 use std::alloc::Global;
-use sumcheck_jobs::{FieldName, Job, Mode, Script};
+use sumcheck_jobs::{FieldName, Job, Mode};
+use sumcheck_replies::{Answer, Outcome, lines, number_at, refuse, scripted};
 
 /// The answer to a job: its report, or why there is none. The numbers are given up before the audit begins.
 pub fn judge_job(alloc: Global, job: Job) -> Result<Answer, NoMemory>
@@ -70,18 +69,6 @@ fn challenger_in(job: Job) -> sumcheck_jobs::Challenger
 {
     let Job { challenger, .. } = job;
     challenger
-}
-
-// The challenger with an empty history that a script describes.
-fn scripted<F: Field>(alloc: Global, script: &Script) -> Result<ScriptedChallenger<F>, NoMemory>
-    requires { ScriptFits F.ops.size script.now }
-    ensures history { IfOk result (λ c. ⟦<ScriptedChallenger<F> as Challenger<F>>⟧.history c ≡ []) }
-    ensures rules { IfOk result (λ c. ⟦<ScriptedChallenger<F> as Challenger<F>>⟧.rules c
-        ≡ scripted_rules script.now.draws script.now.witnesses) }
-{
-    let draws = elements::elements(alloc, script.draws.as_slice())?;
-    let good = elements::element_lists(alloc, script.witnesses.as_slice())?;
-    Ok(ScriptedChallenger::new(alloc, draws, good))
 }
 
 // The answer to an audit.
@@ -178,7 +165,7 @@ fn push_rounds<F: Field, EF: Field>(
             i,
             message.c_a.index(),
             message.c_inf.index(),
-            elements::number_at(witnesses, i),
+            number_at(witnesses, i),
             challenge,
         )?;
     }

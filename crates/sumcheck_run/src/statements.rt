@@ -7,12 +7,12 @@ ghost use Rattle.sc_statements.specs.NextStatements.{next_arity, next_statements
 ghost use Rattle.sc_statements.specs.SelectStatements.{select_arity, select_statements};
 ghost use Rattle.sumcheck_jobs.specs.Statements.{EqualityFits, GroupFits, ProductFits, ScalarFits, SuccessorFits, all_claims, equality_statement, group_claims, product_statement, scalar_statement, successor_statement};
 
-use crate::elements::elements;
 use sc_field::{ExtensionField, Field, NoMemory};
 use sc_statements::{Constraint, EqStatement, NextStatement, SelectStatement, Statements};
 use sc_table::Point;
 use std::alloc::Global;
 use sumcheck_jobs::{EqualityClaim, Group, ProductClaim, ScalarClaim, SuccessorClaim};
+use sumcheck_replies::elements;
 
 /// The groups of claims on tables of so many variables as groups of statements, with the element
 /// whose powers batch them.

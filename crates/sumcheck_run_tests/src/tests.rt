@@ -5,6 +5,7 @@ mod fields;
 mod jobs;
 mod kinds;
 mod made;
+mod products;
 mod refusals;
 mod small_value;
 mod streams;

@@ -14,11 +14,13 @@ pub(super) type Reads = (
     (u8, u64, u64, &'static str),
 );
 
-static NO_COMMANDS: [Reads; 7] = [
+static NO_COMMANDS: [Reads; 9] = [
     (&[], FIRST, &[0], (2, 0, 1, "usage\n")),
     (&["Audit"], FIRST, &[0], (2, 0, 1, "usage\n")),
     (&["audits"], FIRST, &[0], (2, 0, 1, "usage\n")),
     (&["audit", "now"], FIRST, &[0], (2, 0, 1, "usage\n")),
+    (&["Product"], FIRST, &[0], (2, 0, 1, "usage\n")),
+    (&["product", "audit"], FIRST, &[0], (2, 0, 1, "usage\n")),
     (&["audit", "audit"], FIRST, &[0], (2, 0, 1, "usage\n")),
     (&[""], FIRST, &[0], (2, 0, 1, "usage\n")),
     (&["audits"], "", &[0], (2, 0, 1, "usage\n")),

@@ -1,7 +1,7 @@
 use Rattle.std.proofs.Common.{ap, ◌∙◌, refl}
 use Rattle.std.proofs.lemmas.Result.{IfOk-from_err}
 use Rattle.sumcheck_jobs.specs.Statements.{all_claims}
-use Rattle.sumcheck_run.specs.Report.{Fields}
+use Rattle.sumcheck_replies.specs.Fields.{Fields}
 use Rattle.sumcheck_run.proofs.ReportLaws.{asked-same}
 use Rattle.sumcheck_run.proofs.asked.audit_job.Goals as goal
 

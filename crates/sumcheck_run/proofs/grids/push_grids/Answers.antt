@@ -1,8 +1,8 @@
 use Rattle.std.proofs.Common.{◌++◌, map, take, sym, ap, ◌∙◌, string_bytes}
 use Rattle.std.specs.Prelude.{codes}
 use Rattle.sc_svo.specs.Grids.{grid_shown}
-use Rattle.sumcheck_run.specs.Lines.{grid_line, grid_lines}
-use Rattle.sumcheck_run.proofs.GridLines.{grid_lines-more, pushed-both}
+use Rattle.sumcheck_replies.specs.Lines.{grid_line, grid_lines}
+use Rattle.sumcheck_replies.proofs.GridLines.{grid_lines-more, pushed-both}
 use Rattle.sumcheck_run.proofs.grids.push_grids.Goals as goal
 
 -- a grid more

@@ -1,6 +1,6 @@
 use Rattle.std.proofs.Common.{◌≡◌, ◌++◌, map, take, string_bytes}
 use Rattle.sc_svo.specs.Grids.{grid_shown}
-use Rattle.sumcheck_run.specs.Lines.{grid_lines}
+use Rattle.sumcheck_replies.specs.Lines.{grid_lines}
 use Rattle.sumcheck_run.proofs.grids.push_grids.Given as goal
 
 abbrev pub invariant-loop-i : goal.invariant-loop-i

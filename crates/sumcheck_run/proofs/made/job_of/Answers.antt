@@ -5,7 +5,7 @@ use Rattle.sc_statements.specs.declared.statement.Statements.TheVariants.{Eq, Ne
 use Rattle.sc_statements.specs.Constraints.{constraint_arity, constraint_challenge, constraint_groups, constraint_power}
 use Rattle.sc_statements.specs.Groups.{all_statements}
 use Rattle.sumcheck_run.specs.Made.{parts_in}
-use Rattle.sumcheck_run.proofs.ReportLaws.{entries-numbers}
+use Rattle.sumcheck_replies.proofs.NumberLaws.{entries-numbers}
 use Rattle.sumcheck_run.proofs.MadeJobs.{about-same, two-groups}
 use Rattle.sumcheck_run.proofs.made.job_of.Goals as goal
 

@@ -1,6 +1,6 @@
 use Rattle.std.proofs.Common.{sym, ◌∙◌, ap}
 use Rattle.std.proofs.lemmas.Result.{IfOk-weaker, IfOk-from_err}
-use Rattle.sumcheck_run.specs.Report.{Fields, rules_by}
+use Rattle.sumcheck_replies.specs.Fields.{Fields, rules_by}
 use Rattle.sumcheck_run.proofs.ReportLaws.{judged}
 use Rattle.sumcheck_run.proofs.report.judge_in.Goals as goal
 

@@ -2,8 +2,8 @@ use Rattle.std.proofs.Common.{◌≡◌, ◌++◌, [], ◌∷◌, ◌+◌, ◌<�
 use Rattle.std.proofs.lemmas.Result.{IfOk-from_err}
 use Rattle.std.specs.List.{slice_get}
 use Rattle.sc_transcript.specs.Data.{pair_of}
-use Rattle.sumcheck_run.specs.Lines.{round_line, round_lines}
-use Rattle.sumcheck_run.proofs.LineLaws.{round_lines-more, round_lines-all}
+use Rattle.sumcheck_replies.specs.Lines.{round_line, round_lines}
+use Rattle.sumcheck_replies.proofs.LineLaws.{round_lines-more, round_lines-all}
 use Rattle.sumcheck_run.proofs.report.push_rounds.Goals as goal
 
 pub loop-i-preserved : goal.loop-i-preserved

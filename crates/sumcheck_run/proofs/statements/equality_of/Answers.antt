@@ -3,7 +3,7 @@ use Rattle.std.proofs.lemmas.Result.{IfOk-from_err}
 use Rattle.sc_definitions.specs.Statements.{claims, equality}
 use Rattle.sumcheck_jobs.specs.Statements.{equality_statement, EqualityFits}
 use Rattle.sc_definitions.proofs.Lists.{read_has}
-use Rattle.sumcheck_run.proofs.GroupLaws.{pushed, as_long}
+use Rattle.sumcheck_replies.proofs.NumberLaws.{pushed, as_long}
 use Rattle.sumcheck_run.proofs.statements.equality_of.Goals as goal
 
 pub loop-claim-preserved : goal.loop-claim-preserved

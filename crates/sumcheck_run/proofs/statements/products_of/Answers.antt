@@ -3,7 +3,8 @@ use Rattle.std.proofs.lemmas.Result.{IfOk-from_err}
 use Rattle.sc_definitions.specs.Statements.{claims, products}
 use Rattle.sumcheck_jobs.specs.Statements.{product_statement, ProductFits}
 use Rattle.sc_definitions.proofs.Lists.{read_has}
-use Rattle.sumcheck_run.proofs.GroupLaws.{embedded_numbers, pushed, as_long}
+use Rattle.sumcheck_replies.proofs.NumberLaws.{pushed, as_long}
+use Rattle.sumcheck_run.proofs.GroupLaws.{embedded_numbers}
 use Rattle.sumcheck_run.proofs.statements.products_of.Goals as goal
 
 pub loop-claim-preserved : goal.loop-claim-preserved

@@ -4,7 +4,7 @@ use Rattle.std.proofs.lemmas.List.Elements.{All-get_or}
 use Rattle.sc_definitions.specs.Statements.{claims, powers}
 use Rattle.sumcheck_jobs.specs.declared.job.ScalarClaim.{ScalarClaim}
 use Rattle.sumcheck_jobs.specs.Statements.{scalar_statement, ScalarFits}
-use Rattle.sumcheck_run.proofs.GroupLaws.{pushed}
+use Rattle.sumcheck_replies.proofs.NumberLaws.{pushed}
 use Rattle.sumcheck_run.proofs.statements.scalars_of.Goals as goal
 
 -- what is read past the end

@@ -4,7 +4,7 @@ use Rattle.sc_definitions.specs.Statements.{claims, successor}
 use Rattle.sc_table.specs.Strategy.{order_of}
 use Rattle.sumcheck_jobs.specs.Statements.{successor_statement, SuccessorFits}
 use Rattle.sc_definitions.proofs.Lists.{read_has}
-use Rattle.sumcheck_run.proofs.GroupLaws.{pushed, as_long}
+use Rattle.sumcheck_replies.proofs.NumberLaws.{pushed, as_long}
 use Rattle.sumcheck_run.proofs.statements.successor_of.Goals as goal
 
 pub loop-claim-preserved : goal.loop-claim-preserved

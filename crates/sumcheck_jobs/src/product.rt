@@ -1,0 +1,204 @@
+//! The job of `product` that a JSON value describes, or the first member that is not of its form.
+ghost use Rattle.std.specs.Prelude.{◌≡◌, ◌≢◌, ◌≤◌, Some, None, Ok, Err, IfOk, IsErrOf, length};
+ghost use Rattle.serde_json.specs.View.{view};
+ghost use Rattle.sumcheck_jobs.specs.Elements.{sizes_of};
+ghost use Rattle.sumcheck_jobs.specs.ProductJob.{ProductJobFits, ProductModeFits};
+ghost use Rattle.sumcheck_jobs.specs.ProductJob.{ProductProofFits, TablesFit, product_job_of};
+ghost use Rattle.sumcheck_jobs.specs.ProductJob.{product_members_over, product_mode_form};
+ghost use Rattle.sumcheck_jobs.specs.ProductJob.{most_tables, product_proof_form, some_tables, tables_form};
+
+use crate::job::{Challenger, FieldName, Sizes};
+use crate::member::{Member, Unread, need, take};
+use crate::reading::{ChallengerForm, FieldForm, MOST_BITS};
+use sc_forms::{AtMost, Below, Form, ListOf, Misread, is_object, member};
+use sc_table::Row;
+use serde_json::Value;
+use std::alloc::Global;
+
+// The greatest number of tables of a job.
+const MOST_TABLES: usize = 8;
+
+/// A proof of rounds over a product that is handed in, by the numbers of its elements.
+#[derive(Drop)]
+pub struct ProductProof {
+    /// The sum that the rounds begin with.
+    pub claimed: u64,
+    /// The values that each round sends, however many they are.
+    pub rounds: Row<Row<u64>>,
+    /// The witness of each round, and none where there is no difficulty.
+    pub witnesses: Row<u64>,
+}
+
+/// What is done with a job of `product`.
+#[derive(Drop)]
+pub enum ProductMode {
+    /// Its rounds are built.
+    Build,
+    /// The rounds of a proof are checked.
+    Check(ProductProof),
+}
+
+/// A job of `product`: tables whose product is summed over all rows, and a challenger. Elements
+/// stand by their numbers.
+#[derive(Drop)]
+pub struct ProductJob {
+    /// Over which fields.
+    pub field: FieldName,
+    /// What answers draws and tests.
+    pub challenger: Challenger,
+    /// The difficulty of each round's test in bits, at most 65,535, or 0 for no test.
+    pub bits: u64,
+    /// From 1 to 8 tables of elements of the base field, row 0 first, of any lengths.
+    pub tables: Row<Row<u64>>,
+    /// What is done.
+    pub mode: ProductMode,
+}
+
+// From 1 to 8 tables.
+#[derive(Clone, Copy)]
+struct TablesForm {
+    sizes: Sizes,
+}
+
+impl Form for TablesForm {
+    type Out = Row<Row<u64>>;
+
+    ghost reads = { λ form. tables_form form.sizes };
+
+    ghost fits = { λ form tables. TablesFit form.sizes.base tables };
+
+    fn read(&self, alloc: Global, value: &Value) -> Result<Row<Row<u64>>, Misread> {
+        let entry = Below {
+            bound: self.sizes.base,
+        };
+        let tables = ListOf {
+            item: ListOf { item: entry },
+        };
+        some_tables(tables.read(alloc, value)?)
+    }
+
+    fn take(&self, alloc: Global, value: Value) -> Result<Row<Row<u64>>, Misread> {
+        let entry = Below {
+            bound: self.sizes.base,
+        };
+        let tables = ListOf {
+            item: ListOf { item: entry },
+        };
+        some_tables(tables.take(alloc, value)?)
+    }
+}
+
+// The tables, if there are from 1 to 8.
+fn some_tables(tables: Row<Row<u64>>) -> Result<Row<Row<u64>>, Misread>
+    ensures ok { IfOk result (λ x. (x ≡ tables) × (some_tables tables ≡ Some x)) }
+    ensures not_of_form { IsErrOf result Misread.NotOfForm → some_tables tables ≡ None }
+    ensures few { IfOk result (λ x. (1 ≤ length x) × (length x ≤ most_tables)) }
+    ensures no_other { result ≢ Err Misread.NoMemory }
+{
+    if tables.len() < 1 || tables.len() > MOST_TABLES {
+        return Err(Misread::NotOfForm);
+    }
+    Ok(tables)
+}
+
+#[derive(Clone, Copy)]
+struct ProductProofForm {
+    sizes: Sizes,
+}
+
+impl Form for ProductProofForm {
+    type Out = ProductProof;
+
+    ghost reads = { λ form. product_proof_form form.sizes };
+
+    ghost fits = { λ form proof. ProductProofFits form.sizes proof };
+
+    fn read(&self, alloc: Global, value: &Value) -> Result<ProductProof, Misread> {
+        let value_sent = Below {
+            bound: self.sizes.extension,
+        };
+        let witness = Below {
+            bound: self.sizes.base,
+        };
+        let claimed = member(alloc, &value_sent, value, "claimed")?;
+        let lists = ListOf {
+            item: ListOf { item: value_sent },
+        };
+        let rounds = member(alloc, &lists, value, "rounds")?;
+        let witnesses = member(alloc, &ListOf { item: witness }, value, "witnesses")?;
+        Ok(ProductProof {
+            claimed,
+            rounds,
+            witnesses,
+        })
+    }
+}
+
+// A build by its name, or an object with a proof.
+#[derive(Clone, Copy)]
+struct ProductModeForm {
+    sizes: Sizes,
+}
+
+impl Form for ProductModeForm {
+    type Out = ProductMode;
+
+    ghost reads = { λ form. product_mode_form form.sizes };
+
+    ghost fits = { λ form mode. ProductModeFits form.sizes mode };
+
+    fn read(&self, alloc: Global, value: &Value) -> Result<ProductMode, Misread> {
+        match value.as_str() {
+            Some(name) if name == "build" => Ok(ProductMode::Build),
+            _ => {
+                let proof = ProductProofForm { sizes: self.sizes };
+                let proof = member(alloc, &proof, value, "check")?;
+                Ok(ProductMode::Check(proof))
+            }
+        }
+    }
+}
+
+/// The job of `product` that a value describes, or its first member that is missing or not of its
+/// form. The value is given up.
+pub fn read_product(alloc: Global, value: Value) -> Result<ProductJob, Unread>
+    ensures job { IfOk result (λ job. product_job_of (view value) ≡ Ok job) }
+    ensures misfit { (m : Member) → result ≡ Err (Unread.Misfit m)
+        → product_job_of (view value) ≡ Err m }
+    ensures fits { IfOk result (λ job. ProductJobFits (sizes_of job.field) job) }
+{
+    if !is_object(&value) {
+        return Err(Unread::Misfit(Member::Whole));
+    }
+    let field = need(alloc, &FieldForm, &value, Member::Field)?;
+    read_product_members(alloc, value, field, field.sizes())
+}
+
+// The members behind the field, which has these sizes. The tables are read last, since the value is
+// given up for them; where they are not of their form, they are told before the mode.
+fn read_product_members(
+    alloc: Global,
+    value: Value,
+    field: FieldName,
+    sizes: Sizes,
+) -> Result<ProductJob, Unread>
+    ensures job { IfOk result (λ job. product_members_over field sizes (view value) ≡ Ok job) }
+    ensures misfit { (m : Member) → result ≡ Err (Unread.Misfit m)
+        → product_members_over field sizes (view value) ≡ Err m }
+    ensures field { IfOk result (λ job. job.field ≡ field) }
+    ensures fits { IfOk result (λ job. ProductJobFits sizes job) }
+{
+    let challenger = ChallengerForm { sizes };
+    let challenger = need(alloc, &challenger, &value, Member::Challenger)?;
+    let most = AtMost { most: MOST_BITS };
+    let bits = need(alloc, &most, &value, Member::Bits)?;
+    let mode = need(alloc, &ProductModeForm { sizes }, &value, Member::Mode);
+    let tables = take(alloc, &TablesForm { sizes }, value, Member::Tables)?;
+    Ok(ProductJob {
+        field,
+        challenger,
+        bits,
+        tables,
+        mode: mode?,
+    })
+}

@@ -1,0 +1,3 @@
+pub mod ProductRoundLaws
+pub mod ProductReplies
+pub mod TableShapes

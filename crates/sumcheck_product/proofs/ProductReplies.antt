@@ -1,0 +1,263 @@
+-- The reply to a job of `product`, from what a replay of its rounds leaves.
+use Rattle.std.proofs.Common.{◌≡◌, ◌≢◌, ◌⊎◌, inl, inr, ℕ, zero, suc, ◌+◌, ◌<◌, ◌≤◌, true, List, [], ◌∷◌, length, map, take, Some, refl, ap, sym, ◌∙◌, subst, arith, eq-eqb, ne_eqb, zero-add}
+use Rattle.std.specs.Prelude.{Result, Ok, Err, ◌==◌, IsOk, if◌then◌else◌}
+use Rattle.std.proofs.lemmas.List.{length-map}
+use Rattle.sc_definitions.specs.declared.events.Event.{Event}
+use Rattle.sc_definitions.specs.Ring.{IsField}
+use Rattle.sc_definitions.specs.Events.{Rules}
+use Rattle.sc_definitions.specs.Transcript.{Round, challenges}
+use Rattle.sc_definitions.specs.Replays.{round_passes, given_rounds}
+use Rattle.sc_definitions.specs.Channels.{Wire, Footing, footing, witnesses_of, IsReplayed}
+use Rattle.sc_definitions.specs.Interpolation.{next_through}
+use Rattle.sc_definitions.specs.Products.{values_product, honest_values}
+use Rattle.sc_definitions.proofs.BuiltLaws.{length-challenges}
+use Rattle.sc_definitions.proofs.ReplayLaws.{length-given_rounds, messages-given_rounds, take_whole}
+use Rattle.sc_definitions.proofs.ProductRounds.{honest_along}
+use Rattle.sc_transcript.specs.Data.{witness_count}
+use Rattle.sc_rounds.proofs.InStep.{given_played}
+use Rattle.sc_degree.specs.declared.error.GenericDegreeError.{GenericDegreeError}
+use Rattle.sc_degree.specs.declared.error.GenericDegreeError.TheVariants.{InvalidDegree, RoundCountMismatch, PowWitnessCountMismatch, PolyEvalCountMismatch, InvalidPowWitness, NoWitness, NoMemory}
+use Rattle.sc_degree.specs.Proofs.{Replay, AreWide, rounds_in, start_of, IsCounted, IsReplayedTo, LeavesReplay}
+use Rattle.sc_degree.specs.Shapes.{shape_of}
+use Rattle.sc_field.specs.ResiduesLaws.{residues_field}
+use Rattle.sc_field.specs.F257x2Laws.{f257x2_field}
+use Rattle.sc_field.specs.SixteenLaws.{tower_field}
+use Rattle.sc_audit.specs.declared.error.ShapeFault.{ShapeFault}
+use Rattle.sumcheck_jobs.specs.declared.job.FieldName.{FieldName}
+use Rattle.sumcheck_jobs.specs.declared.job.FieldName.TheVariants.{F65537, F257x2, F16}
+use Rattle.sumcheck_jobs.specs.declared.product.ProductProof.{ProductProof}
+use Rattle.sumcheck_jobs.specs.declared.product.ProductMode.TheVariants.{Build, Check}
+use Rattle.sumcheck_jobs.specs.declared.product.ProductJob.{ProductJob}
+use Rattle.sumcheck_jobs.specs.Elements.{sizes_of}
+use Rattle.sumcheck_jobs.specs.ProductJob.{ProductJobFits}
+use Rattle.sumcheck_replies.specs.declared.reply.Outcome.TheVariants.{Holds, NoWitness as LacksWitness}
+use Rattle.sumcheck_replies.specs.Reply.{no_witness}
+use Rattle.sumcheck_replies.specs.Fields.{Fields, fields_of}
+use Rattle.sumcheck_replies.specs.Refusals.{finding_reply}
+use Rattle.sumcheck_product.specs.Products.{ProductCase, ProductFigures, image_table, case_over, product_case, product_shape, true_sum, product_start, product_built, first_refused, product_played, unless_refused, product_given, product_finding, product_figures, product_lines, figures_reply, degree_refusal, given_reply, built_reply, mode_reply, shaped_reply, product_judged, product_rules, product_answer}
+use Rattle.sumcheck_product.specs.ProductPlays.{AreBuilt, LeavesBuilt}
+use Rattle.sumcheck_replies.proofs.WitnessLaws.{IsBuiltOr, honest_rounds-built}
+use Rattle.sumcheck_product.proofs.ProductRoundLaws.{refused-none, refused-width, refused-witness}
+
+module _ (q : ProductCase) where
+  -- the replay of what came with a claimed sum
+  abbrev pub replay_for : ℕ → Wire → Replay
+  replay_for claimed came = record {
+    ops = q.ops;
+    channel = q.channel;
+    shape = shape_of q.variables (length q.tables) q.channel.bits;
+    claimed = claimed;
+    came = came;
+    history = q.history;
+  }
+
+  -- the replay in a shape of these numbers
+  pub replay-is : (n degree claimed : ℕ) (came : Wire) → n ≡ q.variables → degree ≡ length q.tables →
+      ◌≡◌ {A = Replay} (record { ops = q.ops; channel = q.channel; shape = shape_of n degree q.channel.bits; claimed = claimed; came = came; history = q.history }) (replay_for claimed came)
+  replay-is n degree claimed came count width = rw (count, width) refl
+
+  -- ---- rounds that were built
+
+  pub built-shown : (claimed product residual : ℕ) (came : Wire) (rs : List ℕ) (h' : List Event) → AreBuilt q claimed came product →
+      IsReplayedTo (replay_for claimed came) q.variables rs (footing h' residual) →
+      figures_reply (true_sum q)
+      (record { claimed = claimed; messages = came.messages; witnesses = came.witnesses; challenges = rs; residual = residual; product = product }) ≡ mode_reply q Build
+  built-shown claimed product residual came rs h' b replayed =
+      let R = q.channel.rules in
+      let E = q.channel.extension in
+      let bits = q.channel.bits in
+      let next = next_through q.ops in
+      let start = product_start q (true_sum q) in
+      let given : rounds_in (replay_for claimed came) ≡ b.rounds =
+      ap (λ (w : Wire). given_rounds w.messages w.witnesses) b.wire
+      ∙ given_played (honest_values q.ops q.tables) R E bits start [] q.variables b.rounds b.honest in
+      let all : take q.variables (rounds_in (replay_for claimed came)) ≡ b.rounds = ap (take q.variables) given ∙ take_whole b.rounds q.variables (sym b.count) in
+      let from_claimed : IsReplayed next q.channel (start_of (replay_for claimed came)) (footing h' residual) b.rounds rs =
+      subst (λ rounds. IsReplayed next q.channel (start_of (replay_for claimed came)) (footing h' residual) rounds rs) all replayed.replays in
+      let moved : IsReplayed next q.channel (footing start (true_sum q)) (footing h' residual) b.rounds rs =
+      subst (λ k. IsReplayed next q.channel (footing (product_start q k) k) (footing h' residual) b.rounds rs) b.claim from_claimed in
+      let cs = challenges R E bits start b.rounds in
+      let same : ◌≡◌ {A = ProductFigures}
+      (record { claimed = claimed; messages = came.messages; witnesses = came.witnesses; challenges = rs; residual = residual; product = product })
+      (product_figures q (true_sum q) b.rounds) =
+      rw (b.claim, b.wire, moved.drawn, moved.claim, b.value) refl in
+      ap (figures_reply (true_sum q)) same ∙ sym (ap (built_reply q) b.are)
+
+  -- rounds that could not be
+  pub built-refused_reply : {F EF : Type 0} (base : F → ℕ) (number : EF → ℕ) (e : GenericDegreeError) → e ≢ NoMemory → LeavesBuilt {F = F} {EF = EF} base number q (Err e) →
+      degree_refusal q.channel.bits e ≡ mode_reply q Build
+  built-refused_reply base number (NoWitness i) some left = sym (ap (built_reply q) left)
+  built-refused_reply base number NoMemory some left = absurd (some refl)
+  built-refused_reply base number e some left = absurd left
+
+  -- ---- rounds that were handed in
+
+  -- what came of a proof
+  abbrev pub wire_of : ProductProof → Wire
+  wire_of p = record { messages = p.rounds; witnesses = p.witnesses }
+
+  module _ (p : ProductProof) where
+    abbrev handed : List Round
+    handed = given_rounds p.rounds p.witnesses
+
+    -- as many rounds and witnesses came as have to
+    counted : length p.rounds ≡ q.variables → length p.witnesses ≡ witness_count q.channel.bits q.variables → product_given q p ≡ product_played q p.claimed handed
+    counted rounds witnesses =
+        let others = Err (RoundCountMismatch q.variables (length p.rounds)) in
+        let few = Err (PowWitnessCountMismatch (witness_count q.channel.bits q.variables) (length p.witnesses)) in
+        ap (λ b. if b then (if length p.witnesses == witness_count q.channel.bits q.variables then product_played q p.claimed handed else few) else others) (eq-eqb _ _ rounds)
+        ∙ ap (λ b. if b then product_played q p.claimed handed else few) (eq-eqb _ _ witnesses)
+
+    -- one of them is refused
+    refused-as : (e : GenericDegreeError) → IsCounted (replay_for p.claimed (wire_of p)) → first_refused q.channel (length q.tables) 0 (product_start q p.claimed) handed ≡ Some e →
+        product_given q p ≡ Err e
+    refused-as e counts first = counted counts.rounds counts.witnesses ∙ ap (λ t. unless_refused t handed) first
+
+    -- the witnesses of the rounds are those that came
+    all_witnesses : (ms : List (List ℕ)) (ws : List ℕ) → length ws ≡ length ms → map (λ (r : Round). r.witness) (given_rounds ms ws) ≡ ws
+    all_witnesses [] [] e = refl
+    all_witnesses [] (w ∷ ws) e = absurd (omega (arith, e))
+    all_witnesses (m ∷ ms) [] e = absurd (omega (arith, e))
+    all_witnesses (m ∷ ms) (w ∷ ws) e = ap (λ t. w ∷ t) (all_witnesses ms ws (omega (arith, e)))
+
+    no_witnesses : (ws : List ℕ) → length ws ≡ 0 → ws ≡ []
+    no_witnesses [] e = refl
+    no_witnesses (w ∷ ws) e = absurd (omega (arith, e))
+
+    witnesses-handed : (bits n : ℕ) → length p.rounds ≡ n → length p.witnesses ≡ witness_count bits n → witnesses_of bits handed ≡ p.witnesses
+    witnesses-handed zero n rounds witnesses = sym (no_witnesses p.witnesses witnesses)
+    witnesses-handed (suc bits) n rounds witnesses =
+        let count : length p.witnesses ≡ n = witnesses ∙ ap (λ b. if b then 0 else n) (ne_eqb (suc bits) 0 (λ e. absurd (omega (arith, e)))) in
+        all_witnesses p.rounds p.witnesses (count ∙ sym rounds)
+
+    -- there are as many challenges as variables
+    pub given-count : (rs : List ℕ) (end : Footing) → IsCounted (replay_for p.claimed (wire_of p)) → IsReplayedTo (replay_for p.claimed (wire_of p)) q.variables rs end →
+        length rs ≡ q.variables
+    given-count rs end counts replayed =
+        let size : length handed ≡ q.variables = length-given_rounds p.rounds p.witnesses ∙ counts.rounds in
+        ap length replayed.replays.drawn
+        ∙ length-challenges q.channel.rules q.channel.extension q.channel.bits (product_start q p.claimed) (take q.variables handed)
+        ∙ ap length (take_whole handed q.variables (sym size)) ∙ size
+
+    -- they were replayed whole
+    pub given-shown : (residual product : ℕ) (rs : List ℕ) (h' : List Event) → IsCounted (replay_for p.claimed (wire_of p)) →
+        IsReplayedTo (replay_for p.claimed (wire_of p)) q.variables rs (footing h' residual) → product ≡ values_product q.ops q.tables rs →
+        figures_reply (true_sum q)
+        (record { claimed = p.claimed; messages = p.rounds; witnesses = p.witnesses; challenges = rs; residual = residual; product = product }) ≡ mode_reply q (Check p)
+    given-shown residual product rs h' counts replayed value =
+        let start = product_start q p.claimed in
+        let all : take q.variables handed ≡ handed = take_whole handed q.variables (sym (length-given_rounds p.rounds p.witnesses ∙ counts.rounds)) in
+        let moved : IsReplayed (next_through q.ops) q.channel (footing start p.claimed) (footing h' residual) handed rs =
+        subst (λ rounds. IsReplayed (next_through q.ops) q.channel (footing start p.claimed) (footing h' residual) rounds rs) all replayed.replays in
+        let wide : AreWide (length q.tables) handed = subst (AreWide (length q.tables)) all replayed.wide in
+        let none : product_given q p ≡ Ok handed =
+        counted counts.rounds counts.witnesses ∙ ap (λ t. unless_refused t handed) (refused-none q.channel (length q.tables) 0 start handed wide moved.passes) in
+        let same : ◌≡◌ {A = ProductFigures}
+        (record { claimed = p.claimed; messages = p.rounds; witnesses = p.witnesses; challenges = rs; residual = residual; product = product })
+        (product_figures q p.claimed handed) =
+        rw (value, moved.claim, moved.drawn, messages-given_rounds p.rounds p.witnesses, witnesses-handed q.channel.bits q.variables counts.rounds counts.witnesses) refl in
+        ap (figures_reply (true_sum q)) same ∙ sym (ap (given_reply q p.claimed) none)
+
+    -- they were refused
+    pub given-refused : {X : Type 0} (number : X → ℕ) (e : GenericDegreeError) (h' : List Event) → e ≢ NoMemory → 1 ≤ length q.tables →
+        LeavesReplay number (replay_for p.claimed (wire_of p)) (Err e) h' → degree_refusal q.channel.bits e ≡ mode_reply q (Check p)
+    given-refused number (InvalidDegree d) h' some degree left = absurd (omega (arith, degree, left.1))
+    given-refused number (RoundCountMismatch expected actual) h' some degree left =
+        let few = Err (PowWitnessCountMismatch (witness_count q.channel.bits q.variables) (length p.witnesses)) in
+        let counts = if length p.witnesses == witness_count q.channel.bits q.variables then product_played q p.claimed handed else few in
+        let other : product_given q p ≡ Err (RoundCountMismatch q.variables (length p.rounds)) =
+        ap (λ b. if b then counts else Err (RoundCountMismatch q.variables (length p.rounds))) (ne_eqb _ _ (λ e. left.2 (left.1 ∙ e ∙ sym left.0))) in
+        ap (λ n. degree_refusal q.channel.bits (RoundCountMismatch n actual)) left.0 ∙ ap (λ n. degree_refusal q.channel.bits (RoundCountMismatch q.variables n)) left.1
+        ∙ sym (ap (given_reply q p.claimed) other)
+    given-refused number (PowWitnessCountMismatch expected actual) h' some degree left =
+        let expects = witness_count q.channel.bits q.variables in
+        let few = Err (PowWitnessCountMismatch expects (length p.witnesses)) in
+        let others = Err (RoundCountMismatch q.variables (length p.rounds)) in
+        let counts = if length p.witnesses == expects then product_played q p.claimed handed else few in
+        let other : product_given q p ≡ few =
+        ap (λ b. if b then counts else others) (eq-eqb _ _ left.3)
+        ∙ ap (λ b. if b then product_played q p.claimed handed else few) (ne_eqb _ _ (λ e. left.2 (left.1 ∙ e ∙ sym left.0))) in
+        ap (λ n. degree_refusal q.channel.bits (PowWitnessCountMismatch n actual)) left.0 ∙ ap (λ n. degree_refusal q.channel.bits (PowWitnessCountMismatch expects n)) left.1
+        ∙ sym (ap (given_reply q p.claimed) other)
+    given-refused number (PolyEvalCountMismatch i expected actual) h' some degree left =
+        let narrow = left.2 in
+        let behind = narrow.behind.replayed in
+        let first = refused-as (PolyEvalCountMismatch i (length q.tables) (length narrow.round.values)) left.0
+        (refused-width q.channel (length q.tables) 0 (product_start q p.claimed) handed i narrow.round behind.wide behind.replays.passes narrow.is (λ e. narrow.other (narrow.width ∙ e))
+        ∙ ap (λ k. Some (PolyEvalCountMismatch k (length q.tables) (length narrow.round.values))) (zero-add i)) in
+        ap (λ n. degree_refusal q.channel.bits (PolyEvalCountMismatch i n actual)) left.1
+        ∙ ap (λ n. degree_refusal q.channel.bits (PolyEvalCountMismatch i (length q.tables) n)) narrow.width
+        ∙ sym (ap (given_reply q p.claimed) first)
+    given-refused number (InvalidPowWitness i) h' some degree left =
+        let R = q.channel.rules in
+        let E = q.channel.extension in
+        let bits = q.channel.bits in
+        let start = product_start q p.claimed in
+        let at = left.1.at in
+        let fails = ap (λ t. round_passes R E bits t at.round) (sym at.replays.history) ∙ at.test.fails in
+        let more : i + 1 ≡ suc i = omega arith in
+        let wide : AreWide (length q.tables) (take (suc i) handed) = subst (λ k. AreWide (length q.tables) (take k handed)) more left.1.wide in
+        let first = refused-as (InvalidPowWitness i) left.0
+        (refused-witness q.channel (length q.tables) 0 start handed i at.round wide at.replays.passes at.is fails ∙ ap (λ k. Some (InvalidPowWitness k)) (zero-add i)) in
+        sym (ap (given_reply q p.claimed) first)
+    given-refused number NoMemory h' some degree left = absurd (some refl)
+    given-refused number e h' some degree left = absurd left
+
+  -- ---- a build
+
+  -- holds, unless a round at a difficulty has no witness
+  holds-by : IsField q.ops → 1 ≤ length q.tables → length q.tables < q.ops.size → (r : Result (List Round) ℕ) →
+      IsBuiltOr q.channel.rules q.channel.extension q.channel.base_size (honest_values q.ops q.tables) q.channel.bits (product_start q (true_sum q)) [] q.variables r →
+      ((built_reply q r).outcome ≡ Holds) ⊎ ((0 < q.channel.bits) × ((built_reply q r).outcome ≡ LacksWitness))
+  unfolding figures_reply no_witness
+  holds-by field some few (Ok rounds) built =
+      let start = product_start q (true_sum q) in
+      let f = product_figures q (true_sum q) rounds in
+      let matched : f.residual ≡ f.product =
+      honest_along q.ops field q.channel.rules q.channel.extension q.channel.bits q.tables some few start [] q.variables rounds built.0 built.1 in
+      inl (ap (λ b. (finding_reply (product_finding b (f.claimed == true_sum q)) (product_lines f)).outcome) (eq-eqb _ _ matched)
+      ∙ ap (λ b. (finding_reply (product_finding true b) (product_lines f)).outcome) (eq-eqb (true_sum q) (true_sum q) refl))
+  holds-by field some few (Err i) positive = inr (positive, refl)
+
+  pub build-holds : IsField q.ops → 1 ≤ length q.tables → length q.tables < q.ops.size →
+      ((mode_reply q Build).outcome ≡ Holds) ⊎ ((0 < q.channel.bits) × ((mode_reply q Build).outcome ≡ LacksWitness))
+  build-holds field some few =
+      holds-by field some few (product_built q)
+      (honest_rounds-built q.channel.rules q.channel.extension q.channel.base_size (honest_values q.ops q.tables) q.channel.bits (product_start q (true_sum q)) [] q.variables)
+
+-- ---- a job
+
+-- its reply behind its shape
+pub shaped : (k : Fields) (job : ProductJob) (R : Rules) (h : List Event) (max_bits : ℕ) (shape : Result ℕ ShapeFault) → max_bits ≡ R.max_bits →
+    shape ≡ product_shape job max_bits → shaped_reply k job R h shape ≡ product_judged k job R h
+unfolding product_judged
+shaped k job R h max_bits shape bound is = ap (shaped_reply k job R h) (is ∙ ap (product_shape job) bound)
+
+-- the case over the tables that were made of its own
+pub case-same : (k : Fields) (job : ProductJob) (n m bits : ℕ) (fs : List (ℕ → ℕ)) (R : Rules) (h : List Event) → fs ≡ map (image_table k.embedding) job.tables → m ≡ n → bits ≡ job.bits →
+    case_over k.ops fs m (record { rules = R; extension = k.extension; base_size = k.base_size; bits = bits }) h ≡ product_case k job n R h
+case-same k job n m bits fs R h tables arity same = rw (tables, arity, same) refl
+
+-- the fields of each name are lawful
+fields_field : (name : FieldName) → IsField (fields_of name).ops
+fields_field F65537 = residues_field
+fields_field F257x2 = f257x2_field
+fields_field F16 = tower_field
+
+-- a build of it holds
+shaped-holds : (k : Fields) → IsField k.ops → (job : ProductJob) (R : Rules) (h : List Event) → 1 ≤ length job.tables → length job.tables ≤ 8 →
+    job.mode ≡ Build → (shape : Result ℕ ShapeFault) → IsOk shape →
+    ((shaped_reply k job R h shape).outcome ≡ Holds) ⊎ ((0 < job.bits) × ((shaped_reply k job R h shape).outcome ≡ LacksWitness))
+shaped-holds k field job R h some few mode (Err fault) none = cc
+shaped-holds k field job R h some few mode (Ok n) ok =
+    let q = product_case k job n R h in
+    let count : length q.tables ≡ length job.tables = length-map job.tables (image_table k.embedding) in
+    let enough = field.at_least in
+    subst (λ m. ((mode_reply q m).outcome ≡ Holds) ⊎ ((0 < job.bits) × ((mode_reply q m).outcome ≡ LacksWitness))) (sym mode)
+    (build-holds q field (omega (arith, count, some)) (omega (arith, count, few, enough)))
+
+pub job-holds : (job : ProductJob) → ProductJobFits (sizes_of job.field) job → job.mode ≡ Build → IsOk (product_shape job (product_rules job).max_bits) →
+    ((product_answer job).outcome ≡ Holds) ⊎ ((0 < job.bits) × ((product_answer job).outcome ≡ LacksWitness))
+unfolding product_judged
+job-holds job fits mode shape =
+    shaped-holds (fields_of job.field) (fields_field job.field) job (product_rules job) [] fits.tables.some fits.tables.few mode (product_shape job (product_rules job).max_bits) shape

@@ -1,0 +1,11 @@
+use Rattle.sumcheck_product.proofs.ProductReplies.{job-holds}
+use Rattle.sumcheck_product.proofs.product.judge_product.Goals as goal
+
+pub returns-in-F65537-clause-holds : goal.returns-in-F65537-clause-holds
+returns-in-F65537-clause-holds c = job-holds c.args.job c.requires
+
+pub returns-in-F257x2-clause-holds : goal.returns-in-F257x2-clause-holds
+returns-in-F257x2-clause-holds c = job-holds c.args.job c.requires
+
+pub returns-in-F16-clause-holds : goal.returns-in-F16-clause-holds
+returns-in-F16-clause-holds c = job-holds c.args.job c.requires

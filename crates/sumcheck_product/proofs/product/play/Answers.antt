@@ -1,0 +1,33 @@
+use Rattle.std.proofs.Common.{◌<◌, Err, map, ◌∙◌, subst}
+use Rattle.std.proofs.lemmas.List.Elements.{All-map}
+use Rattle.sc_definitions.specs.Channels.{channel}
+use Rattle.sc_degree.specs.Proofs.{wire_in}
+use Rattle.sc_degree.specs.Provers.{LeavesPlay, IsPlayed}
+use Rattle.sc_degree.specs.Products.{prover_of, tables_of, arity_of}
+use Rattle.sumcheck_product.specs.Products.{ProductCase, case_over}
+use Rattle.sumcheck_product.proofs.ProductRoundLaws.{prover_for, built-played, built-refused, passed_on, play-is}
+use Rattle.sumcheck_product.proofs.product.play.Goals as goal
+
+pub returns-in_err-proof : goal.returns-in_err-proof
+returns-in_err-proof g c =
+    let e = g.EF.Field in
+    let q : ProductCase = case_over e.ops (tables_of e.number c.args.product) (arity_of c.args.product)
+    (channel (g.C.Challenger.rules c.args.challenger.now) g.EF.ExtensionField.extension g.F.Field.ops.size c.args.pow_bits) (g.C.Challenger.history c.args.challenger.now) in
+    let after = prover_of e.ops (tables_of e.number c.prove.new.self) (arity_of c.prove.new.self) in
+    let same = play-is q _ _ _ _ _ c.in_ok-copied.ensures.rules c.in_ok-copied.ensures.history c.num_variables-variables.ensures c.degree-degree.ensures c.requires.sum in
+    passed_on q g.F.Field.number e.number _ c.in_err-proof.field-0.0 c.from_residual-in_err-proof.ensures.1
+    (built-refused q g.F.Field.number e.number after c.in_err-proof.field-0.0 (g.C.Challenger.history c.prove.new.challenger) (subst (λ p. LeavesPlay g.F.Field.number e.number p (prover_for q) after (Err c.in_err-proof.field-0.0) (g.C.Challenger.history c.prove.new.challenger)) same c.in_err-proof.ensures.left))
+
+pub returns : goal.returns
+returns g c =
+    let e = g.EF.Field in
+    let q : ProductCase = case_over e.ops (tables_of e.number c.args.product) (arity_of c.args.product)
+    (channel (g.C.Challenger.rules c.args.challenger.now) g.EF.ExtensionField.extension g.F.Field.ops.size c.args.pow_bits) (g.C.Challenger.history c.args.challenger.now) in
+    let after = prover_of e.ops (tables_of e.number c.prove.new.self) (arity_of c.prove.new.self) in
+    let same = play-is q _ _ _ _ _ c.in_ok-copied.ensures.rules c.in_ok-copied.ensures.history c.num_variables-variables.ensures c.degree-degree.ensures c.requires.sum in
+    let came = wire_in g.F.Field.number e.number c.in_ok-proof.proof in
+    built-played q g.met.EF.Field.is_field.ring (tables_of e.number c.prove.new.self) (arity_of c.prove.new.self) came (map e.number c.in_ok-proof.field-0-1)
+    (g.C.Challenger.history c.prove.new.challenger) (e.number c.in_ok-proof.proof.claimed_sum) (e.number c.sum.result)
+    (c.in_ok-proof.ensures.left.0 ∙ c.requires.sum)
+    (All-map (λ n. n < g.F.Field.ops.size) g.F.Field.number _ (λ k d low. g.met.F.Field.number_below _)) c.sum.ensures
+    (subst (λ p. IsPlayed p (prover_for q) after came (map e.number c.in_ok-proof.field-0-1) (g.C.Challenger.history c.prove.new.challenger)) same c.in_ok-proof.ensures.left.1)

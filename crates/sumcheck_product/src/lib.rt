@@ -1,0 +1,12 @@
+//! Jobs of `product`: the rounds of a sum over all rows of the product of several tables, built or
+//! checked, and the report on them.
+//!
+//! What a job is answered is one function of the definitions, `product_answer` in
+//! `specs/Products.antt`.
+#![tactic(auto)]
+
+mod images;
+mod product;
+mod shape;
+
+pub use product::judge_product;

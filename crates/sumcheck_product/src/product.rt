@@ -1,0 +1,381 @@
+//! The answer to a job of `product`.
+ghost use Rattle.std.specs.Prelude.{◌≡◌, ◌≢◌, ◌⊎◌, ◌<◌, ◌≤◌, ◌++◌, IfOk, IsOk, OnOk, [], map};
+ghost use Rattle.std.specs.Prelude.{length, string_bytes};
+ghost use Rattle.sc_definitions.specs.Channels.{channel};
+ghost use Rattle.sc_definitions.specs.Products.{values_product};
+ghost use Rattle.sc_degree.specs.Products.{arity_of, tables_of};
+ghost use Rattle.sumcheck_jobs.specs.Elements.{sizes_of};
+ghost use Rattle.sumcheck_jobs.specs.ProductJob.{ProductJobFits, ProductModeFits};
+ghost use Rattle.sumcheck_replies.specs.Lines.{round_line, round_lines};
+ghost use Rattle.sumcheck_product.specs.Products.{case_over, degree_refusal, figures_in};
+ghost use Rattle.sumcheck_product.specs.Products.{figures_reply, given_proof, mode_reply};
+ghost use Rattle.sumcheck_product.specs.Products.{product_answer, product_judged, product_lines};
+ghost use Rattle.sumcheck_product.specs.Products.{product_rules, product_shape, task_mode, true_sum};
+ghost use Rattle.sumcheck_product.specs.ProductPlays.{IsDegree, LeavesBuilt};
+ghost use Rattle.sumcheck_replies.specs.Fields.{rules_by};
+
+use crate::images::image_tables;
+use crate::shape::fitting_arity;
+use sc_audit::{AuditError, Form};
+use sc_challenger::{Challenger, HashChallenger, ScriptedChallenger};
+use sc_degree::{GenericDegreeError, GenericDegreeProof, RoundProver, TableProduct};
+use sc_field::{ExtensionField, F257, F257x2, F65537, Field, NoMemory, Tower16};
+use sc_table::Point;
+use std::alloc::Global;
+use sumcheck_jobs::{FieldName, ProductJob, ProductMode};
+use sumcheck_replies::{
+    Answer, Outcome, element_lists, elements, lines, number_at, refuse, scripted,
+};
+
+/// The answer to a job of `product`: its report, or why there is none. The numbers are given up
+/// before the rounds begin.
+pub fn judge_product(alloc: Global, job: ProductJob) -> Result<Answer, NoMemory>
+    requires { ProductJobFits (sizes_of job.field) job }
+    ensures reply { IfOk result (λ a. a ≡ product_answer job) }
+
+    // So a build whose shape is not refused holds, unless a round at a difficulty has no witness.
+    ensures holds { job.mode ≡ ProductMode.Build
+        → IsOk (product_shape job (product_rules job).max_bits)
+        → ((product_answer job).outcome ≡ Outcome.Holds)
+        ⊎ ((0 < job.bits) × ((product_answer job).outcome ≡ Outcome.NoWitness)) }
+{
+    match job.field {
+        FieldName::F65537 => judge_in::<F65537, F65537>(alloc, job),
+        FieldName::F257x2 => judge_in::<F257, F257x2>(alloc, job),
+        FieldName::F16 => judge_in::<Tower16, Tower16>(alloc, job),
+    }
+}
+
+// The same over fields of these types.
+fn judge_in<F: Field, EF: ExtensionField<F>>(
+    alloc: Global,
+    job: ProductJob,
+) -> Result<Answer, NoMemory>
+    requires { ProductJobFits (record { base = F.ops.size; extension = EF.ops.size }) job }
+    ensures { IfOk result (λ a. a ≡ product_judged
+        (record {
+          ops = EF.ops;
+          base_size = F.ops.size;
+          extension = EF.extension;
+          embedding =
+              EF.embedding;
+        }) job
+        (rules_by F.ops.size job.challenger) []) }
+{
+    match &job.challenger {
+        sumcheck_jobs::Challenger::Scripted(script) => {
+            let mut challenger: ScriptedChallenger<F> = scripted(alloc, script)?;
+            answer_to::<F, EF, ScriptedChallenger<F>>(alloc, job, &mut challenger)
+        }
+        sumcheck_jobs::Challenger::Hash => {
+            let mut challenger: HashChallenger<F> = HashChallenger::new(alloc);
+            answer_to::<F, EF, HashChallenger<F>>(alloc, job, &mut challenger)
+        }
+    }
+}
+
+// The same under a challenger. The job is given up before a round is played.
+fn answer_to<F: Field, EF: ExtensionField<F>, C: Challenger<F>>(
+    alloc: Global,
+    job: ProductJob,
+    challenger: &mut C,
+) -> Result<Answer, NoMemory>
+    requires { ProductJobFits (record { base = F.ops.size; extension = EF.ops.size }) job }
+    ensures { IfOk result (λ a. a ≡ product_judged
+        (record {
+          ops = EF.ops;
+          base_size = F.ops.size;
+          extension = EF.extension;
+          embedding =
+              EF.embedding;
+        }) job
+        (C.rules challenger.old) (C.history challenger.old)) }
+{
+    let n = match fitting_arity(&job, challenger.max_bits()) {
+        Ok(n) => n,
+        Err(fault) => return refuse(alloc, AuditError::JobShape(fault)),
+    };
+    let tables = image_tables::<F, EF>(alloc, job.tables.as_slice(), n)?;
+    let proof = given::<F, EF>(alloc, &job.mode)?;
+    let pow_bits = job.bits as usize;
+    drop(job);
+    let product = TableProduct::new(tables);
+    match proof {
+        None => build(alloc, product, pow_bits, challenger),
+        Some(proof) => check(alloc, product, proof, pow_bits, challenger),
+    }
+}
+
+// The proof that is checked, if one is.
+fn given<F: Field, EF: ExtensionField<F>>(
+    alloc: Global,
+    mode: &ProductMode,
+) -> Result<Option<GenericDegreeProof<F, EF>>, NoMemory>
+    requires { ProductModeFits (record { base = F.ops.size; extension = EF.ops.size }) mode.now }
+    ensures { IfOk result (λ p. task_mode F.number EF.number p ≡ mode.now) }
+{
+    match mode {
+        ProductMode::Build => Ok(None),
+        ProductMode::Check(proof) => Ok(Some(GenericDegreeProof {
+            claimed_sum: EF::element(proof.claimed),
+            round_polys: element_lists(alloc, proof.rounds.as_slice())?,
+            pow_witnesses: elements(alloc, proof.witnesses.as_slice())?,
+        })),
+    }
+}
+
+// ---- Rounds that are built
+
+// Rounds that were built, and the product of the tables' values at their challenges.
+#[derive(Drop)]
+struct Built<F, EF> {
+    proof: GenericDegreeProof<F, EF>,
+    product: EF,
+}
+
+// Builds the rounds of a product with its true sum on a copy of the challenger, and replays them on
+// the challenger itself.
+fn build<F: Field, EF: ExtensionField<F>, C: Challenger<F>>(
+    alloc: Global,
+    product: TableProduct<EF>,
+    pow_bits: usize,
+    challenger: &mut C,
+) -> Result<Answer, NoMemory>
+    requires degree { IsDegree (length (tables_of EF.number product)) }
+    requires difficulty { pow_bits ≤ (C.rules challenger.old).max_bits }
+    ensures { IfOk result (λ a. a ≡ mode_reply
+        (case_over EF.ops (tables_of EF.number product) (arity_of product)
+        (channel (C.rules challenger.old) EF.extension F.ops.size pow_bits)
+        (C.history challenger.old)) ProductMode.Build) }
+{
+    let variables = product.num_variables();
+    let degree = product.degree();
+    let sum = product.sum();
+    let built = match play(alloc, product, sum, pow_bits, challenger) {
+        Ok(built) => built,
+        Err(error) => return refuse_rounds(alloc, error, pow_bits),
+    };
+    let Built { proof, product } = built;
+    match proof.verify(alloc, challenger, variables, degree, pow_bits) {
+        Ok((challenges, residual)) => {
+            let played = Played {
+                proof,
+                challenges,
+                residual,
+                product,
+            };
+            show(alloc, &played, sum)
+        }
+        // what was built passes, memory aside
+        Err(_) => Err(NoMemory),
+    }
+}
+
+// Builds the rounds of a product with its true sum in the transcript of a copy of the challenger.
+fn play<F: Field, EF: ExtensionField<F>, C: Challenger<F>>(
+    alloc: Global,
+    product: TableProduct<EF>,
+    sum: EF,
+    pow_bits: usize,
+    challenger: &C,
+) -> Result<Built<F, EF>, GenericDegreeError>
+    requires degree { IsDegree (length (tables_of EF.number product)) }
+    requires difficulty { pow_bits ≤ (C.rules challenger.now).max_bits }
+    requires sum { EF.number sum ≡ true_sum
+        (case_over EF.ops (tables_of EF.number product) (arity_of product)
+        (channel (C.rules challenger.now) EF.extension F.ops.size pow_bits)
+        (C.history challenger.now)) }
+    ensures { LeavesBuilt F.number EF.number
+        (case_over EF.ops (tables_of EF.number product) (arity_of product)
+        (channel (C.rules challenger.now) EF.extension F.ops.size pow_bits)
+        (C.history challenger.now)) result }
+{
+    let mut product = product;
+    let variables = product.num_variables();
+    let degree = product.degree();
+    let mut copied = challenger.copy(alloc)?;
+    let (proof, _) = product.prove(alloc, &mut copied, variables, degree, pow_bits, sum)?;
+    Ok(Built {
+        proof,
+        product: product.sum(),
+    })
+}
+
+// ---- Rounds that are handed in
+
+// Replays the rounds of a proof.
+fn check<F: Field, EF: ExtensionField<F>, C: Challenger<F>>(
+    alloc: Global,
+    product: TableProduct<EF>,
+    proof: GenericDegreeProof<F, EF>,
+    pow_bits: usize,
+    challenger: &mut C,
+) -> Result<Answer, NoMemory>
+    requires degree { IsDegree (length (tables_of EF.number product)) }
+    requires difficulty { pow_bits ≤ (C.rules challenger.old).max_bits }
+    ensures { IfOk result (λ a. a ≡ mode_reply
+        (case_over EF.ops (tables_of EF.number product) (arity_of product)
+        (channel (C.rules challenger.old) EF.extension F.ops.size pow_bits)
+        (C.history challenger.old))
+        (ProductMode.Check (given_proof F.number EF.number proof))) }
+{
+    let variables = product.num_variables();
+    let degree = product.degree();
+    let sum = product.sum();
+    match proof.verify(alloc, challenger, variables, degree, pow_bits) {
+        Ok((challenges, residual)) => {
+            let product = value_at(product, challenges.as_slice());
+            let played = Played {
+                proof,
+                challenges,
+                residual,
+                product,
+            };
+            show(alloc, &played, sum)
+        }
+        Err(error) => refuse_rounds(alloc, error, pow_bits),
+    }
+}
+
+// The product of the tables' values at as many challenges as they have variables. The tables are
+// bound in their place.
+fn value_at<EF: Field>(product: TableProduct<EF>, challenges: &[EF]) -> EF
+    requires { length challenges.now ≡ arity_of product }
+    ensures { EF.number result ≡ values_product EF.ops (tables_of EF.number product)
+        (map EF.number challenges.now) }
+{
+    let mut product = product;
+    for r in challenges {
+        product.fold(*r);
+    }
+    product.sum()
+}
+
+// ---- The report
+
+// Rounds that were replayed, what they leave of the claimed sum, and the product of the tables'
+// values at their challenges.
+#[derive(Drop)]
+struct Played<F, EF> {
+    proof: GenericDegreeProof<F, EF>,
+    challenges: Point<EF>,
+    residual: EF,
+    product: EF,
+}
+
+// The answer that reports on rounds, where this is the true sum.
+#[tactic(auto, unfolding(crate::specs::Products::figures_reply))]
+fn show<F: Field, EF: ExtensionField<F>>(
+    alloc: Global,
+    played: &Played<F, EF>,
+    sum: EF,
+) -> Result<Answer, NoMemory>
+    ensures { IfOk result (λ a. a ≡ figures_reply (EF.number sum)
+        (figures_in F.number EF.number played.now)) }
+{
+    let mut text = report_text(alloc, played)?;
+    if played.residual.index() != played.product.index() {
+        lines::push_refuted(&mut text)?;
+        return Ok(Answer::new(Outcome::Refuted, text));
+    }
+    if played.proof.claimed_sum.index() != sum.index() {
+        return refuse(alloc, AuditError::Unbuilt(Form::Verdict));
+    }
+    lines::push_holds(&mut text)?;
+    Ok(Answer::new(Outcome::Holds, text))
+}
+
+// The lines of a report up to the verdict.
+#[tactic(auto, unfolding(crate::specs::Products::product_lines))]
+fn report_text<F: Field, EF: ExtensionField<F>>(
+    alloc: Global,
+    played: &Played<F, EF>,
+) -> Result<String, NoMemory>
+    ensures { IfOk result (λ s. string_bytes s
+        ≡ product_lines (figures_in F.number EF.number played.now)) }
+{
+    let mut text = String::new(alloc);
+    lines::push_claim(&mut text, played.proof.claimed_sum.index())?;
+    push_rounds(
+        &mut text,
+        &played.proof.round_polys,
+        &played.proof.pow_witnesses,
+        played.challenges.as_slice(),
+    )?;
+    lines::push_residual(&mut text, played.residual.index())?;
+    lines::push_product(&mut text, played.product.index())?;
+    Ok(text)
+}
+
+// The lines of rounds, as far as there are messages and challenges, with as many witnesses as there
+// are.
+fn push_rounds<F: Field, EF: Field>(
+    text: &mut String,
+    messages: &[Vec<EF>],
+    witnesses: &[F],
+    challenges: &[EF],
+) -> Result<(), NoMemory>
+    ensures { OnOk result (string_bytes text.new ≡ string_bytes text.old
+        ++ round_lines 0 (map (λ values. map EF.number values.items) messages.now)
+        (map F.number witnesses.now) (map EF.number challenges.now)) }
+{
+    for i in 0..messages.len().min(challenges.len()) {
+        let witness = number_at(witnesses, i);
+        push_round(text, i, &messages[i], witness, challenges[i].index())?;
+    }
+    Ok(())
+}
+
+// The line of a round.
+fn push_round<EF: Field>(
+    text: &mut String,
+    i: usize,
+    values: &[EF],
+    witness: Option<u64>,
+    challenge: u64,
+) -> Result<(), NoMemory>
+    ensures { OnOk result (string_bytes text.new ≡ string_bytes text.old
+        ++ round_line i (map EF.number values.now) witness challenge) }
+{
+    lines::push_round_name(text, i)?;
+    lines::push_values(text, values)?;
+    lines::push_witness(text, witness)?;
+    lines::push_challenge(text, challenge)?;
+    Ok(())
+}
+
+// The refusal of rounds that were built or handed in, at a difficulty. Want of memory has no text.
+fn refuse_rounds(
+    alloc: Global,
+    error: GenericDegreeError,
+    pow_bits: usize,
+) -> Result<Answer, NoMemory>
+    ensures { IfOk result (λ a. (a ≡ degree_refusal pow_bits error)
+        × (error ≢ GenericDegreeError.NoMemory)) }
+{
+    match error {
+        GenericDegreeError::RoundCountMismatch { expected, actual } => {
+            let why = lines::rounds_text(alloc, expected, actual)?;
+            Answer::proof_refused(alloc, &why)
+        }
+        GenericDegreeError::PowWitnessCountMismatch { expected, actual } => {
+            let why = lines::witnesses_text(alloc, expected, actual)?;
+            Answer::proof_refused(alloc, &why)
+        }
+        GenericDegreeError::PolyEvalCountMismatch {
+            round,
+            expected,
+            actual,
+        } => {
+            let why = lines::width_text(alloc, round, expected, actual)?;
+            Answer::proof_refused(alloc, &why)
+        }
+        GenericDegreeError::InvalidPowWitness { round } => {
+            let why = lines::witness_text(alloc, round, pow_bits)?;
+            Answer::proof_refused(alloc, &why)
+        }
+        GenericDegreeError::NoWitness { round } => Answer::no_witness(alloc, round),
+        // the others are not met, want of memory aside
+        _ => Err(NoMemory),
+    }
+}

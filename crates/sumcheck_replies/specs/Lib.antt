@@ -1,0 +1,5 @@
+pub mod Fields
+pub mod Reply
+pub mod Lines
+pub mod Refusals
+pub mod Witnesses

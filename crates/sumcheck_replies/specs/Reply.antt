@@ -1,0 +1,33 @@
+-- What a command line and an input are answered: how it ends, and the text that is written.
+use Rattle.std.specs.Prelude.{ℕ, List, ◌++◌, codes, decimal}
+use Rattle.sumcheck_replies.specs.declared.reply.Outcome.{Outcome}
+use Rattle.sumcheck_replies.specs.declared.reply.Outcome.TheVariants.{Holds, Refuted, Usage, JobRefused, ProofRefused, NoWitness}
+
+pub record Reply : Type 0 where
+  pub outcome : Outcome
+  pub text : List ℕ
+
+-- the status that an outcome has
+abbrev pub code_of : Outcome → ℕ
+code_of Holds = 0
+code_of Refuted = 1
+code_of Usage = 2
+code_of JobRefused = 3
+code_of ProofRefused = 4
+code_of NoWitness = 5
+
+-- a refused job, in one line
+unfoldable pub refused : List ℕ → Reply
+refused why = record { outcome = JobRefused; text = codes "refused " ++ why ++ codes "\n" }
+
+-- a refused proof, in one line
+unfoldable pub proof_refused : List ℕ → Reply
+proof_refused why = record { outcome = ProofRefused; text = codes "proof refused " ++ why ++ codes "\n" }
+
+-- a build that finds no witness in this round
+unfoldable pub no_witness : ℕ → Reply
+no_witness round = record { outcome = NoWitness; text = codes "no witness round " ++ decimal round ++ codes "\n" }
+
+-- the answer to words that are no command
+unfoldable pub usage : Reply
+usage = record { outcome = Usage; text = codes "usage\n" }

@@ -1,0 +1,282 @@
+//! The lines of a report, and the texts of refusals, of the numbers in them.
+ghost use Rattle.std.specs.Prelude.{◌≡◌, ◌++◌, [], ◌∷◌, OnOk, IfOk, codes, map, string_bytes};
+ghost use Rattle.sumcheck_replies.specs.Lines.{claim_line, counts_lines, eval_line, false_claim_text};
+ghost use Rattle.sumcheck_replies.specs.Lines.{fit_fault_text, grid_name, holds_line, missing_text};
+ghost use Rattle.sumcheck_replies.specs.Lines.{pairs_line, refuted_line, residual_line, round_line};
+ghost use Rattle.sumcheck_replies.specs.Lines.{rounds_text, shape_fault_text, spaced, unbuilt_text};
+ghost use Rattle.sumcheck_replies.specs.Lines.{weight_line, witness_text, witnesses_text};
+ghost use Rattle.sumcheck_replies.specs.Lines.{challenge_part, product_line, round_name, width_text};
+ghost use Rattle.sumcheck_replies.specs.Lines.{witness_part};
+ghost use Rattle.sumcheck_jobs.specs.Members.{misfit_text};
+
+use sc_audit::{FitFault, Form, ShapeFault};
+use sc_field::{Field, NoMemory};
+use std::alloc::{AllocError, Global};
+use sumcheck_jobs::Member;
+
+/// How many rows and how many statements there are, a line each.
+#[tactic(auto, unfolding(crate::specs::Lines::counts_lines))]
+pub fn push_counts(text: &mut String, rows: usize, statements: usize) -> Result<(), AllocError>
+    ensures { OnOk result (string_bytes text.new
+        ≡ string_bytes text.old ++ counts_lines rows statements) }
+{
+    write!(text, "rows {rows}\nstatements {statements}\n")
+}
+
+/// The line of the claim.
+#[tactic(auto, unfolding(crate::specs::Lines::claim_line))]
+pub fn push_claim(text: &mut String, claim: u64) -> Result<(), AllocError>
+    ensures { OnOk result (string_bytes text.new ≡ string_bytes text.old ++ claim_line claim) }
+{
+    write!(text, "claim {claim}\n")
+}
+
+/// The line of a round: its number, the two values that it sent, its witness if it has one, and its
+/// challenge.
+#[tactic(auto, unfolding(crate::specs::Lines::round_line, crate::specs::Lines::spaced, crate::specs::Lines::witness_part))]
+pub fn push_round(
+    text: &mut String,
+    i: usize,
+    c_a: u64,
+    c_inf: u64,
+    witness: Option<u64>,
+    challenge: u64,
+) -> Result<(), AllocError>
+    ensures { OnOk result (string_bytes text.new
+        ≡ string_bytes text.old ++ round_line i (c_a ∷ c_inf ∷ []) witness challenge) }
+{
+    match witness {
+        None => write!(text, "round {i}: {c_a} {c_inf} challenge {challenge}\n"),
+        Some(witness) => write!(
+            text,
+            "round {i}: {c_a} {c_inf} witness {witness} challenge {challenge}\n"
+        ),
+    }
+}
+
+/// The beginning of a round's line, up to its values.
+#[tactic(auto, unfolding(crate::specs::Lines::round_name))]
+pub fn push_round_name(text: &mut String, i: usize) -> Result<(), AllocError>
+    ensures { OnOk result (string_bytes text.new ≡ string_bytes text.old ++ round_name i) }
+{
+    write!(text, "round {i}:")
+}
+
+/// The witness behind a round's values, if it has one.
+#[tactic(auto, unfolding(crate::specs::Lines::witness_part))]
+pub fn push_witness(text: &mut String, witness: Option<u64>) -> Result<(), AllocError>
+    ensures { OnOk result (string_bytes text.new ≡ string_bytes text.old ++ witness_part witness) }
+{
+    match witness {
+        None => Ok(()),
+        Some(witness) => write!(text, " witness {witness}"),
+    }
+}
+
+/// The challenge, which ends a round's line.
+#[tactic(auto, unfolding(crate::specs::Lines::challenge_part))]
+pub fn push_challenge(text: &mut String, challenge: u64) -> Result<(), AllocError>
+    ensures { OnOk result (string_bytes text.new
+        ≡ string_bytes text.old ++ challenge_part challenge) }
+{
+    write!(text, " challenge {challenge}\n")
+}
+
+/// The line of the sum over all values that rounds sent.
+#[tactic(auto, unfolding(crate::specs::Lines::pairs_line))]
+pub fn push_pairs(text: &mut String, sum: u64) -> Result<(), AllocError>
+    ensures { OnOk result (string_bytes text.new ≡ string_bytes text.old ++ pairs_line sum) }
+{
+    write!(text, "pairs {sum}\n")
+}
+
+/// The line of what rounds leave of the claim.
+#[tactic(auto, unfolding(crate::specs::Lines::residual_line))]
+pub fn push_residual(text: &mut String, x: u64) -> Result<(), AllocError>
+    ensures { OnOk result (string_bytes text.new ≡ string_bytes text.old ++ residual_line x) }
+{
+    write!(text, "residual {x}\n")
+}
+
+/// The line of the table's value at the challenges.
+#[tactic(auto, unfolding(crate::specs::Lines::eval_line))]
+pub fn push_eval(text: &mut String, x: u64) -> Result<(), AllocError>
+    ensures { OnOk result (string_bytes text.new ≡ string_bytes text.old ++ eval_line x) }
+{
+    write!(text, "eval {x}\n")
+}
+
+/// The line of the weights' value at the challenges.
+#[tactic(auto, unfolding(crate::specs::Lines::weight_line))]
+pub fn push_weight(text: &mut String, x: u64) -> Result<(), AllocError>
+    ensures { OnOk result (string_bytes text.new ≡ string_bytes text.old ++ weight_line x) }
+{
+    write!(text, "weight {x}\n")
+}
+
+/// The line of the product of several tables' values at the challenges.
+#[tactic(auto, unfolding(crate::specs::Lines::product_line))]
+pub fn push_product(text: &mut String, x: u64) -> Result<(), AllocError>
+    ensures { OnOk result (string_bytes text.new ≡ string_bytes text.old ++ product_line x) }
+{
+    write!(text, "product {x}\n")
+}
+
+/// The beginning of the line of a round's grid, up to its values.
+#[tactic(auto, unfolding(crate::specs::Lines::grid_name))]
+pub fn push_grid_name(text: &mut String, i: usize, place: &str) -> Result<(), AllocError>
+    ensures { OnOk result (string_bytes text.new
+        ≡ string_bytes text.old ++ grid_name i place.now) }
+{
+    write!(text, "grid {i} {place}")
+}
+
+#[tactic(auto, unfolding(crate::specs::Lines::spaced))]
+fn push_spaced(text: &mut String, x: u64) -> Result<(), AllocError>
+    ensures { OnOk result (string_bytes text.new ≡ string_bytes text.old ++ spaced (x ∷ [])) }
+{
+    write!(text, " {x}")
+}
+
+/// The numbers of elements, a space before each, in time linear in their count.
+pub fn push_values<EF: Field>(text: &mut String, values: &[EF]) -> Result<(), NoMemory>
+    ensures { OnOk result (string_bytes text.new
+        ≡ string_bytes text.old ++ spaced (map EF.number values.now)) }
+{
+    for value in values {
+        push_spaced(text, value.index())?;
+    }
+    Ok(())
+}
+
+/// The end of a line.
+pub fn push_end(text: &mut String) -> Result<(), AllocError>
+    ensures { OnOk result (string_bytes text.new ≡ string_bytes text.old ++ codes "\n") }
+{
+    text.push_str("\n")
+}
+
+/// The verdict that every statement is true.
+#[tactic(auto, unfolding(crate::specs::Lines::holds_line))]
+pub fn push_holds(text: &mut String) -> Result<(), AllocError>
+    ensures { OnOk result (string_bytes text.new ≡ string_bytes text.old ++ holds_line) }
+{
+    text.push_str("verdict holds\n")
+}
+
+/// The verdict that what rounds leave is not the product of the values.
+#[tactic(auto, unfolding(crate::specs::Lines::refuted_line))]
+pub fn push_refuted(text: &mut String) -> Result<(), AllocError>
+    ensures { OnOk result (string_bytes text.new ≡ string_bytes text.old ++ refuted_line) }
+{
+    text.push_str("verdict refuted\n")
+}
+
+/// A member that is missing or not of its form.
+#[tactic(auto, unfolding(sumcheck_jobs::specs::Members::misfit_text))]
+pub fn misfit_text(alloc: Global, member: Member) -> Result<String, AllocError>
+    ensures { IfOk result (λ s. string_bytes s ≡ misfit_text member) }
+{
+    let name = member.name();
+    format!(in alloc; "bad-job {name}")
+}
+
+/// What is not built yet.
+#[tactic(auto, unfolding(crate::specs::Lines::unbuilt_text))]
+pub fn unbuilt_text(alloc: Global, form: Form) -> Result<String, AllocError>
+    ensures { IfOk result (λ s. string_bytes s ≡ unbuilt_text form) }
+{
+    match form {
+        Form::Verdict => String::from_str(alloc, "unbuilt verdict"),
+    }
+}
+
+/// What does not fit in the shape of a job.
+#[tactic(auto, unfolding(crate::specs::Lines::shape_fault_text))]
+pub fn shape_fault_text(alloc: Global, fault: ShapeFault) -> Result<String, AllocError>
+    ensures { IfOk result (λ s. string_bytes s ≡ shape_fault_text fault) }
+{
+    match fault {
+        ShapeFault::TableLength { len } => format!(in alloc; "job-shape table-length {len}"),
+        ShapeFault::Difficulty { bits, bound } => {
+            format!(in alloc; "job-shape difficulty {bits} bound {bound}")
+        }
+        ShapeFault::Arity { expected, actual } => {
+            format!(in alloc; "job-shape variables {actual} expected {expected}")
+        }
+    }
+}
+
+/// Why rounds cannot be built in the way that is asked for.
+#[tactic(auto, unfolding(crate::specs::Lines::fit_fault_text))]
+pub fn fit_fault_text(alloc: Global, fault: FitFault) -> Result<String, AllocError>
+    ensures { IfOk result (λ s. string_bytes s ≡ fit_fault_text fault) }
+{
+    match fault {
+        FitFault::Variables { variables, bound } => {
+            format!(in alloc; "strategy-unfit variables {variables} bound {bound}")
+        }
+        FitFault::Select { statement } => format!(in alloc; "strategy-unfit select {statement}"),
+        FitFault::Selector { statement } => {
+            format!(in alloc; "strategy-unfit selector {statement}")
+        }
+    }
+}
+
+/// A statement, by its number, with the claimed value and the true one.
+#[tactic(auto, unfolding(crate::specs::Lines::false_claim_text))]
+pub fn false_claim_text(
+    alloc: Global,
+    statement: usize,
+    claimed: u64,
+    actual: u64,
+) -> Result<String, AllocError>
+    ensures { IfOk result (λ s. string_bytes s ≡ false_claim_text statement claimed actual) }
+{
+    format!(in alloc; "false-claim {statement} claimed {claimed} true {actual}")
+}
+
+/// How many rounds are missing where a proof has none.
+#[tactic(auto, unfolding(crate::specs::Lines::missing_text))]
+pub fn missing_text(alloc: Global, rounds: usize) -> Result<String, AllocError>
+    ensures { IfOk result (λ s. string_bytes s ≡ missing_text rounds) }
+{
+    format!(in alloc; "missing {rounds}")
+}
+
+/// How many rounds a proof should have, and how many it has.
+#[tactic(auto, unfolding(crate::specs::Lines::rounds_text))]
+pub fn rounds_text(alloc: Global, expected: usize, actual: usize) -> Result<String, AllocError>
+    ensures { IfOk result (λ s. string_bytes s ≡ rounds_text expected actual) }
+{
+    format!(in alloc; "rounds expected {expected} actual {actual}")
+}
+
+/// How many witnesses a proof should have, and how many it has.
+#[tactic(auto, unfolding(crate::specs::Lines::witnesses_text))]
+pub fn witnesses_text(alloc: Global, expected: usize, actual: usize) -> Result<String, AllocError>
+    ensures { IfOk result (λ s. string_bytes s ≡ witnesses_text expected actual) }
+{
+    format!(in alloc; "witnesses expected {expected} actual {actual}")
+}
+
+/// The round whose witness fails, and the difficulty.
+#[tactic(auto, unfolding(crate::specs::Lines::witness_text))]
+pub fn witness_text(alloc: Global, round: usize, bits: usize) -> Result<String, AllocError>
+    ensures { IfOk result (λ s. string_bytes s ≡ witness_text round bits) }
+{
+    format!(in alloc; "witness round {round} bits {bits}")
+}
+
+/// The round that sends more or fewer values than it should, and how many these are.
+#[tactic(auto, unfolding(crate::specs::Lines::width_text))]
+pub fn width_text(
+    alloc: Global,
+    round: usize,
+    expected: usize,
+    actual: usize,
+) -> Result<String, AllocError>
+    ensures { IfOk result (λ s. string_bytes s ≡ width_text round expected actual) }
+{
+    format!(in alloc; "width round {round} expected {expected} actual {actual}")
+}

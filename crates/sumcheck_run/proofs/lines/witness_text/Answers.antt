@@ -1,7 +1,0 @@
-use Rattle.std.proofs.Common.{append_assoc, rules}
-use Rattle.sumcheck_run.specs.Lines.{witness_text}
-use Rattle.sumcheck_run.proofs.lines.witness_text.Goals as goal
-
-pub returns : goal.returns
-unfolding witness_text
-returns c = simp append_assoc (search rules)
