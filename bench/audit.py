@@ -14,9 +14,9 @@ one after the other in each repeat, and the medians of wall time, processor time
 ratio to the last program's. Status and output of all are compared byte for byte.
 The peak is what the program `time` tells; without it, at least this script's own size of some 15 MB.
 """
-import argparse, json, os, random, shlex, shutil, statistics, sys, tempfile
+import argparse, json, os, random, shlex, sys, tempfile
 
-from measured import run
+from measured import compare, run, wants
 
 
 class Prime:
@@ -192,9 +192,7 @@ def main():
     given = arguments.parse_args()
     if given.bits != 0 and not given.hash:
         sys.exit("no element passes a test under a script of draws: --bits needs --hash")
-    for program in given.programs:
-        if not program or shutil.which(shlex.split(program)[0]) is None:
-            sys.exit(f"no such program: {program}")
+    wants(given.programs)
     with tempfile.TemporaryDirectory() as folder:
         path = os.path.join(folder, "job.json")
         mode = {"build": given.build}
@@ -203,24 +201,7 @@ def main():
         with open(path, "w") as f:
             f.write(job(given, mode))
         print(f"2^{given.variables} entries, {os.path.getsize(path)} bytes, {given.repeats} repeats, load {os.getloadavg()[0]:.2f}")
-        samples = [[] for _ in given.programs]
-        answers = set()
-        for _ in range(given.repeats):
-            for i, program in enumerate(given.programs):
-                out = os.path.join(folder, f"out-{i}")
-                sample = run(shlex.split(program) + ["audit"], path, out)
-                samples[i].append(sample)
-                with open(out, "rb") as f:
-                    answers.add((sample[3], f.read()))
-        medians = [[statistics.median(s[k] for s in taken) for k in range(3)] for taken in samples]
-        print(f"{'program':40}{'wall ms':>10}{'cpu ms':>10}{'peak MB':>10}")
-        for program, m in zip(given.programs, medians):
-            ratios = "  ".join(f"{a / b:.2f}" for a, b in zip(m, medians[-1]))
-            print(f"{program[-39:]:40}{m[0] * 1e3:>10.1f}{m[1] * 1e3:>10.1f}{m[2]:>10.1f}   x {ratios}")
-        for status, text in answers:
-            print(f"status {status}, {text.splitlines()[-1].decode() if text else 'nothing written'}")
-        if len(answers) != 1:
-            sys.exit("the programs' answers differ")
+        compare(given.programs, "audit", path, given.repeats, folder)
 
 
 main()
