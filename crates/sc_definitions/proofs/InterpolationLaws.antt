@@ -251,7 +251,7 @@ module _ (o : Ops) (field : IsField o) where
   nodes-roots cs (suc n) h at = (h, at n (omega arith), nodes-other n n (omega arith), nodes-roots cs n (omega (arith, h)) (λ x low. at x (omega (arith, low))))
 
   -- two polynomials of n coefficients that agree at n nodes differ by zero
-  agree_everywhere : (n : ℕ) (cs ds : List ℕ) → length cs ≡ n → length ds ≡ n → n ≤ o.size →
+  pub agree_everywhere : (n : ℕ) (cs ds : List ℕ) → length cs ≡ n → length ds ≡ n → n ≤ o.size →
       ((x : ℕ) → x < n → poly_at o cs x ≡ poly_at o ds x) → AllZero o (poly_minus o cs ds)
   agree_everywhere n cs ds many as_many enough same =
       zero-from_roots o field (nodes n) (poly_minus o cs ds)

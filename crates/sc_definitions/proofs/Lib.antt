@@ -38,3 +38,8 @@ pub mod ProductLaws
 pub mod InterpolationLaws
 pub mod ProductRounds
 pub mod WorkedProducts
+pub mod RootCount
+pub mod LuckyLaws
+pub mod StrategyBound
+pub mod WorkedLucky
+pub mod TurnLaws

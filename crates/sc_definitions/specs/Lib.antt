@@ -5,6 +5,7 @@ pub mod Tables
 pub mod Shifts
 pub mod Polynomials
 pub mod Interpolation
+pub mod Roots
 pub mod Rounds
 pub mod Messages
 pub mod Statements
@@ -13,6 +14,8 @@ pub mod Quadratic
 pub mod Scripted
 pub mod Transcript
 pub mod Problem
+pub mod Lucky
+pub mod Strategies
 pub mod Seeds
 pub mod Replays
 pub mod Channels
