@@ -13,3 +13,4 @@ pub mod EntryLaws
 pub mod WrittenLaws
 pub mod ColumnLaws
 pub mod NodeLaws
+pub mod RootLaws

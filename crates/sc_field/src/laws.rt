@@ -6,6 +6,7 @@ ghost use Rattle.sc_field.specs.Laws.{PowersSplit, PowerOfProduct, ItemsArePower
 ghost use Rattle.sc_field.specs.Laws.{InterpolationIsUnique};
 
 use crate::field::Field;
+pub use crate::roots::{count_roots, poly_at};
 
 /// The numbers below the size are a field, 16 to 2^32 of them, and each element has one of them.
 pub fn field_laws<F: Field>()

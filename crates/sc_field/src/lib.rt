@@ -16,6 +16,7 @@ mod poly16;
 mod powers;
 mod prime;
 mod representation;
+mod roots;
 mod tower16;
 
 pub use algebra::{Algebra, ExtensionField};

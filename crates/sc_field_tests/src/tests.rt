@@ -6,6 +6,7 @@ mod columns;
 mod figures;
 mod integers;
 mod pairs;
+mod roots;
 mod sixteen;
 mod sums;
 
