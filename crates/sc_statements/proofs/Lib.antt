@@ -9,3 +9,4 @@ pub mod Selecting
 pub mod RowLaws
 pub mod ClaimLaws
 pub mod ClaimGroups
+pub mod ExcessLaws

@@ -4,6 +4,7 @@ ghost use Rattle.std.specs.Prelude.{◌≡◌, ℕ, ◌+◌, ◌^◌, ◌<◌, �
 ghost use Rattle.sc_definitions.specs.Ring.{power, ◌+⟨◌⟩◌};
 ghost use Rattle.sc_definitions.specs.Tables.{entries, value};
 ghost use Rattle.sc_definitions.specs.Statements.{first_false_claim, batched_weight, batched_claim};
+ghost use Rattle.sc_definitions.specs.Lucky.{behind_zeros, excess};
 ghost use Rattle.sc_field.specs.Powers.{base_of, start_of};
 ghost use Rattle.sc_table.specs.Polys.{most_table_variables, variables_of, table_of};
 ghost use Rattle.sc_statements.specs.Groups.{group_arity, group_statements};
@@ -14,7 +15,7 @@ ghost use Rattle.sc_statements.specs.FalseClaims.{capped};
 use crate::statement::Statements;
 use sc_definitions::FalseClaim;
 use sc_field::{ExtensionField, Field, NoMemory, Powers};
-use sc_table::{Point, Poly};
+use sc_table::{Point, Poly, Row};
 use std::alloc::Global;
 
 /// Groups of statements on one table, in order, and the challenge whose powers batch them.
@@ -216,6 +217,26 @@ impl<F: Field, EF: ExtensionField<F>> Constraint<F, EF> {
             passed = passed.saturating_add(group.len());
         }
         None
+    }
+
+    /// The polynomial that the batching challenge is put into, the constant first: what each
+    /// statement claims, less its true value of a table, at the statement's power. So as many zeros
+    /// stand first as the initial power says, and the batched claim exceeds the true one by the
+    /// polynomial's value at the challenge. `rows` are the table's entries, row 0 first; it has as
+    /// many variables as the statements say.
+    pub fn batch_polynomial(&self, alloc: Global, rows: &[F]) -> Result<Row<EF>, NoMemory>
+        requires { length rows.now ≡ 2 ^ constraint_arity self.now }
+        ensures { IfOk result (λ v. map EF.number v ≡ behind_zeros (constraint_power self.now)
+            (map (excess EF.ops (constraint_arity self.now)
+            (λ b. EF.embedding (entries F.number rows.now b)))
+            (constraint_statements (λ x. EF.embedding (F.number x)) EF.number self.now))) }
+    {
+        let mut coefficients = Vec::new(alloc);
+        coefficients.resize(self.initial_power, EF::ZERO)?;
+        for group in &self.statements {
+            group.push_excesses(rows, &mut coefficients)?;
+        }
+        Ok(Row::new(coefficients))
     }
 
     /// Each statement claims the value that stands at its place, over all groups in order, in place

@@ -1,16 +1,17 @@
 //! Groups of statements of one kind, and what is taken from them one statement after the other.
 
-ghost use Rattle.std.specs.Prelude.{◌≡◌, ℕ, ◌+◌, ◌^◌, ◌<◌, ◌↔◌, List, length, map, slice_index, IsTrue};
+ghost use Rattle.std.specs.Prelude.{◌≡◌, ℕ, ◌+◌, ◌++◌, ◌^◌, ◌<◌, ◌↔◌, List, length, map, slice_index, IsTrue, OnOk};
 ghost use Rattle.sc_definitions.specs.Ring.{power, ◌+⟨◌⟩◌, ◌*⟨◌⟩◌};
 ghost use Rattle.sc_definitions.specs.Tables.{entries, value};
 ghost use Rattle.sc_definitions.specs.Statements.{Statement, AllTrueOf, first_false_claim, true_values, claimed_values, weights_at, batched_weight, batched_claim};
+ghost use Rattle.sc_definitions.specs.Lucky.{excess};
 ghost use Rattle.sc_table.specs.Polys.{variables_of, table_of};
 ghost use Rattle.sc_statements.specs.Batches.{gathered, AddsBatch};
 ghost use Rattle.sc_statements.specs.Weights.{weight_values};
 ghost use Rattle.sc_statements.specs.Claimed.{with_value, with_values, all_stated_truly};
 
 use sc_definitions::FalseClaim;
-use sc_field::{Algebra, Field};
+use sc_field::{Algebra, Field, NoMemory};
 use sc_table::{Point, Poly};
 
 /// Statements of one kind on tables of one number of variables, in order, each by its number from 0 on.
@@ -114,6 +115,24 @@ pub(crate) fn claim_truth<A: Field, EF: Algebra<A>, S: StatementList<EF>>(
         let actual: EF = statements.truth_at(i, rows);
         statements.claim(i, actual);
     }
+}
+
+// Adds to a list what each statement claims, less its true value of the table with these rows.
+pub(crate) fn push_excesses<A: Field, EF: Algebra<A>, S: StatementList<EF>>(
+    statements: &S,
+    rows: &[A],
+    excesses: &mut Vec<EF>,
+) -> Result<(), NoMemory>
+    requires { length rows.now ≡ 2 ^ S.arity statements.now }
+    ensures { OnOk result (map EF.number excesses.new.items
+        ≡ map EF.number excesses.old.items ++ map (excess EF.ops (S.arity statements.now)
+        (λ b. EF.embedding (entries A.number rows.now b))) (S.statements statements.now)) }
+{
+    for i in 0..statements.count() {
+        let actual: EF = statements.truth_at(i, rows);
+        excesses.push(statements.claim_at(i).sub(actual))?;
+    }
+    Ok(())
 }
 
 // Whether every statement is true of the table with these rows. It takes no memory.

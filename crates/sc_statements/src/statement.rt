@@ -1,9 +1,10 @@
 //! The kinds of statements, and groups of one kind.
 
-ghost use Rattle.std.specs.Prelude.{◌≡◌, ℕ, ◌+◌, ◌^◌, ◌↔◌, [], length, map, IsTrue, IsOk, IfOk};
+ghost use Rattle.std.specs.Prelude.{◌≡◌, ℕ, ◌+◌, ◌++◌, ◌^◌, ◌↔◌, [], length, map, IsTrue, IsOk, IfOk, OnOk};
 ghost use Rattle.sc_definitions.specs.Ring.{power, ◌+⟨◌⟩◌};
 ghost use Rattle.sc_definitions.specs.Tables.{entries, value};
 ghost use Rattle.sc_definitions.specs.Statements.{first_false_claim, batched_weight, batched_claim};
+ghost use Rattle.sc_definitions.specs.Lucky.{excess};
 ghost use Rattle.sc_table.specs.Polys.{variables_of, table_of};
 ghost use Rattle.sc_statements.specs.Batches.{gathered, AddsBatch};
 ghost use Rattle.sc_statements.specs.Claimed.{with_values, all_stated_truly};
@@ -113,6 +114,21 @@ impl<F: Field, EF: ExtensionField<F>> Statements<F, EF> {
             Statements::Eq(statement) => list::claim_truth(statement, rows),
             Statements::Next(statement) => list::claim_truth(statement, rows),
             Statements::Select(statement) => list::claim_truth(statement, rows),
+        }
+    }
+
+    // Adds to a list what each statement claims, less its true value of the table with these rows.
+    pub(crate) fn push_excesses(&self, rows: &[F], excesses: &mut Vec<EF>) -> Result<(), NoMemory>
+        requires { length rows.now ≡ 2 ^ group_arity self.now }
+        ensures { OnOk result (map EF.number excesses.new.items
+            ≡ map EF.number excesses.old.items ++ map (excess EF.ops (group_arity self.now)
+            (λ b. EF.embedding (entries F.number rows.now b)))
+            (group_statements (λ x. EF.embedding (F.number x)) EF.number self.now)) }
+    {
+        match self {
+            Statements::Eq(statement) => list::push_excesses(statement, rows, excesses),
+            Statements::Next(statement) => list::push_excesses(statement, rows, excesses),
+            Statements::Select(statement) => list::push_excesses(statement, rows, excesses),
         }
     }
 

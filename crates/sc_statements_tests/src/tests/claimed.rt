@@ -22,6 +22,9 @@ static TRUE: [u64; 7] = [2, 8, 3, 8, 49, 1, 7];
 
 static GIVEN: [u64; 7] = [11, 12, 13, 14, 15, 16, 17];
 
+// What each of the seven claims first, less its true value, behind a zero for the power 0.
+static EXCESSES: [u64; 8] = [0, 3, 65535, 0, 65534, 0, 0, 2];
+
 // Two values at points, two through the successor map, two that scalars select, and one that a
 // direct point selects.
 fn groups<R: Abort + AllocGlobal>(rt: &R) -> Vec<Statements<F65537, F65537>>
@@ -105,4 +108,13 @@ fn statements_claim_their_true_values(rt: HostRuntime) {
     assert_claims(&rt, &constraint, &TRUE);
     assert_eq!(rt; constraint.first_false(table.as_slice()), None);
     assert!(rt; constraint.eval_at(&point(&rt, &[3, 4])) == weight);
+}
+
+#[test]
+fn the_polynomial_of_a_batch_is_what_is_claimed_too_much(rt: HostRuntime) {
+    let (constraint, table) = (seven(&rt), four(&rt));
+    let polynomial = constraint
+        .batch_polynomial(rt.alloc(), table.as_slice())
+        .expect(&rt, "a polynomial");
+    assert!(rt; polynomial.as_slice() == elements(&rt, &EXCESSES).as_slice());
 }
