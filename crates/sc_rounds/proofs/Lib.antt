@@ -11,3 +11,4 @@ pub mod ShownLaws
 pub mod ConstraintPoints
 pub mod InStep
 pub mod MovedEntries
+pub mod FindLaws

@@ -8,3 +8,4 @@ pub mod ProverViews
 pub mod Represented
 pub mod ConstraintValues
 pub mod Laws
+pub mod Turns

@@ -10,6 +10,7 @@ mod held_product;
 mod laws;
 mod product_polynomial;
 mod strategy;
+mod turns;
 
 pub use eval_constraints::EvalConstraints;
 pub use laws::{batch_in_step, replay_laws};
@@ -19,3 +20,4 @@ pub use sc_transcript::{
     verify_final_sumcheck_rounds,
 };
 pub use strategy::{BaseProduct, ReprSumcheckProver, SumcheckProver};
+pub use turns::{FoundTurn, find_turn};

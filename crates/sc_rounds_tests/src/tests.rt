@@ -7,6 +7,7 @@ mod base;
 mod constraint;
 mod held;
 mod step;
+mod turns;
 
 use sc_challenger::ScriptedChallenger;
 use sc_field::{F65537, Field, NoMemory};
