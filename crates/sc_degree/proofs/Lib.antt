@@ -6,3 +6,5 @@ pub mod LineLaws
 pub mod LagrangeLaws
 pub mod TableProductLaws
 pub mod FixedTables
+pub mod CoefficientLaws
+pub mod TurnLaws

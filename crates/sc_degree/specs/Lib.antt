@@ -1,6 +1,7 @@
 pub mod Shapes
 pub mod Drivers
 pub mod Nodes
+pub mod Coefficients
 pub mod Interpolators
 pub mod Proofs
 pub mod Provers
@@ -9,3 +10,4 @@ pub mod Lines
 pub mod Arities
 pub mod Products
 pub mod Laws
+pub mod Turns

@@ -6,6 +6,7 @@
 //! product of several tables, is one. [`GenericDegreeProof::verify`] replays what was sent.
 #![tactic(auto)]
 
+mod coefficients;
 mod error;
 pub mod laws;
 mod played;
@@ -13,6 +14,7 @@ mod proof;
 mod prover;
 mod table_product;
 mod transcript;
+mod turns;
 mod util;
 
 pub use error::GenericDegreeError;
@@ -20,4 +22,5 @@ pub use proof::GenericDegreeProof;
 pub use prover::RoundProver;
 pub use table_product::TableProduct;
 pub use transcript::{GenericDegreeShape, ProverTranscript, VerifierTranscript};
+pub use turns::{FoundTurn, find_turn};
 pub use util::{RoundPolyInterpolator, nodes_distinct};

@@ -3,9 +3,10 @@ ghost use Rattle.std.specs.Prelude.{◌≡◌, ◌+◌, ◌<◌, ◌≤◌, ◌�
 ghost use Rattle.std.specs.Prelude.{vec_len, IfOk};
 ghost use Rattle.sc_definitions.specs.Ring.{◌*⟨◌⟩◌};
 ghost use Rattle.sc_definitions.specs.Polynomials.{poly_at};
-ghost use Rattle.sc_definitions.specs.Interpolation.{others, with_value_at_one, next_through};
+ghost use Rattle.sc_definitions.specs.Interpolation.{others, with_value_at_one, next_through, sent_through};
 ghost use Rattle.sc_degree.specs.Nodes.{node_of, AreWeights, extended};
 
+use crate::coefficients::{plus_multiple, times_line};
 use sc_field::{Field, NoMemory};
 use std::alloc::Global;
 
@@ -72,6 +73,33 @@ impl<EF: Field> RoundPolyInterpolator<EF> {
             product = product.mul(gap);
         }
         sum
+    }
+
+    /// The coefficients of the polynomial that a round's values send under a sum constraint, the
+    /// constant first: one more than the degree. There are as many values as the degree. It takes
+    /// time quadratic in it. `NoMemory` where there is no memory for the coefficients.
+    pub fn coefficients(
+        &self,
+        alloc: Global,
+        evals: &[EF],
+        sum_constraint: EF,
+    ) -> Result<Vec<EF>, NoMemory>
+        requires { length evals.now ≡ degree_of self.now }
+        ensures { IfOk result (λ v. map EF.number v.items
+            ≡ sent_through EF.ops (EF.number sum_constraint) (map EF.number evals.now)) }
+    {
+        // Over the nodes so far, as in `eval`, but as polynomials.
+        let mut product = Vec::with_capacity(alloc, 1)?;
+        product.push_reserved(EF::ONE);
+        let mut sum = Vec::new(alloc);
+        for node in 0..self.weights.len() {
+            let at = EF::interpolation_node(node);
+            let share = value_at_node(evals, sum_constraint, node).mul(self.weights[node]);
+            let moved = times_line(alloc, &sum, at)?;
+            sum = plus_multiple(alloc, &moved, &product, share)?;
+            product = times_line(alloc, &product, at)?;
+        }
+        Ok(sum)
     }
 
     /// A round's values with further ones up to a length: those of the polynomial that they send

@@ -4,6 +4,7 @@ mod played;
 mod shapes;
 mod table_product;
 mod texts;
+mod turns;
 
 use sc_challenger::{Challenger, Event, ScriptedChallenger};
 use sc_degree::{GenericDegreeError, GenericDegreeProof, GenericDegreeShape, VerifierTranscript};

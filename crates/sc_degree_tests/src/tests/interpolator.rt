@@ -119,6 +119,54 @@ fn an_extension_by_hand(rt: HostRuntime) {
     assert!(rt; have_numbers(&extended, &[3, 15, 24]));
 }
 
+// What 3 and 15 send under 11 is 3 + 4 X + X^2.
+fn coefficients_of_two(alloc: Global) -> Result<Vec<F65537>, NoMemory> {
+    let interpolator = RoundPolyInterpolator::new(alloc, 2)?;
+    let evals = elements(alloc, &[3, 15])?;
+    interpolator.coefficients(alloc, &evals, of(11))
+}
+
+#[test]
+fn coefficients_by_hand(rt: HostRuntime) {
+    let found = coefficients_of_two(rt.alloc()).expect(&rt, "an answer");
+    assert!(rt; have_numbers(&found, &[3, 4, 1]));
+}
+
+// Whether what a polynomial of a degree sends has its coefficients.
+fn found_again<F: Field>(alloc: Global, degree: usize) -> Result<bool, NoMemory>
+    requires some { 1 ≤ degree }
+    requires few { degree ≤ 1000 }
+    requires nodes { degree < F.ops.size }
+{
+    let chosen = coefficients::<F>(alloc, degree)?;
+    let evals = sent(alloc, &chosen, degree)?;
+    let interpolator = RoundPolyInterpolator::new(alloc, degree)?;
+    let found = interpolator.coefficients(alloc, &evals, plain_sum(&chosen))?;
+    Ok(found.as_slice() == chosen.as_slice())
+}
+
+#[test]
+fn coefficients_of_each_degree(rt: HostRuntime) {
+    for degree in 1..9 {
+        assert_eq!(rt;
+            found_again::<F65537>(rt.alloc(), degree),
+            Ok(true),
+            "{degree}"
+        );
+        assert_eq!(rt;
+            found_again::<F257x2>(rt.alloc(), degree),
+            Ok(true),
+            "{degree}"
+        );
+        assert_eq!(rt;
+            found_again::<Tower16>(rt.alloc(), degree),
+            Ok(true),
+            "{degree}"
+        );
+    }
+    assert_eq!(rt; found_again::<Tower16>(rt.alloc(), 15), Ok(true));
+}
+
 #[test]
 fn extensions_of_each_degree(rt: HostRuntime) {
     for degree in 1..9 {

@@ -1,0 +1,110 @@
+//! The round of a proof that turned a false claim about a product of tables into the true one.
+ghost use Rattle.std.specs.Prelude.{◌≡◌, ◌<◌, ◌≤◌, [], All, IfOk, OnOk, length, map, option_map};
+ghost use Rattle.sc_definitions.specs.Interpolation.{sent_through};
+ghost use Rattle.sc_definitions.specs.Lucky.{first_turn, product_course};
+ghost use Rattle.sc_definitions.specs.Polynomials.{poly_minus};
+ghost use Rattle.sc_definitions.specs.Products.{product_claim, values_product};
+ghost use Rattle.sc_degree.specs.Interpolators.{degree_of};
+ghost use Rattle.sc_degree.specs.Products.{arity_of, prover_of, tables_of};
+ghost use Rattle.sc_degree.specs.Provers.{IsFolded};
+ghost use Rattle.sc_degree.specs.Turns.{turn_in};
+
+use crate::coefficients::difference;
+use crate::prover::RoundProver;
+use crate::table_product::TableProduct;
+use crate::util::RoundPolyInterpolator;
+use sc_field::{Field, NoMemory};
+use sc_table::Row;
+use std::alloc::Global;
+
+/// A round, by its number, and the coefficients of what it sent less the true polynomial, the
+/// constant first.
+#[derive(Drop)]
+pub struct FoundTurn<EF> {
+    pub round: usize,
+    pub polynomial: Row<EF>,
+}
+
+/// Of rounds that were played on a product of tables, as many as these have variables, under a
+/// claim: the first one behind which the claim is the true one, if there is one. The tables are
+/// bound at all challenges in their places.
+///
+/// Each round sends as many values as there are tables, and the nodes up to that number are
+/// elements. After `NoMemory` nothing is said of the tables, of which some variables may be bound.
+pub fn find_turn<EF: Field>(
+    alloc: Global,
+    product: &mut TableProduct<EF>,
+    claim: EF,
+    messages: &[Vec<EF>],
+    challenges: &[EF],
+) -> Result<Option<FoundTurn<EF>>, NoMemory>
+    requires messages { length messages.now ≡ arity_of product.old }
+    requires challenges { length challenges.now ≡ arity_of product.old }
+    requires widths { All (λ m. length m.items ≡ length (tables_of EF.number product.old))
+        messages.now }
+    requires few { length (tables_of EF.number product.old) < EF.ops.size }
+    ensures found { IfOk result (λ found. option_map (turn_in EF.number) found
+        ≡ first_turn (product_course EF.ops (tables_of EF.number product.old)) 0
+        (EF.number claim) (map (λ m. map EF.number m.items) messages.now) []
+        (map EF.number challenges.now)) }
+    ensures arity { OnOk result (arity_of product.new ≡ 0) }
+    ensures bound { OnOk result (product_claim EF.ops (tables_of EF.number product.new) [] 0
+        ≡ values_product EF.ops (tables_of EF.number product.old)
+        (map EF.number challenges.now)) }
+{
+    let nodes = RoundPolyInterpolator::new(alloc, product.degree())?;
+    let mut claim = claim;
+    let mut truth = product.sum();
+    for i in 0..challenges.len() {
+        let values = messages[i].as_slice();
+        let r = challenges[i];
+        let honest = product.round_poly(alloc)?;
+        let next = nodes.eval(values, claim, r);
+        let next_truth = nodes.eval(honest.as_slice(), truth, r);
+        if next.index() == next_truth.index() {
+            let polynomial = excess(alloc, &nodes, values, claim, honest.as_slice(), truth)?;
+            fold_all(product, &challenges[i..]);
+            return Ok(Some(FoundTurn {
+                round: i,
+                polynomial,
+            }));
+        }
+        product.fold(r);
+        claim = next;
+        truth = next_truth;
+    }
+    Ok(None)
+}
+
+// Binds the first variables of the tables at these challenges, of which there are at most as many.
+fn fold_all<EF: Field>(product: &mut TableProduct<EF>, challenges: &[EF])
+    requires { length challenges.now ≤ arity_of product.old }
+    ensures { IsFolded (map EF.number challenges.now)
+        (prover_of EF.ops (tables_of EF.number product.old) (arity_of product.old))
+        (prover_of EF.ops (tables_of EF.number product.new) (arity_of product.new)) }
+{
+    for r in challenges {
+        product.fold(*r);
+    }
+}
+
+// What the values of one round send under a claim less what those of another one do, in
+// coefficients.
+fn excess<EF: Field>(
+    alloc: Global,
+    nodes: &RoundPolyInterpolator<EF>,
+    values: &[EF],
+    claim: EF,
+    honest: &[EF],
+    truth: EF,
+) -> Result<Row<EF>, NoMemory>
+    requires values { length values.now ≡ degree_of nodes.now }
+    requires honest { length honest.now ≡ degree_of nodes.now }
+    ensures { IfOk result (λ v. map EF.number v ≡ poly_minus EF.ops
+        (sent_through EF.ops (EF.number claim) (map EF.number values.now))
+        (sent_through EF.ops (EF.number truth) (map EF.number honest.now))) }
+{
+    let sent = nodes.coefficients(alloc, values, claim)?;
+    let due = nodes.coefficients(alloc, honest, truth)?;
+    Ok(Row::new(difference(alloc, sent.as_slice(), due.as_slice())?))
+}
