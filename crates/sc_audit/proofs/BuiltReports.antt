@@ -10,6 +10,7 @@ use Rattle.sc_definitions.specs.Replays.{given_rounds}
 use Rattle.sc_definitions.specs.Channels.{Wire, empty_wire, witnesses_of, Footing, NoWitnessFound, IsReplayed, IsReplayedInPart, FailsAt}
 use Rattle.sc_definitions.specs.Standings.{Setting, Standing, entries_of, message_in, honest_in, IsPlayed, IsPlayedWithoutWitness}
 use Rattle.sc_definitions.specs.Problem.{weights_of, claim_of, honest_of, residual_of, eval_of, weight_value_of}
+use Rattle.sc_definitions.specs.Lucky.{luck_of}
 use Rattle.sc_definitions.proofs.RingLaws.{element-small}
 use Rattle.sc_definitions.proofs.PlayedLaws.{value-played}
 use Rattle.sc_definitions.proofs.BuildLaws.{first_false_claim-all, built-residual}
@@ -248,8 +249,9 @@ module _ (q : Asked) (ring : IsRing q.ops) (even : q.case.problem.basis ≡ eval
         subst (λ rounds. IsReplayed (next_claim p.basis o) q.channel (start_of q) end rounds out) rounds_given replays in
         let matched : is_matched o p (messages_of b.rounds) rs ≡ true =
         eq-eqb _ _ (built-residual o ring p q.channel.rules q.channel.extension q.channel.bits (start_of q).history b.rounds offered (first_false_claim-all o p.variables p.table 0 p.statements true_all) b.count b.built) in
-        let finding : holds ≡ finding_by (is_matched o p (messages_of b.rounds) rs) (false_claim_of o p) =
-        sym (ap (λ t. finding_by t (false_claim_of o p)) matched ∙ ap (finding_by true) true_all) in
+        let luck = luck_of o p (messages_of b.rounds) rs in
+        let finding : holds ≡ finding_by (is_matched o p (messages_of b.rounds) rs) (false_claim_of o p) luck =
+        sym (ap (λ t. finding_by t (false_claim_of o p) luck) matched ∙ ap (λ c. finding_by true c luck) true_all) in
         record {
           played = record {
             rounds = b.rounds;
@@ -261,7 +263,6 @@ module _ (q : Asked) (ring : IsRing q.ops) (even : q.case.problem.basis ≡ eval
                 (ap (λ (w : Wire). w.messages) b.wire) (ap (λ (w : Wire). w.witnesses) b.wire) b.drawn b.claim moved.claim
                 (b.eval ∙ ap (eval_of o p) b.drawn) (b.weight ∙ ap (weight_value_of o p) b.drawn) finding;
           };
-          no_luck = λ e. cc;
           grids = grids;
         }
 

@@ -13,9 +13,8 @@ use Rattle.sc_definitions.specs.Replays.{round_passes, AllPass, given_rounds}
 use Rattle.sc_svo.specs.Grids.{most_rounds}
 use Rattle.sc_audit.specs.declared.report.Report.{Report}
 use Rattle.sc_audit.specs.declared.error.AuditError.{AuditError}
-use Rattle.sc_audit.specs.declared.error.AuditError.TheVariants.{Unbuilt, StrategyUnfit, NoWitness, InvalidPowWitness, NoMemory}
+use Rattle.sc_audit.specs.declared.error.AuditError.TheVariants.{StrategyUnfit, NoWitness, InvalidPowWitness, NoMemory}
 use Rattle.sc_audit.specs.declared.error.FitFault.TheVariants.{Variables}
-use Rattle.sc_audit.specs.declared.error.Form.TheVariants.{Verdict}
 use Rattle.sc_audit.specs.Cases.{Task, build, check, Asked, start_of}
 use Rattle.sc_audit.specs.Refusals.{
   arity_of,
@@ -150,7 +149,6 @@ not_failing q i h (check (Some given)) all fails =
 
 -- what a valid case may meet
 may_meet : (q : Asked) (h : List Event) (e : AuditError) → IsValid q → IsCaused (refusal_of q) q h e → MayMeet e
-may_meet q h (Unbuilt Verdict) valid found = tt
 may_meet q h (InvalidPowWitness i bits) valid found = absurd (not_failing q i h q.case.task valid.passes found.1)
 may_meet q h (NoWitness i) valid found = tt
 may_meet q h NoMemory valid found = tt

@@ -15,8 +15,7 @@ use Rattle.sc_transcript.specs.declared.error.SumcheckError.{SumcheckError}
 use Rattle.sc_transcript.specs.declared.error.SumcheckError.TheVariants as replay
 use Rattle.sc_audit.specs.declared.report.Report.{Report}
 use Rattle.sc_audit.specs.declared.error.AuditError.{AuditError}
-use Rattle.sc_audit.specs.declared.error.AuditError.TheVariants.{Unbuilt, RoundCountMismatch, PowWitnessCountMismatch, NoMemory}
-use Rattle.sc_audit.specs.declared.error.Form.TheVariants.{Verdict}
+use Rattle.sc_audit.specs.declared.error.AuditError.TheVariants.{RoundCountMismatch, PowWitnessCountMismatch, NoMemory}
 use Rattle.sc_audit.specs.Cases.{Given, check, Asked, with_task, start_of}
 use Rattle.sc_audit.specs.Refusals.{count_refusal}
 use Rattle.sc_audit.specs.Figures.{figures_of}
@@ -99,7 +98,6 @@ module _ (q : Asked) (given : Given) where
         LeavesReport base number (figures_of q.ops q.case.problem given.messages given.witnesses out) r → Answers base number first checked r end.history
     report_checked base number first (Ok r) p = record {
       played = subst (λ figures. IsPlayed checked figures end.history) (sym p.figures_are) played_checked;
-      no_luck = p.no_luck;
       grids = p.grids;
     }
     report_checked base number first (Err NoMemory) p =
@@ -112,8 +110,6 @@ module _ (q : Asked) (given : Given) where
           passes = rw whole replays.passes;
           history = rw whole replays.history;
         })
-    report_checked base number first (Err (Unbuilt Verdict)) p =
-        record { figures = figures_of q.ops q.case.problem given.messages given.witnesses out; played = played_checked; lucky = p }
     report_checked base number first (Err e) p = absurd p
 
   -- ---- a proof that was refused

@@ -1,18 +1,14 @@
 -- The figures of a report, one by one.
-use Rattle.std.proofs.Common.{◌≡◌, ℕ, ◌==◌, List, ◌++◌, Bool, refl, sym, ap, subst, ◌∙◌, Result, Ok, Err, IsErrAnd}
+use Rattle.std.proofs.Common.{◌≡◌, ℕ, ◌==◌, List, ◌++◌, Bool, refl, ap, ◌∙◌}
 use Rattle.sc_definitions.specs.Events.{words}
 use Rattle.sc_definitions.specs.Seeds.{quadratic_seed}
 use Rattle.sc_definitions.specs.Channels.{footing}
-use Rattle.sc_audit.specs.declared.report.Report.{Report}
-use Rattle.sc_audit.specs.declared.error.AuditError.{AuditError}
-use Rattle.sc_audit.specs.declared.error.AuditError.TheVariants.{Unbuilt}
-use Rattle.sc_audit.specs.declared.error.Form.TheVariants.{Verdict}
 use Rattle.sc_audit.specs.Cases.{Asked, start_of}
-use Rattle.sc_audit.specs.Checked.{LeavesReport, LeavesVerdict}
 use Rattle.sc_definitions.specs.Ring.{Ops, times}
 use Rattle.sc_definitions.specs.Tables.{evaluation, Order, entries, value, point_of}
 use Rattle.sc_definitions.specs.Statements.{Statement, batched_weight, batched_claim}
 use Rattle.sc_definitions.specs.Problem.{Problem, weights_of, claim_of, residual_of, eval_of, weight_value_of}
+use Rattle.sc_definitions.specs.Lucky.{luck_of}
 use Rattle.sc_definitions.proofs.TableLaws.{value-same}
 use Rattle.sc_table.proofs.EntryLaws.{entry-embedded}
 use Rattle.sc_audit.specs.Figures.{Figures, Finding, finding_by, false_claim_of, is_matched, figures_of}
@@ -29,16 +25,11 @@ module _ (o : Ops) (p : Problem) where
   -- the figures are determined
   pub figures-are : (messages ms : List (List ℕ)) (witnesses ws : List ℕ) (challenges rs : List ℕ) (claim residual eval weight : ℕ) (finding : Finding) →
       messages ≡ ms → witnesses ≡ ws → challenges ≡ rs → claim ≡ claim_of o p → residual ≡ residual_of o p ms rs → eval ≡ eval_of o p rs → weight ≡ weight_value_of o p rs →
-      finding ≡ finding_by (is_matched o p ms rs) (false_claim_of o p) →
+      finding ≡ finding_by (is_matched o p ms rs) (false_claim_of o p) (luck_of o p ms rs) →
       ◌≡◌ {A = Figures} (record { claim = claim; messages = messages; witnesses = witnesses; challenges = challenges; residual = residual; eval = eval; weight = weight; finding = finding })
       (figures_of o p ms ws rs)
   unfolding figures_of
   figures-are messages ms witnesses ws challenges rs claim residual eval weight finding em ew er ec es ee et ef = rw (em, ew, er, ec, es, ee, et, ef) refl
-
-  -- the finding is that of the figures
-  pub finding-is : (ms : List (List ℕ)) (ws rs : List ℕ) → (figures_of o p ms ws rs).finding ≡ finding_by (is_matched o p ms rs) (false_claim_of o p)
-  unfolding figures_of
-  finding-is ms ws rs = refl
 
   pub matched-by : (b : Bool) (x y z : ℕ) (ms : List (List ℕ)) (rs : List ℕ) → x ≡ residual_of o p ms rs → y ≡ eval_of o p rs → z ≡ weight_value_of o p rs →
       b ≡ (x == times o y z) → b ≡ is_matched o p ms rs
@@ -68,12 +59,3 @@ module _ (o : Ops) (order : Order) (n : ℕ) (f : ℕ → ℕ) (ss : List Statem
 pub start_is : (q : Asked) (degree k claim : ℕ) → degree ≡ q.channel.extension.degree → k ≡ q.case.problem.variables → claim ≡ claim_of q.ops q.case.problem →
     footing (q.history ++ words (quadratic_seed degree q.case.problem.basis q.channel.bits k)) claim ≡ start_of q
 start_is q degree k claim ed ek ec = rw (ed, ek, ec) refl
-
--- a verdict that there is none of, passed on
-pub report_passed : {F EF : Type 0} (V : Type 0) (base : F → ℕ) (number : EF → ℕ) (figures : Figures) (found : Finding) (r : Result (Report F EF) AuditError) (e : AuditError) →
-    IsErrAnd r (λ x. x ≡ e) → figures.finding ≡ found → LeavesVerdict {EF = V} found (Err e) → LeavesReport base number figures r
-report_passed V base number figures found (Ok r) e is same p = elim is [ ]
-report_passed V base number figures found (Err x) e is same p = lucky_passed x (subst (λ t. LeavesVerdict {EF = V} found (Err t)) (sym is) p) where
-  lucky_passed : (x : AuditError) → LeavesVerdict {EF = V} found (Err x) → LeavesReport base number figures (Err x)
-  lucky_passed (Unbuilt Verdict) lucky_one = same ∙ lucky_one
-  lucky_passed x none = absurd none

@@ -13,3 +13,6 @@ pub mod CheckedReports
 pub mod CauseLaws
 pub mod AgreeingBuilds
 pub mod StatedLaws
+pub mod Certified
+pub mod LuckFound
+pub mod Passing

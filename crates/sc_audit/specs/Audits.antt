@@ -12,11 +12,10 @@ use Rattle.sc_transcript.specs.declared.error.SumcheckError.{SumcheckError}
 use Rattle.sc_transcript.specs.declared.error.SumcheckError.TheVariants as replay
 use Rattle.sc_audit.specs.declared.report.Report.{Report}
 use Rattle.sc_audit.specs.declared.error.AuditError.{AuditError}
-use Rattle.sc_audit.specs.declared.error.AuditError.TheVariants.{Unbuilt, RoundCountMismatch, PowWitnessCountMismatch, InvalidPowWitness, NoWitness, NoMemory}
-use Rattle.sc_audit.specs.declared.error.Form.TheVariants.{Verdict}
+use Rattle.sc_audit.specs.declared.error.AuditError.TheVariants.{RoundCountMismatch, PowWitnessCountMismatch, InvalidPowWitness, NoWitness, NoMemory}
 use Rattle.sc_audit.specs.Cases.{Given, Task, build, check, Asked, start_of}
 use Rattle.sc_audit.specs.Refusals.{refusal_of, task_refusal}
-use Rattle.sc_audit.specs.Figures.{Figures, Reported, holds, lucky, figures_of, report_in}
+use Rattle.sc_audit.specs.Figures.{Figures, Reported, holds, figures_of, report_in}
 
 -- The rounds that are played: those that are built, of which each sends what an honest prover sends, with the first witness that passes; or those of the
 -- proof. No proof has no rounds.
@@ -51,17 +50,10 @@ grids_by q task = []
 abbrev pub grids_for : Asked → List (List ℕ × List ℕ)
 grids_for q = grids_by q q.case.task
 
--- a report: the figures of its rounds, which are not lucky, and the grids of what is done
+-- a report: the figures of its rounds, and the grids of what is done
 pub record IsAudited (q : Asked) (report : Reported) (h' : List Event) : Type 0 where
   pub played : IsPlayed q report.figures h'
-  pub no_luck : report.figures.finding ≡ lucky → ⊥
   pub grids : report.grids ≡ grids_for q
-
--- rounds that leave the right residual although a statement is false
-pub record IsLucky (q : Asked) (h' : List Event) : Type 0 where
-  pub figures : Figures
-  pub played : IsPlayed q figures h'
-  pub lucky : figures.finding ≡ lucky
 
 -- round i is the first of a proof whose witness fails, and the history ends with its test
 pub record ProofFails (q : Asked) (given : Given) (i : ℕ) (h' : List Event) : Type 0 where
@@ -103,7 +95,6 @@ FindsNoWitness q (check proof) i = ⊥
 
 -- The answer e has its cause, and leaves h'. `first` is the refusal before a round is played, if there is one; it leaves the history as it was.
 abbrev pub IsCaused : Option AuditError → Asked → List Event → AuditError → Type 0
-IsCaused first q h' (Unbuilt Verdict) = IsLucky q h'
 IsCaused first q h' (InvalidPowWitness i bits) = (bits ≡ q.channel.bits) × WitnessFails q q.case.task i h'
 IsCaused first q h' (NoWitness i) = FindsNoWitness q q.case.task i × (h' ≡ q.history)
 IsCaused first q h' NoMemory = (h' ≡ q.history) ⊎ IsBrokenOff q h'
@@ -140,9 +131,8 @@ pub record IsValid (q : Asked) : Type 0 where
   pub fits : refusal_of q ≡ None
   pub passes : PassesAll q q.case.task
 
--- what can keep a valid case from its report: want of memory; a round of a build without a witness; a verdict that is not built yet
+-- what can keep a valid case from its report: want of memory; a round of a build without a witness
 abbrev pub MayMeet : AuditError → Type 0
-MayMeet (Unbuilt Verdict) = Unit {0}
 MayMeet (NoWitness i) = Unit {0}
 MayMeet NoMemory = Unit {0}
 MayMeet e = ⊥

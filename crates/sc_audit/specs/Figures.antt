@@ -4,6 +4,7 @@ use Rattle.sc_definitions.specs.declared.false_claim.FalseClaim.{FalseClaim}
 use Rattle.sc_definitions.specs.Ring.{Ops, ◌*⟨◌⟩◌}
 use Rattle.sc_definitions.specs.Statements.{first_false_claim}
 use Rattle.sc_definitions.specs.Problem.{Problem, claim_of, residual_of, eval_of, weight_value_of}
+use Rattle.sc_definitions.specs.Lucky.{Luck, in_batch, in_round, luck_of}
 use Rattle.sc_transcript.specs.Data.{messages_in, witnesses_in}
 use Rattle.sc_svo.specs.Grids.{grids_shown}
 use Rattle.sc_audit.specs.declared.report.Report.{Report}
@@ -14,7 +15,7 @@ use Rattle.sc_audit.specs.declared.report.Verdict.TheVariants.{Holds, Refuted, L
 pub data Finding : Type 0 where
   holds : Finding
   refuted : Finding
-  lucky : Finding
+  lucky : Luck → Finding
 
 -- the figures of a report
 pub record Figures : Type 0 where
@@ -27,11 +28,16 @@ pub record Figures : Type 0 where
   pub weight : ℕ
   pub finding : Finding
 
--- whether the residual is right, and which statement is false, if one is
-abbrev pub finding_by : Bool → Option FalseClaim → Finding
-finding_by false fault = refuted
-finding_by true None = holds
-finding_by true (Some c) = lucky
+-- The finding where the residual is right although a statement is false: the first lucky challenge. There always is one, so the other case is not met.
+abbrev pub named : Option Luck → Finding
+named (Some l) = lucky l
+named None = refuted
+
+-- what is found where the residual is right or not, and this is the first false statement, if one is, and the first lucky challenge, if one is
+abbrev pub finding_by : Bool → Option FalseClaim → Option Luck → Finding
+finding_by false fault luck = refuted
+finding_by true None luck = holds
+finding_by true (Some c) luck = named luck
 
 -- the first false statement of a problem, if one is
 abbrev pub false_claim_of : Ops → Problem → Option FalseClaim
@@ -51,15 +57,15 @@ figures_of o p messages witnesses rs = record {
   residual = residual_of o p messages rs;
   eval = eval_of o p rs;
   weight = weight_value_of o p rs;
-  finding = finding_by (is_matched o p messages rs) (false_claim_of o p);
+  finding = finding_by (is_matched o p messages rs) (false_claim_of o p) (luck_of o p messages rs);
 }
 
 -- what a verdict says
-abbrev pub finding_in : {EF : Type 0} → Verdict EF → Finding
-finding_in Holds = holds
-finding_in Refuted = refuted
-finding_in (LuckyBatch poly vanishing) = lucky
-finding_in (LuckyRound round poly vanishing) = lucky
+abbrev pub finding_in : {EF : Type 0} → (EF → ℕ) → Verdict EF → Finding
+finding_in number Holds = holds
+finding_in number Refuted = refuted
+finding_in number (LuckyBatch poly vanishing) = lucky (in_batch (map number poly) vanishing)
+finding_in number (LuckyRound round poly vanishing) = lucky (in_round round (map number poly) vanishing)
 
 -- a report as it is shown: its figures, and the grids of its small-value rounds, each by the values at 0 and those at infinity
 pub record Reported : Type 0 where
@@ -77,7 +83,7 @@ report_in base number r = record {
     residual = number r.residual;
     eval = number r.eval;
     weight = number r.weight;
-    finding = finding_in r.verdict;
+    finding = finding_in number r.verdict;
   };
   grids = grids_shown number r.grids;
 }

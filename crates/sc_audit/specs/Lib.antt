@@ -8,4 +8,5 @@ pub mod Built
 pub mod SmallRounds
 pub mod Stated
 pub mod Checked
+pub mod Certified
 pub mod Laws

@@ -4,6 +4,7 @@ ghost use Rattle.sc_audit.specs.Cases.{asked_of, problem_in, task_in};
 ghost use Rattle.sc_audit.specs.Refusals.{refusal_of, shape_refusal};
 ghost use Rattle.sc_audit.specs.Figures.{report_in};
 ghost use Rattle.sc_audit.specs.Audits.{Answers, IsRefusedBy, HoldsIfBuilt, IsValid, MayMeet};
+ghost use Rattle.sc_audit.specs.Certified.{CertifiesLuck};
 ghost use Rattle.sc_audit.specs.Stated.{IsRestated, IsWayOf, LeavesStated};
 
 use crate::building::{build, play};
@@ -38,6 +39,11 @@ pub fn audit<F: Field, EF: ExtensionField<F>, R: IntoTranscriptField<EF>, C: Cha
 
     // The verdict on a build is that the statements hold.
     ensures holds { IfOk result (λ r. HoldsIfBuilt (task_in F.number EF.number job.now.mode) (report_in F.number EF.number r).figures) }
+
+    // Where the residual is right although a statement is false, a challenge is named lucky, and
+    // certified: by a polynomial that is not zero and vanishes there, and the number of its roots.
+    ensures certified { IfOk result (λ r. CertifiesLuck EF.ops (problem_in job.now)
+        (report_in F.number EF.number r).figures) }
 
     // A cause is refused.
     ensures refused { IsRefusedBy (refusal_of (asked_of job.now (C.rules challenger.old) (C.history challenger.old))) result }
@@ -78,6 +84,8 @@ pub fn audit_true<F: Field, EF: ExtensionField<F>, R: IntoTranscriptField<EF>, C
         result (C.history challenger.new) }
     ensures holds { IfOk result (λ r. HoldsIfBuilt (task_in F.number EF.number job.new.mode)
         (report_in F.number EF.number r).figures) }
+    ensures certified { IfOk result (λ r. CertifiesLuck EF.ops (problem_in job.new)
+        (report_in F.number EF.number r).figures) }
     ensures refused { IsRefusedBy
         (refusal_of (asked_of job.new (C.rules challenger.old) (C.history challenger.old))) result }
     ensures answered { IsValid
@@ -103,6 +111,8 @@ fn audit_by<F: Field, EF: ExtensionField<F>, R: IntoTranscriptField<EF>, C: Chal
         (asked_of job.now (C.rules challenger.old) (C.history challenger.old))
         result (C.history challenger.new) }
     ensures holds { IfOk result (λ r. HoldsIfBuilt (task_in F.number EF.number job.now.mode)
+        (report_in F.number EF.number r).figures) }
+    ensures certified { IfOk result (λ r. CertifiesLuck EF.ops (problem_in job.now)
         (report_in F.number EF.number r).figures) }
     ensures refused { IsRefusedBy
         (refusal_of (asked_of job.now (C.rules challenger.old) (C.history challenger.old))) result }

@@ -8,14 +8,15 @@ ghost use Rattle.sc_transcript.specs.Data.{messages_in, witnesses_in};
 ghost use Rattle.sc_audit.specs.Cases.{asked_to, given_in, check};
 ghost use Rattle.sc_audit.specs.Fitting.{job_in, stated_in};
 ghost use Rattle.sc_audit.specs.Refusals.{task_refusal};
-ghost use Rattle.sc_audit.specs.Figures.{report_in, figures_of, finding_by, finding_in, false_claim_of, lucky};
+ghost use Rattle.sc_audit.specs.Figures.{report_in, figures_of};
 ghost use Rattle.sc_audit.specs.Audits.{AnswersTask, IsRefusedBy};
-ghost use Rattle.sc_audit.specs.Checked.{LeavesReport, LeavesVerdict};
+ghost use Rattle.sc_audit.specs.Checked.{LeavesReport};
 
 use crate::common::refusal;
-use crate::error::{AuditError, Form};
-use crate::report::{Report, Verdict};
+use crate::error::AuditError;
+use crate::report::Report;
 use crate::shape::FittingJob;
+use crate::verdict::verdict_on;
 use sc_challenger::Challenger;
 use sc_field::{ExtensionField, Field, NoMemory};
 use sc_rounds::SumcheckData;
@@ -103,6 +104,7 @@ fn report_on<F: Field, EF: ExtensionField<F>>(
     residual: EF,
     challenges: Point<EF>,
 ) -> Result<Report<F, EF>, AuditError>
+    requires messages { length (messages_in EF.number proof.now) ≡ (stated_in fitting.now).variables }
     requires count { length challenges ≡ (stated_in fitting.now).variables }
     requires claim { EF.number claim ≡ claim_of EF.ops (stated_in fitting.now) }
     requires residual { EF.number residual ≡ residual_of EF.ops (stated_in fitting.now) (messages_in EF.number proof.now) (map EF.number challenges) }
@@ -114,7 +116,7 @@ fn report_on<F: Field, EF: ExtensionField<F>>(
     let eval = eval_slice(&job.table, point.as_slice());
     let weight = job.constraint.eval_at(&point);
     let matched = residual.index() == eval.mul(weight).index();
-    let verdict = verdict_on(fitting, matched)?;
+    let verdict = verdict_on(alloc, fitting, proof, &challenges, matched)?;
     let rounds = proof.copy(alloc)?;
     Ok(Report {
         claim,
@@ -126,22 +128,6 @@ fn report_on<F: Field, EF: ExtensionField<F>>(
         grids: Grids::empty(alloc),
         verdict,
     })
-}
-
-// The verdict on rounds, as their residual is right or not.
-fn verdict_on<F: Field, EF: ExtensionField<F>>(
-    fitting: &FittingJob<'_, F, EF>,
-    matched: bool,
-) -> Result<Verdict<EF>, AuditError>
-    ensures { LeavesVerdict (finding_by matched (false_claim_of EF.ops (stated_in fitting.now))) result }
-{
-    if !matched {
-        return Ok(Verdict::Refuted);
-    }
-    match fitting.job.constraint.first_false(&fitting.job.table) {
-        None => Ok(Verdict::Holds),
-        Some(_) => Err(AuditError::Unbuilt(Form::Verdict)),
-    }
 }
 
 // The point that challenges in drawing order make.

@@ -2,8 +2,8 @@
 use sc_field::NoMemory;
 use thiserror::Error;
 
-/// Why there is no report. The refusals are tested in this order, but that [`AuditError::NoMemory`] may come before any other, and that
-/// [`AuditError::Unbuilt`] comes last. Rounds and statements are counted from 0; a statement's number stands still at 2^64 - 1.
+/// Why there is no report. The refusals are tested in this order, but that [`AuditError::NoMemory`] may come before any other.
+/// Rounds and statements are counted from 0; a statement's number stands still at 2^64 - 1.
 #[derive(Clone, Copy, Debug, PartialEq, Eq, Error)]
 pub enum AuditError {
     /// Table, difficulty and statements do not fit together.
@@ -50,9 +50,6 @@ pub enum AuditError {
     /// A call wanted more memory than there was.
     #[error("out of memory")]
     NoMemory,
-    /// The job asks for something that is not built yet: a verdict, which is refused behind everything else.
-    #[error("the job asks for what is not built yet: {0}")]
-    Unbuilt(Form),
 }
 
 /// Why a job's shape is refused.
@@ -81,14 +78,6 @@ pub enum FitFault {
     /// This statement is a successor with a selector.
     #[error("statement {statement} has a selector")]
     Selector { statement: usize },
-}
-
-/// What is not built yet.
-#[derive(Clone, Copy, Debug, PartialEq, Eq, Error)]
-pub enum Form {
-    /// The verdict on rounds whose residual is right although a statement is false.
-    #[error("the verdict")]
-    Verdict,
 }
 
 impl From<NoMemory> for AuditError {

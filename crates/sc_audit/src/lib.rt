@@ -17,10 +17,11 @@ mod shape;
 mod small_value;
 mod stating;
 mod strategies;
+mod verdict;
 mod ways;
 
 pub use audits::{audit, audit_true};
-pub use error::{AuditError, FitFault, Form, ShapeFault};
+pub use error::{AuditError, FitFault, ShapeFault};
 pub use job::{Job, Mode};
 pub use report::{Report, Verdict};
 pub use sc_svo::{Grid, Grids};

@@ -11,17 +11,15 @@ pub enum Verdict<EF> {
     /// The residual is not the product of the two values: the rounds are refused.
     Refuted,
     /// The residual is right, and a statement is false, but the batched claim is true. The polynomial is claimed less true value of each statement,
-    /// behind as many zeros as the initial power says; it vanishes at the batching challenge, and at as many elements as `vanishing` counts.
-    ///
-    /// It is not answered yet: [`crate::AuditError::Unbuilt`] stands in its place.
+    /// behind as many zeros as the initial power says, the constant first. It is not zero, but vanishes at the batching challenge; `vanishing` is the
+    /// number of all elements at which it vanishes, which is less than that of its coefficients.
     LuckyBatch {
         poly: Row<EF>,
         vanishing: u64,
     },
-    /// The residual is right, and the batched claim is false, but this round made it true. The polynomial is what the round sent less what an honest
-    /// one sends, the constant first; it vanishes at the round's challenge, and at as many elements as `vanishing` counts.
-    ///
-    /// It is not answered yet: [`crate::AuditError::Unbuilt`] stands in its place.
+    /// The residual is right, and the batched claim is false, but this round, the first such one, made it true. The polynomial is what the round sent
+    /// less the true one, in three coefficients, the constant first. It is not zero, but vanishes at the round's challenge; `vanishing` is the number of
+    /// all elements at which it vanishes, at most 2.
     LuckyRound {
         round: usize,
         poly: Row<EF>,

@@ -188,7 +188,7 @@ fn prover_of<F: Field, EF: ExtensionField<F>>(
 }
 
 // The table of the images in the extension.
-fn embedded<F: Field, EF: ExtensionField<F>>(
+pub(crate) fn embedded<F: Field, EF: ExtensionField<F>>(
     alloc: Global,
     table: &[F],
 ) -> Result<Vec<EF>, NoMemory>

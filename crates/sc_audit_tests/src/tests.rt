@@ -5,10 +5,12 @@ ghost use Rattle.sc_statements.specs.Groups.{group_arity};
 ghost use Rattle.sc_statements.specs.NextStatements.{next_arity};
 ghost use Rattle.sc_statements.specs.SelectStatements.{select_arity};
 
+mod lucky;
 mod refusals;
 mod reports;
 mod seventeen;
 mod stated;
+mod strategies;
 mod successors;
 mod texts;
 
@@ -48,6 +50,16 @@ enum Task {
     Check(&'static [Pair], &'static [u64]),
 }
 
+// What rounds say of the statements. Of a lucky challenge the coefficients of the polynomial that
+// shows it, and how many roots that has; of a round's its number before them.
+#[derive(Clone, Copy)]
+enum Finding {
+    Holds,
+    Refuted,
+    LuckyBatch(&'static [u64], u64),
+    LuckyRound(usize, &'static [u64], u64),
+}
+
 // The figures of a report, its grids aside.
 #[derive(Clone, Copy)]
 struct Figures {
@@ -58,7 +70,7 @@ struct Figures {
     residual: u64,
     eval: u64,
     weight: u64,
-    holds: bool,
+    finding: Finding,
 }
 
 // A job, whose table is filled up to `rows` rows with zeros and whose claims are two groups, with one behind them; a challenger, by its draws, the
@@ -153,7 +165,7 @@ const PREFIX: Case = Case {
         residual: 7,
         eval: 10,
         weight: 16,
-        holds: true,
+        finding: Finding::Holds,
     }),
     grids: &[],
     seed: &TWO_ROUNDS,
@@ -324,11 +336,24 @@ fn challenger<F: Field, R: Abort + AllocGlobal>(rt: &R, case: &Case) -> Scripted
     challenger
 }
 
-// Whether a verdict is that the statements hold, or else that the rounds are refused.
-fn is_verdict<F>(verdict: &Verdict<F>, holds: bool) -> bool {
-    match verdict {
-        Verdict::Holds => holds,
-        Verdict::Refuted => !holds,
+// Whether a verdict says this.
+fn is_verdict<F: Field>(verdict: &Verdict<F>, wanted: &Finding) -> bool {
+    match (verdict, wanted) {
+        (Verdict::Holds, Finding::Holds) => true,
+        (Verdict::Refuted, Finding::Refuted) => true,
+        (Verdict::LuckyBatch { poly, vanishing }, Finding::LuckyBatch(coefficients, roots)) => {
+            have_numbers(poly.as_slice(), *coefficients) && *vanishing == *roots
+        }
+        (
+            Verdict::LuckyRound {
+                round,
+                poly,
+                vanishing,
+            },
+            Finding::LuckyRound(place, coefficients, roots),
+        ) => {
+            *round == *place && have_numbers(poly.as_slice(), *coefficients) && *vanishing == *roots
+        }
         _ => false,
     }
 }
@@ -356,7 +381,7 @@ fn assert_figures<F: Field, A: Abort>(rt: &A, report: &Report<F, F>, wanted: &Fi
         are_pairs(report.rounds.polynomial_evaluations(), wanted.rounds),
         have_numbers(&report.rounds.pow_witnesses, wanted.witnesses),
         have_numbers(report.challenges.as_slice(), wanted.challenges),
-        is_verdict(&report.verdict, wanted.holds),
+        is_verdict(&report.verdict, &wanted.finding),
     );
     assert_eq!(rt;
         are_lists,

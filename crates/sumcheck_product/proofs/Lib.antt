@@ -1,3 +1,4 @@
 pub mod ProductRoundLaws
 pub mod ProductReplies
+pub mod CertifiedRounds
 pub mod TableShapes

@@ -1,7 +1,9 @@
 -- The reply to a job of `product`, from what a replay of its rounds leaves.
-use Rattle.std.proofs.Common.{◌≡◌, ◌≢◌, ◌⊎◌, inl, inr, ℕ, zero, suc, ◌+◌, ◌<◌, ◌≤◌, true, List, [], ◌∷◌, length, map, take, Some, refl, ap, sym, ◌∙◌, subst, arith, eq-eqb, ne_eqb, zero-add}
-use Rattle.std.specs.Prelude.{Result, Ok, Err, ◌==◌, IsOk, if◌then◌else◌}
+use Rattle.std.proofs.Common.{◌≡◌, ◌≢◌, ◌⊎◌, inl, inr, ⊎_elim, ℕ, zero, suc, ◌+◌, ◌<◌, ◌≤◌, Bool, true, false, List, [], ◌∷◌, All, length, map, take, Vec, Global, Option, Some, refl, ap, sym, ◌∙◌, subst, arith, eq-eqb, ne_eqb, zero-add}
+use Rattle.std.specs.Prelude.{Result, Ok, Err, ◌==◌, IsOk, if◌then◌else◌, option_map}
+use Rattle.std.proofs.lemmas.Bool.{cases_eq}
 use Rattle.std.proofs.lemmas.List.{length-map}
+use Rattle.std.proofs.lemmas.List.Elements.{All-cons, All-head, All-tail}
 use Rattle.sc_definitions.specs.declared.events.Event.{Event}
 use Rattle.sc_definitions.specs.Ring.{IsField}
 use Rattle.sc_definitions.specs.Events.{Rules}
@@ -10,6 +12,7 @@ use Rattle.sc_definitions.specs.Replays.{round_passes, given_rounds}
 use Rattle.sc_definitions.specs.Channels.{Wire, Footing, footing, witnesses_of, IsReplayed}
 use Rattle.sc_definitions.specs.Interpolation.{next_through}
 use Rattle.sc_definitions.specs.Products.{values_product, honest_values}
+use Rattle.sc_definitions.specs.Lucky.{Turn, Luck, luck_in, first_turn, product_course}
 use Rattle.sc_definitions.proofs.BuiltLaws.{length-challenges}
 use Rattle.sc_definitions.proofs.ReplayLaws.{length-given_rounds, messages-given_rounds, take_whole}
 use Rattle.sc_definitions.proofs.ProductRounds.{honest_along}
@@ -34,12 +37,41 @@ use Rattle.sumcheck_replies.specs.declared.reply.Outcome.TheVariants.{Holds, NoW
 use Rattle.sumcheck_replies.specs.Reply.{no_witness}
 use Rattle.sumcheck_replies.specs.Fields.{Fields, fields_of}
 use Rattle.sumcheck_replies.specs.Refusals.{finding_reply}
-use Rattle.sumcheck_product.specs.Products.{ProductCase, ProductFigures, image_table, case_over, product_case, product_shape, true_sum, product_start, product_built, first_refused, product_played, unless_refused, product_given, product_finding, product_figures, product_lines, figures_reply, degree_refusal, given_reply, built_reply, mode_reply, shaped_reply, product_judged, product_rules, product_answer}
+use Rattle.sumcheck_product.specs.Products.{ProductCase, ProductFigures, image_table, case_over, product_case, product_shape, true_sum, product_start, product_built, first_refused, product_played, unless_refused, product_given, product_finding, product_figures, product_luck, product_lines, figures_reply, shown_reply, degree_refusal, given_reply, built_reply, mode_reply, shaped_reply, product_judged, product_rules, product_answer}
 use Rattle.sumcheck_product.specs.ProductPlays.{AreBuilt, LeavesBuilt}
 use Rattle.sumcheck_replies.proofs.WitnessLaws.{IsBuiltOr, honest_rounds-built}
 use Rattle.sumcheck_product.proofs.ProductRoundLaws.{refused-none, refused-width, refused-witness}
 
+-- where the claimed sum is the true one no challenge is named
+same_true : (matched : Bool) (luck other : Option Luck) → product_finding matched true luck ≡ product_finding matched true other
+same_true false luck other = refl
+same_true true luck other = refl
+
 module _ (q : ProductCase) where
+  -- ---- the first lucky challenge
+
+  -- that of the first turn
+  pub first-luck : (f : ProductFigures) (turn : Option Turn) → turn ≡ first_turn (product_course q.ops q.tables) 0 f.claimed f.messages [] f.challenges →
+      option_map (luck_in q.ops) turn ≡ product_luck q f
+  unfolding product_luck
+  first-luck f turn is = ap (option_map (luck_in q.ops)) is
+
+  -- it is needed only where the claimed sum is not the true one
+  pub figures-shown : (f : ProductFigures) (luck : Option Luck) → (f.claimed ≢ true_sum q → luck ≡ product_luck q f) →
+      shown_reply (true_sum q) luck f ≡ figures_reply q f
+  unfolding figures_reply shown_reply
+  figures-shown f luck needed =
+      let matched = f.residual == f.product in
+      ap (λ d. finding_reply d (product_lines f))
+      (⊎_elim
+      (λ same.
+      ap (λ b. product_finding matched b luck) (eq-eqb _ _ same) ∙ same_true matched luck (product_luck q f)
+      ∙ sym (ap (λ b. product_finding matched b (product_luck q f)) (eq-eqb _ _ same)))
+      (λ other. ap (product_finding matched (f.claimed == true_sum q)) (needed other))
+      (cases_eq f.claimed (true_sum q)))
+
+  -- ---- replays
+
   -- the replay of what came with a claimed sum
   abbrev pub replay_for : ℕ → Wire → Replay
   replay_for claimed came = record {
@@ -60,7 +92,7 @@ module _ (q : ProductCase) where
 
   pub built-shown : (claimed product residual : ℕ) (came : Wire) (rs : List ℕ) (h' : List Event) → AreBuilt q claimed came product →
       IsReplayedTo (replay_for claimed came) q.variables rs (footing h' residual) →
-      figures_reply (true_sum q)
+      figures_reply q
       (record { claimed = claimed; messages = came.messages; witnesses = came.witnesses; challenges = rs; residual = residual; product = product }) ≡ mode_reply q Build
   built-shown claimed product residual came rs h' b replayed =
       let R = q.channel.rules in
@@ -81,7 +113,7 @@ module _ (q : ProductCase) where
       (record { claimed = claimed; messages = came.messages; witnesses = came.witnesses; challenges = rs; residual = residual; product = product })
       (product_figures q (true_sum q) b.rounds) =
       rw (b.claim, b.wire, moved.drawn, moved.claim, b.value) refl in
-      ap (figures_reply (true_sum q)) same ∙ sym (ap (built_reply q) b.are)
+      ap (figures_reply q) same ∙ sym (ap (built_reply q) b.are)
 
   -- rounds that could not be
   pub built-refused_reply : {F EF : Type 0} (base : F → ℕ) (number : EF → ℕ) (e : GenericDegreeError) → e ≢ NoMemory → LeavesBuilt {F = F} {EF = EF} base number q (Err e) →
@@ -139,10 +171,17 @@ module _ (q : ProductCase) where
         ∙ length-challenges q.channel.rules q.channel.extension q.channel.bits (product_start q p.claimed) (take q.variables handed)
         ∙ ap length (take_whole handed q.variables (sym size)) ∙ size
 
+    -- each round sends as many values as there are tables
+    pub given-wide : (rs : List ℕ) (end : Footing) → IsCounted (replay_for p.claimed (wire_of p)) → IsReplayedTo (replay_for p.claimed (wire_of p)) q.variables rs end →
+        All (λ values. length values ≡ length q.tables) p.rounds
+    given-wide rs end counts replayed =
+        let all : take q.variables handed ≡ handed = take_whole handed q.variables (sym (length-given_rounds p.rounds p.witnesses ∙ counts.rounds)) in
+        subst (All (λ values. length values ≡ length q.tables)) (messages-given_rounds p.rounds p.witnesses) (subst (AreWide (length q.tables)) all replayed.wide)
+
     -- they were replayed whole
     pub given-shown : (residual product : ℕ) (rs : List ℕ) (h' : List Event) → IsCounted (replay_for p.claimed (wire_of p)) →
         IsReplayedTo (replay_for p.claimed (wire_of p)) q.variables rs (footing h' residual) → product ≡ values_product q.ops q.tables rs →
-        figures_reply (true_sum q)
+        figures_reply q
         (record { claimed = p.claimed; messages = p.rounds; witnesses = p.witnesses; challenges = rs; residual = residual; product = product }) ≡ mode_reply q (Check p)
     given-shown residual product rs h' counts replayed value =
         let start = product_start q p.claimed in
@@ -156,7 +195,7 @@ module _ (q : ProductCase) where
         (record { claimed = p.claimed; messages = p.rounds; witnesses = p.witnesses; challenges = rs; residual = residual; product = product })
         (product_figures q p.claimed handed) =
         rw (value, moved.claim, moved.drawn, messages-given_rounds p.rounds p.witnesses, witnesses-handed q.channel.bits q.variables counts.rounds counts.witnesses) refl in
-        ap (figures_reply (true_sum q)) same ∙ sym (ap (given_reply q p.claimed) none)
+        ap (figures_reply q) same ∙ sym (ap (given_reply q p.claimed) none)
 
     -- they were refused
     pub given-refused : {X : Type 0} (number : X → ℕ) (e : GenericDegreeError) (h' : List Event) → e ≢ NoMemory → 1 ≤ length q.tables →
@@ -215,8 +254,9 @@ module _ (q : ProductCase) where
       let f = product_figures q (true_sum q) rounds in
       let matched : f.residual ≡ f.product =
       honest_along q.ops field q.channel.rules q.channel.extension q.channel.bits q.tables some few start [] q.variables rounds built.0 built.1 in
-      inl (ap (λ b. (finding_reply (product_finding b (f.claimed == true_sum q)) (product_lines f)).outcome) (eq-eqb _ _ matched)
-      ∙ ap (λ b. (finding_reply (product_finding true b) (product_lines f)).outcome) (eq-eqb (true_sum q) (true_sum q) refl))
+      let luck = product_luck q f in
+      inl (ap (λ b. (finding_reply (product_finding b (f.claimed == true_sum q) luck) (product_lines f)).outcome) (eq-eqb _ _ matched)
+      ∙ ap (λ b. (finding_reply (product_finding true b luck) (product_lines f)).outcome) (eq-eqb (true_sum q) (true_sum q) refl))
   holds-by field some few (Err i) positive = inr (positive, refl)
 
   pub build-holds : IsField q.ops → 1 ≤ length q.tables → length q.tables < q.ops.size →
@@ -224,6 +264,16 @@ module _ (q : ProductCase) where
   build-holds field some few =
       holds-by field some few (product_built q)
       (honest_rounds-built q.channel.rules q.channel.extension q.channel.base_size (honest_values q.ops q.tables) q.channel.bits (product_start q (true_sum q)) [] q.variables)
+
+-- lists are as long as those of the numbers of their elements
+pub wide_items : {X : Type 0} (number : X → ℕ) (degree : ℕ) (vs : List (Vec X Global)) → All (λ values. length values ≡ degree) (map (λ v. map number v.items) vs) →
+    All (λ v. length v.items ≡ degree) vs
+wide_items number degree [] wide = λ k d less. absurd (omega (arith, less))
+wide_items number degree (v ∷ vs) wide =
+    let W = λ (values : List ℕ). length values ≡ degree in
+    let more = map (λ v. map number v.items) vs in
+    All-cons (λ v. length v.items ≡ degree) v vs (sym (length-map v.items number) ∙ All-head W (map number v.items) more wide)
+    (wide_items number degree vs (All-tail W (map number v.items) more wide))
 
 -- ---- a job
 
@@ -239,7 +289,7 @@ pub case-same : (k : Fields) (job : ProductJob) (n m bits : ℕ) (fs : List (ℕ
 case-same k job n m bits fs R h tables arity same = rw (tables, arity, same) refl
 
 -- the fields of each name are lawful
-fields_field : (name : FieldName) → IsField (fields_of name).ops
+pub fields_field : (name : FieldName) → IsField (fields_of name).ops
 fields_field F65537 = residues_field
 fields_field F257x2 = f257x2_field
 fields_field F16 = tower_field

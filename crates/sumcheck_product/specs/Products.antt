@@ -1,5 +1,5 @@
 -- What a job of `product` is answered: the rounds of a sum over all rows of the product of several tables.
-use Rattle.std.specs.Prelude.{ℕ, suc, ◌==◌, ◌^◌, Bool, true, false, List, [], ◌∷◌, ◌++◌, length, map, nat_lt, if◌then◌else◌, Option, Some, None, Result, Ok, Err}
+use Rattle.std.specs.Prelude.{ℕ, suc, ◌==◌, ◌^◌, Bool, true, false, List, [], ◌∷◌, ◌++◌, length, map, nat_lt, if◌then◌else◌, Option, Some, None, option_map, Result, Ok, Err}
 use Rattle.sc_definitions.specs.declared.events.Event.{Event}
 use Rattle.sc_definitions.specs.Ring.{Ops}
 use Rattle.sc_definitions.specs.Tables.{rows_of}
@@ -10,16 +10,19 @@ use Rattle.sc_definitions.specs.Replays.{given_rounds, round_passes}
 use Rattle.sc_definitions.specs.Channels.{Channel, channel, witnesses_of}
 use Rattle.sc_definitions.specs.Interpolation.{next_through}
 use Rattle.sc_definitions.specs.Products.{values_product, product_claim, honest_values}
+use Rattle.sc_definitions.specs.Lucky.{Luck, luck_in, first_turn, product_course}
 use Rattle.sc_transcript.specs.Data.{witness_count}
 use Rattle.sc_degree.specs.declared.error.GenericDegreeError.{GenericDegreeError}
 use Rattle.sc_degree.specs.declared.error.GenericDegreeError.TheVariants.{RoundCountMismatch, PowWitnessCountMismatch, PolyEvalCountMismatch, InvalidPowWitness, NoWitness}
 use Rattle.sc_degree.specs.declared.proof.GenericDegreeProof.{GenericDegreeProof}
 use Rattle.sc_degree.specs.Shapes.{prelude_of, shape_of}
 use Rattle.sc_degree.specs.Proofs.{wire_in}
+use Rattle.sc_degree.specs.declared.turns.FoundTurn.{FoundTurn}
+use Rattle.sc_degree.specs.Turns.{turn_in}
 use Rattle.sc_audit.specs.declared.error.ShapeFault.{ShapeFault}
 use Rattle.sc_audit.specs.declared.error.ShapeFault.TheVariants.{TableLength, Difficulty}
 use Rattle.sc_audit.specs.Refusals.{arity_of}
-use Rattle.sc_audit.specs.Figures.{Finding, holds, refuted, lucky}
+use Rattle.sc_audit.specs.Figures.{Finding, holds, refuted, named}
 use Rattle.sumcheck_jobs.specs.declared.product.ProductProof.{ProductProof}
 use Rattle.sumcheck_jobs.specs.declared.product.ProductMode.{ProductMode}
 use Rattle.sumcheck_jobs.specs.declared.product.ProductMode.TheVariants.{Build, Check}
@@ -122,11 +125,12 @@ product_given q p =
 
 -- ---- the reply to them
 
--- what rounds say of a claimed sum, as what they leave of it is the product of the tables' values, and as it is the true sum
-abbrev pub product_finding : Bool → Bool → Finding
-product_finding false true_claimed = refuted
-product_finding true true = holds
-product_finding true false = lucky
+-- What rounds say of a claimed sum, as what they leave of it is the product of the tables' values or not, as it is the true sum or not, and this is the
+-- first lucky challenge, if one is.
+abbrev pub product_finding : Bool → Bool → Option Luck → Finding
+product_finding false true_claimed luck = refuted
+product_finding true true luck = holds
+product_finding true false luck = named luck
 
 -- the figures of rounds: the claimed sum, the challenges, what is left of the claimed sum, and the product of the tables' values at the challenges
 pub record ProductFigures : Type 0 where
@@ -152,14 +156,22 @@ abbrev pub product_figures : ProductCase → ℕ → List Round → ProductFigur
 product_figures q claimed rounds =
     figures_at q claimed rounds (challenges q.channel.rules q.channel.extension q.channel.bits (product_start q claimed) rounds)
 
+-- the first lucky challenge of figures: that of the first round behind which the claim is the true one
+unfoldable pub product_luck : ProductCase → ProductFigures → Option Luck
+product_luck q f = option_map (luck_in q.ops) (first_turn (product_course q.ops q.tables) 0 f.claimed f.messages [] f.challenges)
+
+-- what they say of the claimed sum
+abbrev pub figures_finding : ProductCase → ProductFigures → Finding
+figures_finding q f = product_finding (f.residual == f.product) (f.claimed == true_sum q) (product_luck q f)
+
 -- the lines of a report up to the verdict
 unfoldable pub product_lines : ProductFigures → List ℕ
 product_lines f =
     claim_line f.claimed ++ round_lines 0 f.messages f.witnesses f.challenges ++ residual_line f.residual ++ product_line f.product
 
--- what is replied to figures, where this is the true sum
-unfoldable pub figures_reply : ℕ → ProductFigures → Reply
-figures_reply sum f = finding_reply (product_finding (f.residual == f.product) (f.claimed == sum)) (product_lines f)
+-- what is replied to figures
+unfoldable pub figures_reply : ProductCase → ProductFigures → Reply
+figures_reply q f = finding_reply (figures_finding q f) (product_lines f)
 
 -- A refusal of rounds, at a difficulty. None of the others is met here, want of memory aside, which is a status of its own.
 abbrev pub degree_refusal : ℕ → GenericDegreeError → Reply
@@ -172,12 +184,12 @@ degree_refusal bits e = refused []
 
 -- the reply to rounds with a claimed sum: their report, or why they cannot be played
 abbrev pub given_reply : ProductCase → ℕ → Result (List Round) GenericDegreeError → Reply
-given_reply q claimed (Ok rounds) = figures_reply (true_sum q) (product_figures q claimed rounds)
+given_reply q claimed (Ok rounds) = figures_reply q (product_figures q claimed rounds)
 given_reply q claimed (Err e) = degree_refusal q.channel.bits e
 
 -- the reply to rounds that are built: their report, or the round for which no witness is found
 abbrev pub built_reply : ProductCase → Result (List Round) ℕ → Reply
-built_reply q (Ok rounds) = figures_reply (true_sum q) (product_figures q (true_sum q) rounds)
+built_reply q (Ok rounds) = figures_reply q (product_figures q (true_sum q) rounds)
 built_reply q (Err i) = no_witness i
 
 -- the reply to what is done
@@ -197,6 +209,10 @@ product_judged k job R h = shaped_reply k job R h (product_shape job R.max_bits)
 -- what the job's challenger answers
 abbrev pub product_rules : ProductJob → Rules
 product_rules job = rules_by (fields_of job.field).base_size job.challenger
+
+-- what it asks of its challenger, over the fields that it names, on tables of n variables
+abbrev pub case_of : ProductJob → ℕ → ProductCase
+case_of job n = product_case (fields_of job.field) job n (product_rules job) []
 
 -- what a job is answered, over the fields that it names and under its own challenger
 abbrev pub product_answer : ProductJob → Reply
@@ -227,3 +243,11 @@ figures_in base number p = record {
   residual = number p.residual;
   product = number p.product;
 }
+
+-- the luck of the turn that was found, if one was
+abbrev pub luck_found : {EF : Type 0} → Ops → (EF → ℕ) → Option (FoundTurn EF) → Option Luck
+luck_found o number found = option_map (luck_in o) (option_map (turn_in number) found)
+
+-- what is shown of figures, where this is the true sum and this the first lucky challenge, if one is
+unfoldable pub shown_reply : ℕ → Option Luck → ProductFigures → Reply
+shown_reply sum luck f = finding_reply (product_finding (f.residual == f.product) (f.claimed == sum) luck) (product_lines f)

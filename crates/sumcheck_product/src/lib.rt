@@ -2,7 +2,8 @@
 //! checked, and the report on them.
 //!
 //! What a job is answered is one function of the definitions, `product_answer` in
-//! `specs/Products.antt`.
+//! `specs/Products.antt`. What certifies a lucky challenge is `CertifiesProduct` in
+//! `specs/CertifiedProducts.antt`.
 #![tactic(auto)]
 
 mod images;

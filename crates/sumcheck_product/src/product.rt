@@ -1,24 +1,35 @@
 //! The answer to a job of `product`.
-ghost use Rattle.std.specs.Prelude.{◌≡◌, ◌≢◌, ◌⊎◌, ◌<◌, ◌≤◌, ◌++◌, IfOk, IsOk, OnOk, [], map};
-ghost use Rattle.std.specs.Prelude.{length, string_bytes};
+ghost use Rattle.std.specs.Prelude.{◌≡◌, ◌≢◌, ◌⊎◌, ℕ, ◌<◌, ◌≤◌, ◌++◌, All, List, [], length};
+ghost use Rattle.std.specs.Prelude.{IfOk, IsOk, Ok, OnOk, map, option_map, string_bytes};
 ghost use Rattle.sc_definitions.specs.Channels.{channel};
+ghost use Rattle.sc_definitions.specs.Lucky.{first_turn, product_course};
 ghost use Rattle.sc_definitions.specs.Products.{values_product};
+ghost use Rattle.sc_definitions.specs.Transcript.{Round};
 ghost use Rattle.sc_degree.specs.Products.{arity_of, tables_of};
+ghost use Rattle.sc_degree.specs.Turns.{turn_in};
+ghost use Rattle.sc_audit.specs.Figures.{named};
+ghost use Rattle.sumcheck_jobs.specs.declared.product.ProductProof.{ProductProof};
 ghost use Rattle.sumcheck_jobs.specs.Elements.{sizes_of};
 ghost use Rattle.sumcheck_jobs.specs.ProductJob.{ProductJobFits, ProductModeFits};
 ghost use Rattle.sumcheck_replies.specs.Lines.{round_line, round_lines};
-ghost use Rattle.sumcheck_product.specs.Products.{case_over, degree_refusal, figures_in};
-ghost use Rattle.sumcheck_product.specs.Products.{figures_reply, given_proof, mode_reply};
-ghost use Rattle.sumcheck_product.specs.Products.{product_answer, product_judged, product_lines};
-ghost use Rattle.sumcheck_product.specs.Products.{product_rules, product_shape, task_mode, true_sum};
+ghost use Rattle.sumcheck_replies.specs.Refusals.{finding_reply};
+ghost use Rattle.sumcheck_product.specs.CertifiedProducts.{CertifiesProduct};
+ghost use Rattle.sumcheck_product.specs.Products.{case_of, case_over, degree_refusal, figures_in};
+ghost use Rattle.sumcheck_product.specs.Products.{given_proof, luck_found, mode_reply};
+ghost use Rattle.sumcheck_product.specs.Products.{product_answer, product_figures, product_given};
+ghost use Rattle.sumcheck_product.specs.Products.{product_judged, product_lines, product_rules};
+ghost use Rattle.sumcheck_product.specs.Products.{product_shape, shown_reply, task_mode, true_sum};
 ghost use Rattle.sumcheck_product.specs.ProductPlays.{IsDegree, LeavesBuilt};
 ghost use Rattle.sumcheck_replies.specs.Fields.{rules_by};
 
 use crate::images::image_tables;
 use crate::shape::fitting_arity;
-use sc_audit::{AuditError, Form};
+use sc_audit::AuditError;
 use sc_challenger::{Challenger, HashChallenger, ScriptedChallenger};
-use sc_degree::{GenericDegreeError, GenericDegreeProof, RoundProver, TableProduct};
+use sc_degree::{
+    FoundTurn, GenericDegreeError, GenericDegreeProof, RoundProver, TableProduct, find_turn,
+};
+use sc_field::laws::count_roots;
 use sc_field::{ExtensionField, F257, F257x2, F65537, Field, NoMemory, Tower16};
 use sc_table::Point;
 use std::alloc::Global;
@@ -38,6 +49,16 @@ pub fn judge_product(alloc: Global, job: ProductJob) -> Result<Answer, NoMemory>
         → IsOk (product_shape job (product_rules job).max_bits)
         → ((product_answer job).outcome ≡ Outcome.Holds)
         ⊎ ((0 < job.bits) × ((product_answer job).outcome ≡ Outcome.NoWitness)) }
+
+    // Where a checked proof's residual is the product although its claimed sum is false, a round's
+    // challenge is named lucky, and certified: by a polynomial that is not zero and vanishes there,
+    // and the number of its roots.
+    ensures certified { (n : ℕ) (proof : ProductProof) (rounds : List Round)
+        → job.mode ≡ ProductMode.Check proof
+        → product_shape job (product_rules job).max_bits ≡ Ok n
+        → product_given (case_of job n) proof ≡ Ok rounds
+        → CertifiesProduct (case_of job n)
+        (product_figures (case_of job n) proof.claimed rounds) }
 {
     match job.field {
         FieldName::F65537 => judge_in::<F65537, F65537>(alloc, job),
@@ -163,6 +184,7 @@ fn build<F: Field, EF: ExtensionField<F>, C: Challenger<F>>(
                 challenges,
                 residual,
                 product,
+                turn: None,
             };
             show(alloc, &played, sum)
         }
@@ -224,17 +246,56 @@ fn check<F: Field, EF: ExtensionField<F>, C: Challenger<F>>(
     let sum = product.sum();
     match proof.verify(alloc, challenger, variables, degree, pow_bits) {
         Ok((challenges, residual)) => {
-            let product = value_at(product, challenges.as_slice());
+            let (product, turn) = end_at(alloc, product, sum, &proof, challenges.as_slice())?;
             let played = Played {
                 proof,
                 challenges,
                 residual,
                 product,
+                turn,
             };
             show(alloc, &played, sum)
         }
         Err(error) => refuse_rounds(alloc, error, pow_bits),
     }
+}
+
+// The product of the tables' values at the challenges of rounds, and, where the claimed sum is not
+// this true one, the first round behind which the claim is the true one, if there is one. The
+// tables are bound in their place.
+fn end_at<F: Field, EF: ExtensionField<F>>(
+    alloc: Global,
+    product: TableProduct<EF>,
+    sum: EF,
+    proof: &GenericDegreeProof<F, EF>,
+    challenges: &[EF],
+) -> Result<(EF, Option<FoundTurn<EF>>), NoMemory>
+    requires messages { length proof.now.round_polys.items ≡ arity_of product }
+    requires challenges { length challenges.now ≡ arity_of product }
+    requires widths { All (λ m. length m.items ≡ length (tables_of EF.number product))
+        proof.now.round_polys.items }
+    requires few { length (tables_of EF.number product) < EF.ops.size }
+    ensures product { IfOk result (λ e. EF.number e.0 ≡ values_product EF.ops
+        (tables_of EF.number product) (map EF.number challenges.now)) }
+    ensures turn { IfOk result (λ e. EF.number proof.now.claimed_sum ≢ EF.number sum
+        → option_map (turn_in EF.number) e.1
+        ≡ first_turn (product_course EF.ops (tables_of EF.number product)) 0
+        (EF.number proof.now.claimed_sum)
+        (map (λ m. map EF.number m.items) proof.now.round_polys.items) []
+        (map EF.number challenges.now)) }
+{
+    if proof.claimed_sum.index() == sum.index() {
+        return Ok((value_at(product, challenges), None));
+    }
+    let mut product = product;
+    let turn = find_turn(
+        alloc,
+        &mut product,
+        proof.claimed_sum,
+        &proof.round_polys,
+        challenges,
+    )?;
+    Ok((product.sum(), turn))
 }
 
 // The product of the tables' values at as many challenges as they have variables. The tables are
@@ -253,24 +314,26 @@ fn value_at<EF: Field>(product: TableProduct<EF>, challenges: &[EF]) -> EF
 
 // ---- The report
 
-// Rounds that were replayed, what they leave of the claimed sum, and the product of the tables'
-// values at their challenges.
+// Rounds that were replayed, what they leave of the claimed sum, the product of the tables' values
+// at their challenges, and the first round that turned a false claim into the true one, if one did.
 #[derive(Drop)]
 struct Played<F, EF> {
     proof: GenericDegreeProof<F, EF>,
     challenges: Point<EF>,
     residual: EF,
     product: EF,
+    turn: Option<FoundTurn<EF>>,
 }
 
 // The answer that reports on rounds, where this is the true sum.
-#[tactic(auto, unfolding(crate::specs::Products::figures_reply))]
+#[tactic(auto, unfolding(crate::specs::Products::shown_reply))]
 fn show<F: Field, EF: ExtensionField<F>>(
     alloc: Global,
     played: &Played<F, EF>,
     sum: EF,
 ) -> Result<Answer, NoMemory>
-    ensures { IfOk result (λ a. a ≡ figures_reply (EF.number sum)
+    ensures { IfOk result (λ a. a ≡ shown_reply (EF.number sum)
+        (luck_found EF.ops EF.number played.now.turn)
         (figures_in F.number EF.number played.now)) }
 {
     let mut text = report_text(alloc, played)?;
@@ -278,11 +341,31 @@ fn show<F: Field, EF: ExtensionField<F>>(
         lines::push_refuted(&mut text)?;
         return Ok(Answer::new(Outcome::Refuted, text));
     }
-    if played.proof.claimed_sum.index() != sum.index() {
-        return refuse(alloc, AuditError::Unbuilt(Form::Verdict));
+    if played.proof.claimed_sum.index() == sum.index() {
+        lines::push_holds(&mut text)?;
+        return Ok(Answer::new(Outcome::Holds, text));
     }
-    lines::push_holds(&mut text)?;
-    Ok(Answer::new(Outcome::Holds, text))
+    show_luck(text, &played.turn)
+}
+
+// The answer of these lines where the claimed sum is false although what is left of it is the
+// product: the challenge of the turn was lucky. There always is one; without it they are refuted.
+fn show_luck<EF: Field>(mut text: String, turn: &Option<FoundTurn<EF>>) -> Result<Answer, NoMemory>
+    ensures { IfOk result (λ a. a ≡ finding_reply (named (luck_found EF.ops EF.number turn.now))
+        (string_bytes text)) }
+{
+    match turn {
+        Some(turn) => {
+            let polynomial = turn.polynomial.as_slice();
+            let vanishing = count_roots(polynomial);
+            lines::push_lucky_round(&mut text, turn.round, polynomial, vanishing)?;
+            Ok(Answer::new(Outcome::Lucky, text))
+        }
+        None => {
+            lines::push_refuted(&mut text)?;
+            Ok(Answer::new(Outcome::Refuted, text))
+        }
+    }
 }
 
 // The lines of a report up to the verdict.

@@ -1,8 +1,8 @@
--- Lines of grids, one after the other, and the numbers in them.
+-- Lines that end with numbers: those of grids, one after the other, and those of lucky challenges.
 use Rattle.std.proofs.Common.{◌≡◌, ℕ, suc, ◌+◌, ◌<◌, List, [], ◌∷◌, ◌++◌, length, get_or, take, map, ap, refl, sym, ◌∙◌, arith, append_assoc}
 use Rattle.std.specs.Prelude.{codes, decimal}
 use Rattle.std.proofs.lemmas.List.{append-nil, length-map, length-take-le}
-use Rattle.sumcheck_replies.specs.Lines.{spaced, grid_name, grid_line, both_lines, grid_lines}
+use Rattle.sumcheck_replies.specs.Lines.{spaced, grid_name, grid_line, both_lines, grid_lines, lucky_batch_name, lucky_batch_line, lucky_round_name, lucky_round_line}
 use Rattle.sumcheck_replies.proofs.LineLaws.{mapped-more}
 
 -- no number
@@ -22,13 +22,29 @@ pub spaced-more : {X : Type 0} (number : X → ℕ) (xs : List X) (k : ℕ) (x :
     spaced (map number (take (k + 1) xs)) ≡ spaced (map number (take k xs)) ++ spaced (number x ∷ [])
 spaced-more number xs k x low is = ap spaced (mapped-more number xs k x low is) ∙ spaced-append (map number (take k xs)) (number x ∷ [])
 
--- a line, pushed by its parts
-pub pushed-line : (start : List ℕ) (i : ℕ) (place values text text' text'' : List ℕ) →
-    text ≡ start ++ grid_name i place → text' ≡ text ++ spaced values → text'' ≡ text' ++ codes "\n" → text'' ≡ start ++ grid_line i place values
-pushed-line start i place values text text' text'' name numbers end =
-    let named = grid_name i place in
+-- a line with numbers behind a beginning, pushed by its parts
+pushed-named : (start named values text text' text'' : List ℕ) →
+    text ≡ start ++ named → text' ≡ text ++ spaced values → text'' ≡ text' ++ codes "\n" → text'' ≡ start ++ (named ++ spaced values ++ codes "\n")
+pushed-named start named values text text' text'' name numbers end =
     end ∙ ap (λ t. t ++ codes "\n") (numbers ∙ ap (λ t. t ++ spaced values) name ∙ append_assoc start named (spaced values))
     ∙ append_assoc start (named ++ spaced values) (codes "\n")
+
+-- that of a list of a grid
+pub pushed-line : (start : List ℕ) (i : ℕ) (place values text text' text'' : List ℕ) →
+    text ≡ start ++ grid_name i place → text' ≡ text ++ spaced values → text'' ≡ text' ++ codes "\n" → text'' ≡ start ++ grid_line i place values
+pushed-line start i place values = pushed-named start (grid_name i place) values
+
+-- those of lucky challenges
+pub pushed-batch : (start : List ℕ) (roots : ℕ) (values text text' text'' : List ℕ) →
+    text ≡ start ++ lucky_batch_name roots → text' ≡ text ++ spaced values → text'' ≡ text' ++ codes "\n" → text'' ≡ start ++ lucky_batch_line values roots
+unfolding lucky_batch_name lucky_batch_line
+pushed-batch start roots values = pushed-named start (codes "verdict lucky-batch vanishing " ++ decimal roots ++ codes " poly") values
+
+pub pushed-turn : (start : List ℕ) (round roots : ℕ) (values text text' text'' : List ℕ) →
+    text ≡ start ++ lucky_round_name round roots → text' ≡ text ++ spaced values → text'' ≡ text' ++ codes "\n" → text'' ≡ start ++ lucky_round_line round values roots
+unfolding lucky_round_name lucky_round_line
+pushed-turn start round roots values =
+    pushed-named start (codes "verdict lucky-round " ++ decimal round ++ codes " vanishing " ++ decimal roots ++ codes " poly") values
 
 -- one grid more
 grid_lines-append : (i : ℕ) (grids : List (List ℕ × List ℕ)) (grid : List ℕ × List ℕ) →

@@ -1,7 +1,6 @@
 -- The lines of a report, and the texts of refusals, of the numbers in them. Each line ends with a line feed.
 use Rattle.std.specs.Prelude.{ℕ, suc, List, [], ◌∷◌, ◌++◌, codes, decimal, Option, Some, None}
-use Rattle.sc_audit.specs.declared.error.Form.{Form}
-use Rattle.sc_audit.specs.declared.error.Form.TheVariants.{Verdict}
+use Rattle.sc_definitions.specs.Lucky.{Luck, in_batch, in_round}
 use Rattle.sc_audit.specs.declared.error.ShapeFault.{ShapeFault}
 use Rattle.sc_audit.specs.declared.error.ShapeFault.TheVariants.{TableLength, Difficulty, Arity}
 use Rattle.sc_audit.specs.declared.error.FitFault.{FitFault}
@@ -83,9 +82,26 @@ holds_line = codes "verdict holds\n"
 unfoldable pub refuted_line : List ℕ
 refuted_line = codes "verdict refuted\n"
 
--- what is not built yet
-unfoldable pub unbuilt_text : Form → List ℕ
-unbuilt_text Verdict = codes "unbuilt verdict"
+-- the batching challenge was lucky: the number of roots of the polynomial that certifies it, and its coefficients
+unfoldable pub lucky_batch_line : List ℕ → ℕ → List ℕ
+lucky_batch_line polynomial roots = codes "verdict lucky-batch vanishing " ++ decimal roots ++ codes " poly" ++ spaced polynomial ++ codes "\n"
+
+-- the challenge of a round was lucky: the round's number, and the same of its polynomial
+unfoldable pub lucky_round_line : ℕ → List ℕ → ℕ → List ℕ
+lucky_round_line round polynomial roots =
+    codes "verdict lucky-round " ++ decimal round ++ codes " vanishing " ++ decimal roots ++ codes " poly" ++ spaced polynomial ++ codes "\n"
+
+-- the beginnings of these lines, up to the coefficients
+unfoldable pub lucky_batch_name : ℕ → List ℕ
+lucky_batch_name roots = codes "verdict lucky-batch vanishing " ++ decimal roots ++ codes " poly"
+
+unfoldable pub lucky_round_name : ℕ → ℕ → List ℕ
+lucky_round_name round roots = codes "verdict lucky-round " ++ decimal round ++ codes " vanishing " ++ decimal roots ++ codes " poly"
+
+-- which challenge was lucky
+abbrev pub luck_line : Luck → List ℕ
+luck_line (in_batch polynomial roots) = lucky_batch_line polynomial roots
+luck_line (in_round round polynomial roots) = lucky_round_line round polynomial roots
 
 -- a job of a wrong shape
 unfoldable pub shape_fault_text : ShapeFault → List ℕ

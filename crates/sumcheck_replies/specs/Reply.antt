@@ -1,7 +1,7 @@
 -- What a command line and an input are answered: how it ends, and the text that is written.
 use Rattle.std.specs.Prelude.{ℕ, List, ◌++◌, codes, decimal}
 use Rattle.sumcheck_replies.specs.declared.reply.Outcome.{Outcome}
-use Rattle.sumcheck_replies.specs.declared.reply.Outcome.TheVariants.{Holds, Refuted, Usage, JobRefused, ProofRefused, NoWitness}
+use Rattle.sumcheck_replies.specs.declared.reply.Outcome.TheVariants.{Holds, Refuted, Lucky, Usage, JobRefused, ProofRefused, NoWitness}
 
 pub record Reply : Type 0 where
   pub outcome : Outcome
@@ -11,6 +11,7 @@ pub record Reply : Type 0 where
 abbrev pub code_of : Outcome → ℕ
 code_of Holds = 0
 code_of Refuted = 1
+code_of Lucky = 1
 code_of Usage = 2
 code_of JobRefused = 3
 code_of ProofRefused = 4

@@ -2,14 +2,16 @@
 ghost use Rattle.std.specs.Prelude.{◌≡◌, ◌++◌, [], ◌∷◌, OnOk, IfOk, codes, map, string_bytes};
 ghost use Rattle.sumcheck_replies.specs.Lines.{claim_line, counts_lines, eval_line, false_claim_text};
 ghost use Rattle.sumcheck_replies.specs.Lines.{fit_fault_text, grid_name, holds_line, missing_text};
+ghost use Rattle.sumcheck_replies.specs.Lines.{lucky_batch_line, lucky_batch_name};
+ghost use Rattle.sumcheck_replies.specs.Lines.{lucky_round_line, lucky_round_name};
 ghost use Rattle.sumcheck_replies.specs.Lines.{pairs_line, refuted_line, residual_line, round_line};
-ghost use Rattle.sumcheck_replies.specs.Lines.{rounds_text, shape_fault_text, spaced, unbuilt_text};
+ghost use Rattle.sumcheck_replies.specs.Lines.{rounds_text, shape_fault_text, spaced};
 ghost use Rattle.sumcheck_replies.specs.Lines.{weight_line, witness_text, witnesses_text};
 ghost use Rattle.sumcheck_replies.specs.Lines.{challenge_part, product_line, round_name, width_text};
 ghost use Rattle.sumcheck_replies.specs.Lines.{witness_part};
 ghost use Rattle.sumcheck_jobs.specs.Members.{misfit_text};
 
-use sc_audit::{FitFault, Form, ShapeFault};
+use sc_audit::{FitFault, ShapeFault};
 use sc_field::{Field, NoMemory};
 use std::alloc::{AllocError, Global};
 use sumcheck_jobs::Member;
@@ -172,6 +174,60 @@ pub fn push_refuted(text: &mut String) -> Result<(), AllocError>
     text.push_str("verdict refuted\n")
 }
 
+/// The verdict that the batching challenge was lucky: at how many elements the polynomial vanishes,
+/// and its coefficients, the constant first.
+pub fn push_lucky_batch<EF: Field>(
+    text: &mut String,
+    poly: &[EF],
+    vanishing: u64,
+) -> Result<(), NoMemory>
+    ensures { OnOk result (string_bytes text.new
+        ≡ string_bytes text.old ++ lucky_batch_line (map EF.number poly.now) vanishing) }
+{
+    push_lucky_batch_name(text, vanishing)?;
+    push_values(text, poly)?;
+    push_end(text)?;
+    Ok(())
+}
+
+// The beginning of that line, up to the coefficients.
+#[tactic(auto, unfolding(crate::specs::Lines::lucky_batch_name))]
+fn push_lucky_batch_name(text: &mut String, vanishing: u64) -> Result<(), AllocError>
+    ensures { OnOk result (string_bytes text.new
+        ≡ string_bytes text.old ++ lucky_batch_name vanishing) }
+{
+    write!(text, "verdict lucky-batch vanishing {vanishing} poly")
+}
+
+/// The verdict that the challenge of a round was lucky: the round's number, at how many elements
+/// the polynomial vanishes, and its coefficients, the constant first.
+pub fn push_lucky_round<EF: Field>(
+    text: &mut String,
+    round: usize,
+    poly: &[EF],
+    vanishing: u64,
+) -> Result<(), NoMemory>
+    ensures { OnOk result (string_bytes text.new
+        ≡ string_bytes text.old ++ lucky_round_line round (map EF.number poly.now) vanishing) }
+{
+    push_lucky_round_name(text, round, vanishing)?;
+    push_values(text, poly)?;
+    push_end(text)?;
+    Ok(())
+}
+
+// The beginning of that line, up to the coefficients.
+#[tactic(auto, unfolding(crate::specs::Lines::lucky_round_name))]
+fn push_lucky_round_name(text: &mut String, round: usize, vanishing: u64) -> Result<(), AllocError>
+    ensures { OnOk result (string_bytes text.new
+        ≡ string_bytes text.old ++ lucky_round_name round vanishing) }
+{
+    write!(
+        text,
+        "verdict lucky-round {round} vanishing {vanishing} poly"
+    )
+}
+
 /// A member that is missing or not of its form.
 #[tactic(auto, unfolding(sumcheck_jobs::specs::Members::misfit_text))]
 pub fn misfit_text(alloc: Global, member: Member) -> Result<String, AllocError>
@@ -179,16 +235,6 @@ pub fn misfit_text(alloc: Global, member: Member) -> Result<String, AllocError>
 {
     let name = member.name();
     format!(in alloc; "bad-job {name}")
-}
-
-/// What is not built yet.
-#[tactic(auto, unfolding(crate::specs::Lines::unbuilt_text))]
-pub fn unbuilt_text(alloc: Global, form: Form) -> Result<String, AllocError>
-    ensures { IfOk result (λ s. string_bytes s ≡ unbuilt_text form) }
-{
-    match form {
-        Form::Verdict => String::from_str(alloc, "unbuilt verdict"),
-    }
 }
 
 /// What does not fit in the shape of a job.

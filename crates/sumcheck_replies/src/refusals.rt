@@ -13,10 +13,6 @@ pub fn refuse(alloc: Global, error: AuditError) -> Result<Answer, NoMemory>
     ensures { IfOk result (λ a. (a ≡ refusal_reply error) × (error ≢ AuditError.NoMemory)) }
 {
     match error {
-        AuditError::Unbuilt(form) => {
-            let why = lines::unbuilt_text(alloc, form)?;
-            Answer::refused(alloc, &why)
-        }
         AuditError::JobShape(fault) => {
             let why = lines::shape_fault_text(alloc, fault)?;
             Answer::refused(alloc, &why)

@@ -13,6 +13,9 @@ pub enum Outcome {
     Holds,
     /// What the proof leaves is not the product of the two values.
     Refuted,
+    /// What the proof leaves is the product of the two values although a statement is false: a
+    /// challenge was lucky.
+    Lucky,
     /// The words are no command.
     Usage,
     /// The job is refused.
@@ -32,6 +35,7 @@ impl Outcome {
         match self {
             Outcome::Holds => 0,
             Outcome::Refuted => 1,
+            Outcome::Lucky => 1,
             Outcome::Usage => 2,
             Outcome::JobRefused => 3,
             Outcome::ProofRefused => 4,

@@ -3,10 +3,11 @@ use Rattle.std.proofs.lemmas.Bool.{eq-eqb}
 use Rattle.std.proofs.Common.{◌≡◌, ◌⊎◌, inl, inr, ℕ, ◌<◌, List, [], length, Option, None, Some, true, refl, ap, sym, ◌∙◌}
 use Rattle.std.specs.Prelude.{Result, Ok, Err}
 use Rattle.sc_definitions.specs.declared.false_claim.FalseClaim.{FalseClaim}
-use Rattle.sc_definitions.specs.Ring.{IsRing}
+use Rattle.sc_definitions.specs.Ring.{IsRing, IsField}
 use Rattle.sc_definitions.specs.Tables.{IsOffered}
 use Rattle.sc_definitions.specs.Transcript.{Round, messages_of, challenges, IsBuilt}
 use Rattle.sc_definitions.specs.Problem.{honest_of}
+use Rattle.sc_definitions.specs.Lucky.{luck_of}
 use Rattle.sc_definitions.proofs.BuildLaws.{built-residual, first_false_claim-all}
 use Rattle.sc_statements.specs.FalseClaims.{capped}
 use Rattle.sc_table.specs.declared.strategy.Strategy.{Strategy}
@@ -34,7 +35,7 @@ capped-none : (found : Option FalseClaim) → false_refusal (capped found) ≡ N
 capped-none None e = refl
 capped-none (Some c) e = cc
 
-or_later-none : (first later : Option AuditError) → or_later first later ≡ None → later ≡ None
+pub or_later-none : (first later : Option AuditError) → or_later first later ≡ None → later ≡ None
 or_later-none None later e = e
 or_later-none (Some x) later e = cc
 
@@ -56,9 +57,11 @@ module _ (q : Asked) (ring : IsRing q.ops) (offered : IsOffered q.case.problem.b
       let R = q.channel.rules in
       let E = q.channel.extension in
       let bits = q.channel.bits in
-      let matched : is_matched o p (messages_of rounds) (challenges R E bits (start_of q).history rounds) ≡ true =
+      let rs = challenges R E bits (start_of q).history rounds in
+      let luck = luck_of o p (messages_of rounds) rs in
+      let matched : is_matched o p (messages_of rounds) rs ≡ true =
       eq-eqb _ _ (built-residual o ring p R E bits (start_of q).history rounds offered (first_false_claim-all o p.variables p.table 0 p.statements none) whole built) in
-      ap (λ b. finding_by b (false_claim_of o p)) matched ∙ ap (finding_by true) none
+      ap (λ b. finding_by b (false_claim_of o p) luck) matched ∙ ap (λ fault. finding_by true fault luck) none
 
   -- so that is the outcome, unless a round has no witness
   built-outcome : (lines : Reported → List ℕ) (r : Result (List Round) ℕ) →
@@ -88,13 +91,13 @@ unfolding judge_over
 built_holds k ring job strategy mode none = case_holds report_lines (asked_by k job) ring tt strategy (ap task_of mode) none
 
 -- the fields of each name are lawful
-fields_ring : (name : FieldName) → IsRing (fields_of name).ops
-fields_ring F65537 = residues_field.ring
-fields_ring F257x2 = f257x2_field.ring
-fields_ring F16 = tower_field.ring
+pub fields_field : (name : FieldName) → IsField (fields_of name).ops
+fields_field F65537 = residues_field
+fields_field F257x2 = f257x2_field
+fields_field F16 = tower_field
 
 -- so a job's build holds
 pub job_holds : (job : Job) (strategy : Strategy) → job.mode ≡ Build strategy →
     refusal_of (asked_by (fields_of job.field) job) ≡ None →
     ((judge job).outcome ≡ Holds) ⊎ ((0 < job.bits) × ((judge job).outcome ≡ NoWitness))
-job_holds job strategy = built_holds (fields_of job.field) (fields_ring job.field) job strategy
+job_holds job strategy = built_holds (fields_of job.field) (fields_field job.field).ring job strategy

@@ -1,5 +1,6 @@
 pub mod GroupLaws
 pub mod BuildReplies
+pub mod CertifiedLaws
 pub mod ReportLaws
 pub mod Outcomes
 pub mod RunLaws

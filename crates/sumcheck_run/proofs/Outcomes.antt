@@ -1,6 +1,6 @@
 -- How the replies to commands end.
 use Rattle.std.proofs.Common.{◌≡◌, ℕ, List, [], Bool, true, false, Option, Some, None, length, refl}
-use Rattle.std.specs.Prelude.{if◌then◌else◌, nat_lt, ◌==◌, Result, Ok, Err}
+use Rattle.std.specs.Prelude.{if◌then◌else◌, nat_lt, Result, Ok, Err}
 use Rattle.serde_json.specs.Data.{Data}
 use Rattle.sc_forms.specs.Values.{value_of}
 use Rattle.sumcheck_run.specs.declared.command.Command.{Command}
@@ -14,7 +14,7 @@ use Rattle.sumcheck_jobs.specs.Job.{job_of}
 use Rattle.sumcheck_jobs.specs.ProductJob.{product_job_of}
 use Rattle.sumcheck_jobs.specs.declared.member.Member.{Member}
 use Rattle.sc_audit.specs.declared.error.AuditError.{AuditError}
-use Rattle.sc_audit.specs.declared.error.AuditError.TheVariants.{Unbuilt, JobShape, StrategyUnfit, FalseClaim, MissingSumcheckData, RoundCountMismatch, PowWitnessCountMismatch, InvalidPowWitness, NoWitness, NoMemory}
+use Rattle.sc_audit.specs.declared.error.AuditError.TheVariants.{JobShape, StrategyUnfit, FalseClaim, MissingSumcheckData, RoundCountMismatch, PowWitnessCountMismatch, InvalidPowWitness, NoWitness, NoMemory}
 use Rattle.sc_audit.specs.Refusals.{refusal_of}
 use Rattle.sc_audit.specs.Figures.{Reported, Finding, holds, refuted, lucky}
 use Rattle.sc_definitions.specs.declared.events.Event.{Event}
@@ -27,7 +27,7 @@ use Rattle.sc_audit.specs.Cases.{Asked}
 use Rattle.sumcheck_replies.specs.Fields.{Fields, fields_of}
 use Rattle.sumcheck_replies.specs.Refusals.{refusal_reply, finding_reply}
 use Rattle.sumcheck_run.specs.Report.{asked_by, report_lines, rounds_of, report_from, rounds_reply, reply_by, case_reply, judge_over}
-use Rattle.sumcheck_product.specs.Products.{ProductCase, ProductFigures, product_case, product_shape, true_sum, product_built, product_given, product_finding, product_figures, product_lines, figures_reply, degree_refusal, given_reply, built_reply, mode_reply, shaped_reply, product_judged, product_rules}
+use Rattle.sumcheck_product.specs.Products.{ProductCase, ProductFigures, product_case, product_shape, true_sum, product_built, product_given, product_figures, figures_reply, degree_refusal, given_reply, built_reply, mode_reply, shaped_reply, product_judged, product_rules}
 use Rattle.sumcheck_run.specs.Made.{made_asked}
 use Rattle.sumcheck_run.specs.Program.{max_input, too_long, bad_json, job_reply, audit_reply, product_job_reply, product_reply, value_reply, json_reply, reply_of}
 
@@ -48,7 +48,6 @@ unfolding no_witness
 no_witness-answer round e = cc
 
 refusal-answer : (e : AuditError) → IsAnswer (refusal_reply e)
-refusal-answer (Unbuilt form) = refused-answer _
 refusal-answer (JobShape fault) = refused-answer _
 refusal-answer (StrategyUnfit fault) = refused-answer _
 refusal-answer (FalseClaim statement claimed actual) = refused-answer _
@@ -62,7 +61,7 @@ refusal-answer NoMemory = refused-answer _
 finding-answer : (finding : Finding) (lines : List ℕ) → IsAnswer (finding_reply finding lines)
 finding-answer holds lines = λ e. cc
 finding-answer refuted lines = λ e. cc
-finding-answer lucky lines = refused-answer _
+finding-answer (lucky l) lines = λ e. cc
 
 rounds-answer : (lines : Reported → List ℕ) (q : Asked) (r : Result (List Round) AuditError) → IsAnswer (rounds_reply lines q r)
 rounds-answer lines q (Err e) = refusal-answer e
@@ -88,9 +87,9 @@ job-answer (Ok job) = judge-answer (fields_of job.field) job
 
 -- ---- rounds over a product
 
-figures-answer : (sum : ℕ) (f : ProductFigures) → IsAnswer (figures_reply sum f)
+figures-answer : (q : ProductCase) (f : ProductFigures) → IsAnswer (figures_reply q f)
 unfolding figures_reply
-figures-answer sum f = finding-answer (product_finding (f.residual == f.product) (f.claimed == sum)) (product_lines f)
+figures-answer q f = finding-answer _ _
 
 degree-answer : (bits : ℕ) (e : GenericDegreeError) → IsAnswer (degree_refusal bits e)
 degree-answer bits (degree.InvalidDegree d) = refused-answer _
@@ -103,11 +102,11 @@ degree-answer bits (degree.NoWitness round) = no_witness-answer round
 degree-answer bits degree.NoMemory = refused-answer _
 
 built-answer : (q : ProductCase) (r : Result (List Round) ℕ) → IsAnswer (built_reply q r)
-built-answer q (Ok rounds) = figures-answer (true_sum q) (product_figures q (true_sum q) rounds)
+built-answer q (Ok rounds) = figures-answer q (product_figures q (true_sum q) rounds)
 built-answer q (Err i) = no_witness-answer i
 
 given-answer : (q : ProductCase) (claimed : ℕ) (r : Result (List Round) GenericDegreeError) → IsAnswer (given_reply q claimed r)
-given-answer q claimed (Ok rounds) = figures-answer (true_sum q) (product_figures q claimed rounds)
+given-answer q claimed (Ok rounds) = figures-answer q (product_figures q claimed rounds)
 given-answer q claimed (Err e) = degree-answer q.channel.bits e
 
 mode-answer : (q : ProductCase) (mode : ProductMode) → IsAnswer (mode_reply q mode)

@@ -3,8 +3,7 @@ use Rattle.std.proofs.Common.{◌≡◌, ◌≢◌, inl, inr, ℕ, ◌+◌, suc,
 use Rattle.std.specs.Prelude.{⊤, Result, Ok, Err}
 use Rattle.std.proofs.lemmas.List.{length-map}
 use Rattle.sc_definitions.specs.declared.events.Event.{Event}
-use Rattle.sc_definitions.specs.Ring.{IsRing}
-use Rattle.sc_definitions.specs.Tables.{evaluation, IsOffered, entries}
+use Rattle.sc_definitions.specs.Tables.{evaluation, entries}
 use Rattle.sc_definitions.specs.Statements.{Statement}
 use Rattle.sc_definitions.specs.Events.{Rules, NonePasses}
 use Rattle.sc_definitions.specs.Channels.{channel}
@@ -13,20 +12,18 @@ use Rattle.sc_definitions.specs.Replays.{round_passes, AllPass, given_rounds}
 use Rattle.sc_definitions.specs.Problem.{honest_of}
 use Rattle.sc_table.specs.Strategy.{order_of}
 use Rattle.sc_audit.specs.declared.error.AuditError.{AuditError}
-use Rattle.sc_audit.specs.declared.error.AuditError.TheVariants.{Unbuilt, InvalidPowWitness, NoWitness, NoMemory}
-use Rattle.sc_audit.specs.declared.error.Form.TheVariants.{Verdict}
+use Rattle.sc_audit.specs.declared.error.AuditError.TheVariants.{InvalidPowWitness, NoWitness, NoMemory}
 use Rattle.sc_audit.specs.Cases.{Task, build, check, Asked, start_of}
 use Rattle.sc_audit.specs.Refusals.{refusal_of}
-use Rattle.sc_audit.specs.Figures.{Figures, Reported, holds, figures_of}
-use Rattle.sc_audit.specs.Audits.{AreRounds, IsPlayed, IsAudited, IsLucky, WitnessFails, FindsNoWitness, IsCaused, IsRefusedBy, figures_from, grids_for}
+use Rattle.sc_audit.specs.Figures.{Figures, Reported, figures_of}
+use Rattle.sc_audit.specs.Audits.{AreRounds, IsPlayed, IsAudited, WitnessFails, FindsNoWitness, IsCaused, IsRefusedBy, figures_from, grids_for}
 use Rattle.sumcheck_jobs.specs.declared.job.Job.{Job}
 use Rattle.sumcheck_jobs.specs.Statements.{all_claims}
 use Rattle.sumcheck_replies.specs.Fields.{Fields}
-use Rattle.sumcheck_replies.specs.Refusals.{refusal_reply, finding_reply}
+use Rattle.sumcheck_replies.specs.Refusals.{refusal_reply}
 use Rattle.sumcheck_run.specs.Report.{task_of, asked_with, rules_of, report_lines, report_reply, or_no_witness, unless_failing, passing_rounds, rounds_of, rounds_reply, reply_by, case_reply, judge_over}
 use Rattle.sumcheck_replies.proofs.NumberLaws.{entries-numbers}
 use Rattle.sumcheck_replies.proofs.WitnessLaws.{AreLow, honest_rounds-whole, honest_rounds-none, none_passes, first_failing-at, first_failing-none}
-use Rattle.sumcheck_run.proofs.BuildReplies.{all-true, built-finding}
 
 -- what elements ask is what their numbers do
 pub asked-same : {X : Type 0} (k : Fields) (number : X → ℕ) (xs : List X) (bits n : ℕ) (ss : List Statement) (c i : ℕ) (t : Task) (job : Job) (R : Rules) (h : List Event) →
@@ -94,21 +91,6 @@ module _ (lines : Reported → List ℕ) (q : Asked) where
       ap (λ (grids : List (List ℕ × List ℕ)). report_reply lines (record { figures = report.figures; grids = grids })) a.grids
       ∙ played-whole report.figures h' none a.played (low-if_built q.case.task report.figures a.played.rounds a.played.is low)
 
-  module _ (ring : IsRing q.ops) (offered : IsOffered q.case.problem.basis q.case.problem.order) where
-    -- no build is lucky
-    unlucky : (task : Task) (h' : List Event) → q.case.task ≡ task → refusal_of q ≡ None → (l : IsLucky q h') → AreRounds q task l.played.rounds → AreLowIfBuilt task l.played.rounds
-    unlucky (build strategy) h' is none l are =
-        let found : l.figures.finding ≡ holds =
-        ap (λ (f : Figures). f.finding) l.played.is ∙ built-finding q ring offered (all-true q strategy is none) l.played.rounds l.played.count are in
-        absurd (cc (found, l.lucky))
-    unlucky (check proof) h' is none l are = tt
-
-    -- where a report has no verdict yet, that is refused
-    lucky-reply : (h' : List Event) → refusal_of q ≡ None → IsLucky q h' → refusal_reply (Unbuilt Verdict) ≡ case_reply lines q
-    lucky-reply h' none l =
-        sym (ap (λ finding. finding_reply finding (lines (reported l.figures))) l.lucky)
-        ∙ played-whole l.figures h' none l.played (unlucky q.case.task h' refl none l l.played.are)
-
   -- the rounds of a proof whose witness fails are refused for the first that does
   rounds-failing : (task : Task) (i : ℕ) (h' : List Event) → WitnessFails q task i h' → rounds_of q task ≡ Err (InvalidPowWitness i q.channel.bits)
   rounds-failing (build strategy) i h' f = absurd f
@@ -138,28 +120,26 @@ module _ (lines : Reported → List ℕ) (q : Asked) where
       ∙ ap (λ k. Err (NoWitness k)) u.count
   rounds-without (check proof) i is u = absurd u
 
-  module _ (ring : IsRing q.ops) (offered : IsOffered q.case.problem.basis q.case.problem.order) where
-    -- an answer without a report
-    caused-reply : (e : AuditError) (h' : List Event) → e ≢ NoMemory → refusal_of q ≡ None → IsCaused (refusal_of q) q h' e → refusal_reply e ≡ case_reply lines q
-    caused-reply (Unbuilt Verdict) h' some none cause = lucky-reply ring offered h' none cause
-    caused-reply (InvalidPowWitness i bits) h' some none cause =
-        ap (λ b. refusal_reply (InvalidPowWitness i b)) cause.0 ∙ played-reply (Err (InvalidPowWitness i q.channel.bits)) none (rounds-failing q.case.task i h' cause.1)
-    caused-reply (NoWitness i) h' some none cause = played-reply (Err (NoWitness i)) none (rounds-without q.case.task i refl cause.0)
-    caused-reply NoMemory h' some none cause = absurd (some refl)
-    caused-reply e h' some none cause = refused-reply e cause.0
+  -- an answer without a report
+  caused-reply : (e : AuditError) (h' : List Event) → e ≢ NoMemory → refusal_of q ≡ None → IsCaused (refusal_of q) q h' e → refusal_reply e ≡ case_reply lines q
+  caused-reply (InvalidPowWitness i bits) h' some none cause =
+      ap (λ b. refusal_reply (InvalidPowWitness i b)) cause.0 ∙ played-reply (Err (InvalidPowWitness i q.channel.bits)) none (rounds-failing q.case.task i h' cause.1)
+  caused-reply (NoWitness i) h' some none cause = played-reply (Err (NoWitness i)) none (rounds-without q.case.task i refl cause.0)
+  caused-reply NoMemory h' some none cause = absurd (some refl)
+  caused-reply e h' some none cause = refused-reply e cause.0
 
-    -- the same of a result that is refused wherever there is a refusal
-    told-by : {T : Type 0} (result : Result T AuditError) (first : Option AuditError) (e : AuditError) (h' : List Event) → refusal_of q ≡ first →
-        e ≢ NoMemory → result ≡ Err e → IsRefusedBy first result → IsCaused (refusal_of q) q h' e → refusal_reply e ≡ case_reply lines q
-    told-by result None e h' first some is told cause = caused-reply e h' some first cause
-    told-by result (Some e') e h' first some is told cause = elim told [
-      | inl t ↦ (let same : e ≡ e' = cc (is, t) in ap refusal_reply same ∙ refused-reply e' first)
-      | inr t ↦ (let same : e ≡ NoMemory = cc (is, t) in absurd (some same))
-    ]
+  -- the same of a result that is refused wherever there is a refusal
+  told-by : {T : Type 0} (result : Result T AuditError) (first : Option AuditError) (e : AuditError) (h' : List Event) → refusal_of q ≡ first →
+      e ≢ NoMemory → result ≡ Err e → IsRefusedBy first result → IsCaused (refusal_of q) q h' e → refusal_reply e ≡ case_reply lines q
+  told-by result None e h' first some is told cause = caused-reply e h' some first cause
+  told-by result (Some e') e h' first some is told cause = elim told [
+    | inl t ↦ (let same : e ≡ e' = cc (is, t) in ap refusal_reply same ∙ refused-reply e' first)
+    | inr t ↦ (let same : e ≡ NoMemory = cc (is, t) in absurd (some same))
+  ]
 
-    pub told-reply : {T : Type 0} (result : Result T AuditError) (e : AuditError) (h' : List Event) → e ≢ NoMemory → result ≡ Err e → IsRefusedBy (refusal_of q) result →
-        IsCaused (refusal_of q) q h' e → refusal_reply e ≡ case_reply lines q
-    told-reply result e h' some is told cause = told-by result (refusal_of q) e h' refl some is told cause
+  pub told-reply : {T : Type 0} (result : Result T AuditError) (e : AuditError) (h' : List Event) → e ≢ NoMemory → result ≡ Err e → IsRefusedBy (refusal_of q) result →
+      IsCaused (refusal_of q) q h' e → refusal_reply e ≡ case_reply lines q
+  told-reply result e h' some is told cause = told-by result (refusal_of q) e h' refl some is told cause
 
 -- where there is a report there was no refusal
 pub unrefused : {T : Type 0} (x : T) (result : Result T AuditError) (first : Option AuditError) → result ≡ Ok x → IsRefusedBy first result → first ≡ None

@@ -8,7 +8,7 @@ use Rattle.sc_streams.specs.Faults.{HasRisen}
 use Rattle.sumcheck_run.specs.declared.command.Command.{Command}
 use Rattle.sumcheck_run.specs.declared.command.Command.TheVariants.{Audit, Product, Make}
 use Rattle.sumcheck_replies.specs.declared.reply.Outcome.{Outcome}
-use Rattle.sumcheck_replies.specs.declared.reply.Outcome.TheVariants.{Holds, Refuted, Usage, JobRefused, ProofRefused, NoWitness}
+use Rattle.sumcheck_replies.specs.declared.reply.Outcome.TheVariants.{Holds, Refuted, Lucky, Usage, JobRefused, ProofRefused, NoWitness}
 use Rattle.sumcheck_replies.specs.Reply.{Reply, code_of}
 use Rattle.sumcheck_run.specs.Program.{max_input, too_long, audit_reply, product_reply, json_reply, reads_input, reply_of}
 use Rattle.sumcheck_run.specs.Run.{IsRead, IsAnswered, IsCutShort, IsInput, TellsUsage, WritesReply, Responds}
@@ -90,6 +90,7 @@ ran taken faults command command' reads left left' sink sink' code input is need
 low : (o : Outcome) → code_of o ≤ 5
 low Holds = omega arith
 low Refuted = omega arith
+low Lucky = omega arith
 low Usage = omega arith
 low JobRefused = omega arith
 low ProofRefused = omega arith

@@ -1,4 +1,5 @@
 pub mod Report
+pub mod CertifiedJobs
 pub mod Words
 pub mod Made
 pub mod Values

@@ -178,7 +178,7 @@ fn show_in_short<F: Field, EF: ExtensionField<F>>(
         (report_in F.number EF.number report.now)) }
 {
     let text = summary(alloc, rows, report)?;
-    say_verdict(alloc, text, &report.verdict)
+    say_verdict(text, &report.verdict)
 }
 
 // The lines of a report in short up to the verdict.

@@ -9,12 +9,13 @@ ghost use Rattle.sumcheck_jobs.specs.Job.{JobFits};
 ghost use Rattle.sumcheck_replies.specs.Lines.{round_lines};
 ghost use Rattle.sumcheck_replies.specs.Fields.{Fields, fields_of};
 ghost use Rattle.sumcheck_replies.specs.Refusals.{finding_reply};
+ghost use Rattle.sumcheck_run.specs.CertifiedJobs.{IsCertifiedJob};
 ghost use Rattle.sumcheck_run.specs.Report.{asked_by, case_reply};
 ghost use Rattle.sumcheck_run.specs.Report.{judge, judge_over, report_lines, report_reply};
 
 use crate::asked::audit_job;
 use crate::grids::push_grids;
-use sc_audit::{AuditError, Form, Job as AuditJob, Report, Strategy, Verdict, audit};
+use sc_audit::{Job as AuditJob, Report, Strategy, Verdict, audit};
 use sc_challenger::{Challenger, HashChallenger, ScriptedChallenger};
 use sc_field::{
     ExtensionField, F257, F257x2, F65537, Field, IntoTranscriptField, NoMemory, Poly16, Tower16,
@@ -33,6 +34,10 @@ pub fn judge_job(alloc: Global, job: Job) -> Result<Answer, NoMemory>
     ensures holds { (strategy : Strategy) → job.mode ≡ Mode.Build strategy → let k : Fields = fields_of job.field in
         refusal_of (asked_by k job) ≡ None
         → ((judge job).outcome ≡ Outcome.Holds) ⊎ ((0 < job.bits) × ((judge job).outcome ≡ Outcome.NoWitness)) }
+
+    // A challenge that its report names lucky is certified, and one is named where the residual is
+    // right although a statement is false.
+    ensures certified { IsCertifiedJob job }
 {
     match job.field {
         FieldName::F65537 => judge_in::<F65537, F65537, F65537>(alloc, job),
@@ -95,16 +100,16 @@ pub fn show_report<F: Field, EF: ExtensionField<F>>(
         ≡ report_reply report_lines (report_in F.number EF.number report.now)) }
 {
     let text = report_text(alloc, report)?;
-    say_verdict(alloc, text, &report.verdict)
+    say_verdict(text, &report.verdict)
 }
 
-// The verdict behind a report's lines. What is said of lucky rounds comes later.
-pub(crate) fn say_verdict<F: Field>(
-    alloc: Global,
+// The verdict behind a report's lines.
+pub(crate) fn say_verdict<EF: Field>(
     report: String,
-    verdict: &Verdict<F>,
+    verdict: &Verdict<EF>,
 ) -> Result<Answer, NoMemory>
-    ensures { IfOk result (λ a. a ≡ finding_reply (finding_in verdict.now) (string_bytes report)) }
+    ensures { IfOk result (λ a. a
+        ≡ finding_reply (finding_in EF.number verdict.now) (string_bytes report)) }
 {
     let mut text = report;
     match verdict {
@@ -116,8 +121,17 @@ pub(crate) fn say_verdict<F: Field>(
             lines::push_refuted(&mut text)?;
             Ok(Answer::new(Outcome::Refuted, text))
         }
-        Verdict::LuckyBatch { .. } | Verdict::LuckyRound { .. } => {
-            refuse(alloc, AuditError::Unbuilt(Form::Verdict))
+        Verdict::LuckyBatch { poly, vanishing } => {
+            lines::push_lucky_batch(&mut text, poly.as_slice(), *vanishing)?;
+            Ok(Answer::new(Outcome::Lucky, text))
+        }
+        Verdict::LuckyRound {
+            round,
+            poly,
+            vanishing,
+        } => {
+            lines::push_lucky_round(&mut text, *round, poly.as_slice(), *vanishing)?;
+            Ok(Answer::new(Outcome::Lucky, text))
         }
     }
 }

@@ -4,6 +4,8 @@ mod challengers;
 mod fields;
 mod jobs;
 mod kinds;
+mod lucky;
+mod lucky_products;
 mod made;
 mod products;
 mod refusals;
@@ -182,7 +184,7 @@ fn a_false_claim_is_refuted_unless_the_draw_is_lucky(rt: HostRuntime) {
 }
 
 #[test]
-fn a_lucky_batch_waits_for_its_verdict(rt: HostRuntime) {
+fn a_lucky_batch_is_named(rt: HostRuntime) {
     assert_cases(&rt, rt.alloc(), &BATCH);
 }
 

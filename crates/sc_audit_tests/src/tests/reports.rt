@@ -1,10 +1,10 @@
 //! Rounds that are built or checked.
 use super::seventeen::F17;
 use super::{
-    Case, Figures, Lists, ONE_ROUND, PREFIX, TWO_TESTED_ROUNDS, Task, assert_all, assert_audit,
-    challenger, job,
+    Case, Figures, Finding, Lists, ONE_ROUND, PREFIX, TWO_TESTED_ROUNDS, Task, assert_all,
+    assert_audit, challenger, job,
 };
-use sc_audit::{AuditError, FitFault, Form, Mode, Strategy, audit};
+use sc_audit::{AuditError, FitFault, Mode, Strategy, audit};
 use sc_challenger::ScriptedChallenger;
 use sc_definitions::Event::{Draw, Test, Word};
 use sc_field::{F65537, Field};
@@ -25,14 +25,14 @@ pub(super) const SUFFIX: Case = Case {
         residual: 12,
         eval: 14,
         weight: 13,
-        holds: true,
+        finding: Finding::Holds,
     }),
     events: &[Word(2), Word(13), Draw, Word(9), Word(3), Draw],
     ..PREFIX
 };
 
 // Over the integers modulo 65537.
-const LARGE_PREFIX: Case = Case {
+pub(super) const LARGE_PREFIX: Case = Case {
     name: "prefix order modulo 65537",
     table: &[1, 2, 3, 4],
     claims: &[(&[0, 1], 2)],
@@ -46,13 +46,13 @@ const LARGE_PREFIX: Case = Case {
         residual: 65449,
         eval: 11,
         weight: 65529,
-        holds: true,
+        finding: Finding::Holds,
     }),
     events: &[Word(2), Word(65535), Draw, Word(0), Word(65535), Draw],
     ..PREFIX
 };
 
-const LARGE_SUFFIX: Case = Case {
+pub(super) const LARGE_SUFFIX: Case = Case {
     name: "suffix order modulo 65537",
     order: VariableOrder::Suffix,
     answer: Ok(Figures {
@@ -63,7 +63,7 @@ const LARGE_SUFFIX: Case = Case {
         residual: 65429,
         eval: 12,
         weight: 65528,
-        holds: true,
+        finding: Finding::Holds,
     }),
     events: &[Word(0), Word(1), Draw, Word(12), Word(65531), Draw],
     ..LARGE_PREFIX
@@ -82,7 +82,7 @@ const TESTED: Case = Case {
         residual: 7,
         eval: 10,
         weight: 16,
-        holds: true,
+        finding: Finding::Holds,
     }),
     seed: &TWO_TESTED_ROUNDS,
     events: &[
@@ -176,7 +176,7 @@ const ALTERED_FIRST: Case = Case {
         residual: 15,
         eval: 10,
         weight: 16,
-        holds: false,
+        finding: Finding::Refuted,
     }),
     events: &[Word(4), Word(7), Draw, Word(5), Word(11), Draw],
     ..PREFIX
@@ -193,7 +193,7 @@ const ALTERED_LAST: Case = Case {
         residual: 8,
         eval: 14,
         weight: 13,
-        holds: false,
+        finding: Finding::Refuted,
     }),
     events: &[Word(2), Word(13), Draw, Word(9), Word(4), Draw],
     ..SUFFIX
@@ -210,7 +210,7 @@ const ALTERED_TESTED: Case = Case {
         residual: 16,
         eval: 10,
         weight: 16,
-        holds: false,
+        finding: Finding::Refuted,
     }),
     events: &[
         Word(15),
@@ -227,8 +227,9 @@ const ALTERED_TESTED: Case = Case {
     ..TESTED
 };
 
-// A false claim over the integers modulo 65537, and a round under which the residual is right at the challenge 2.
-const LUCKY_ROUND: Case = Case {
+// A false claim over the integers modulo 65537, and a round under which the residual is right at
+// the challenge 2: what it sends, 5 - 6 X + X^2, less the true 1 - X^2 is 2 (X - 1) (X - 2).
+pub(super) const LUCKY_ROUND: Case = Case {
     name: "a round that made a false claim true",
     table: &[1, 2],
     variables: 1,
@@ -236,7 +237,16 @@ const LUCKY_ROUND: Case = Case {
     batching: 1,
     task: Task::Check(&[(5, 1)], &[]),
     draws: &[2],
-    answer: Err(AuditError::Unbuilt(Form::Verdict)),
+    answer: Ok(Figures {
+        claim: 5,
+        rounds: &[(5, 1)],
+        witnesses: &[],
+        challenges: &[2],
+        residual: 65534,
+        eval: 3,
+        weight: 65536,
+        finding: Finding::LuckyRound(0, &[4, 65531, 2], 2),
+    }),
     seed: &ONE_ROUND,
     events: &[Word(5), Word(1), Draw],
     ..LARGE_PREFIX
@@ -253,18 +263,29 @@ const UNLUCKY_ROUND: Case = Case {
         residual: 65533,
         eval: 4,
         weight: 65535,
-        holds: false,
+        finding: Finding::Refuted,
     }),
     ..LUCKY_ROUND
 };
 
-// Two false claims whose batch is true under the challenge 3, and the round of an honest prover.
-const LUCKY_BATCH: Case = Case {
+// Two false claims whose batch is true under the challenge 3, and the round of an honest prover:
+// one claims 3 more than the true value and the other 1 less, which makes 3 - X.
+pub(super) const LUCKY_BATCH: Case = Case {
     name: "two false claims whose batch is true",
     claims: &[(&[0], 4), (&[1], 1)],
     batching: 3,
     task: Task::Check(&[(1, 2)], &[]),
     draws: &[5],
+    answer: Ok(Figures {
+        claim: 7,
+        rounds: &[(1, 2)],
+        witnesses: &[],
+        challenges: &[5],
+        residual: 66,
+        eval: 6,
+        weight: 11,
+        finding: Finding::LuckyBatch(&[3, 65536], 1),
+    }),
     events: &[Word(1), Word(2), Draw],
     ..LUCKY_ROUND
 };
@@ -280,7 +301,7 @@ const UNLUCKY_BATCH: Case = Case {
         residual: 71,
         eval: 6,
         weight: 16,
-        holds: false,
+        finding: Finding::Refuted,
     }),
     ..LUCKY_BATCH
 };
@@ -300,14 +321,14 @@ const POINT: Case = Case {
         residual: 7,
         eval: 7,
         weight: 1,
-        holds: true,
+        finding: Finding::Holds,
     }),
     seed: &[],
     events: &[],
     ..PREFIX
 };
 
-static POINTS: [Case; 9] = [
+static POINTS: [Case; 10] = [
     POINT,
     Case {
         name: "no proof behind a history",
@@ -354,7 +375,23 @@ static POINTS: [Case; 9] = [
             residual: 6,
             eval: 7,
             weight: 1,
-            holds: false,
+            finding: Finding::Refuted,
+        }),
+        ..POINT
+    },
+    Case {
+        name: "two false claims whose batch is true",
+        claims: &[(&[], 6), (&[], 6)],
+        batching: 16,
+        answer: Ok(Figures {
+            claim: 0,
+            rounds: &[],
+            witnesses: &[],
+            challenges: &[],
+            residual: 0,
+            eval: 7,
+            weight: 0,
+            finding: Finding::LuckyBatch(&[16, 16], 1),
         }),
         ..POINT
     },
@@ -395,7 +432,7 @@ const OTHER_WITNESS: Case = Case {
         residual: 7,
         eval: 10,
         weight: 16,
-        holds: true,
+        finding: Finding::Holds,
     }),
     events: &[
         Word(15),
@@ -528,7 +565,7 @@ fn altered_rounds_are_refuted(rt: HostRuntime) {
 }
 
 #[test]
-fn a_lucky_challenge_has_no_verdict_yet(rt: HostRuntime) {
+fn a_lucky_challenge_is_named_with_what_shows_it(rt: HostRuntime) {
     assert_all::<F65537, HostRuntime>(&rt, &LUCKY);
 }
 

@@ -1,6 +1,6 @@
 //! Small-value rounds of statements on values through the successor map.
 use super::seventeen::F17;
-use super::{Case, Figures, Last, PREFIX, Task, assert_all};
+use super::{Case, Figures, Finding, Last, PREFIX, Task, assert_all};
 use sc_audit::{AuditError, FitFault, Strategy};
 use sc_definitions::Event::{Draw, Word};
 use sc_field::F65537;
@@ -22,7 +22,7 @@ const ALONE: Case = Case {
         residual: 385,
         eval: 11,
         weight: 35,
-        holds: true,
+        finding: Finding::Holds,
     }),
     events: &[Word(4), Word(65531), Draw, Word(65474), Word(11), Draw],
     ..PREFIX
@@ -39,7 +39,7 @@ const ALONE_SUFFIX: Case = Case {
         residual: 360,
         eval: 12,
         weight: 30,
-        holds: true,
+        finding: Finding::Holds,
     }),
     events: &[Word(65528), Word(7), Draw, Word(24), Word(12), Draw],
     ..ALONE
@@ -83,7 +83,7 @@ const MIXED: Case = Case {
         residual: 10,
         eval: 10,
         weight: 1,
-        holds: true,
+        finding: Finding::Holds,
     }),
     events: &[Word(8), Word(7), Draw, Word(9), Word(15), Draw],
     ..PREFIX
@@ -100,7 +100,7 @@ const MIXED_SUFFIX: Case = Case {
         residual: 2,
         eval: 14,
         weight: 5,
-        holds: true,
+        finding: Finding::Holds,
     }),
     events: &[Word(8), Word(0), Draw, Word(2), Word(16), Draw],
     ..MIXED

@@ -1,7 +1,7 @@
 //! What each refusal says.
-use sc_audit::{AuditError, FitFault, Form, ShapeFault};
+use sc_audit::{AuditError, FitFault, ShapeFault};
 
-static TEXTS: [(AuditError, &str); 14] = [
+static TEXTS: [(AuditError, &str); 13] = [
     (
         AuditError::JobShape(ShapeFault::TableLength { len: 3 }),
         "the job's shape is refused: a table of 3 entries is none of 2^n entries with n at most 24",
@@ -73,10 +73,6 @@ static TEXTS: [(AuditError, &str); 14] = [
         "no witness passes in round 7",
     ),
     (AuditError::NoMemory, "out of memory"),
-    (
-        AuditError::Unbuilt(Form::Verdict),
-        "the job asks for what is not built yet: the verdict",
-    ),
 ];
 
 #[test]

@@ -208,10 +208,31 @@ pub(super) static DRAWS_OF_A_FALSE_CLAIM: [Changed; 2] = [
         1,
         "claim 5\nround 0: 5 1 challenge 3\nresidual 65533\neval 4\nweight 65535\nverdict refuted\n",
     ),
-    (LUCKY, ("DRAW", "2"), 3, "refused unbuilt verdict\n"),
+    (
+        LUCKY,
+        ("DRAW", "2"),
+        1,
+        "claim 5
+round 0: 5 1 challenge 2
+residual 65534
+eval 3
+weight 65536
+verdict lucky-round 0 vanishing 2 poly 4 65531 2
+",
+    ),
 ];
 
-pub(super) static BATCH: [Case; 1] = [(LUCKY_BATCH, 3, "refused unbuilt verdict\n")];
+pub(super) static BATCH: [Case; 1] = [(
+    LUCKY_BATCH,
+    1,
+    "claim 7
+round 0: 1 2 challenge 5
+residual 66
+eval 6
+weight 11
+verdict lucky-batch vanishing 1 poly 3 65536
+",
+)];
 
 // Lists of fewer draws than rounds.
 pub(super) static FEW_DRAWS: [Changed; 2] = [

@@ -1,4 +1,5 @@
 // Rounds over products of tables: the text and the status that `product` answers.
+use super::lucky_products::LUCKY;
 use super::{Case, Changed, assert_written, change, code_of, sink_with};
 use std::alloc::Global;
 use std::process::Abort;
@@ -204,8 +205,13 @@ static CHANGED: [Changed; 38] = [
             BUILD,
             r#"{"check":{"claimed":20,"rounds":[[8,18]],"witnesses":[]}}"#,
         ),
-        3,
-        "refused unbuilt verdict\n",
+        1,
+        "claim 20
+round 0: 8 18 challenge 5
+residual 48
+product 48
+verdict lucky-round 0 vanishing 1 poly 5 65536 0
+",
     ),
     // rounds of other widths
     (
@@ -522,6 +528,13 @@ fn the_first_product(rt: HostRuntime) {
 #[test]
 fn products_of_several_tables(rt: HostRuntime) {
     for (job, code, text) in &BUILDS {
+        assert_product(&rt, rt.alloc(), *job, *code, *text);
+    }
+}
+
+#[test]
+fn products_that_a_challenge_lets_through(rt: HostRuntime) {
+    for (job, code, text) in &LUCKY {
         assert_product(&rt, rt.alloc(), *job, *code, *text);
     }
 }

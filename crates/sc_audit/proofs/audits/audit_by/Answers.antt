@@ -6,6 +6,7 @@ use Rattle.sc_audit.specs.Refusals.{task_refusal}
 use Rattle.sc_audit.specs.SmallRounds.{strategy_by}
 use Rattle.sc_audit.proofs.StatedLaws.{given-way, way-unrefused}
 use Rattle.sc_audit.proofs.CauseLaws.{unrefused, answers_as, refused_by_name, no_earlier, shape_as, valid_answered}
+use Rattle.sc_audit.proofs.Certified.{claimed-low, proof_pairs, certified_answer, held_figures, unheld}
 use Rattle.sc_audit.proofs.audits.audit_by.Goals as goal
 
 -- a way that is given is that of the job's build, of which nothing is refused
@@ -107,3 +108,32 @@ pub returns-in-Check-clause-answered : goal.returns-in-Check-clause-answered
 returns-in-Check-clause-answered g c = λ valid.
     let q = asked_of c.args.job.now (g.C.Challenger.rules c.args.challenger.now) (g.C.Challenger.history c.args.challenger.now) in
     valid_answered g.F.Field.number g.EF.Field.number q c.check.result _ (returns-in-Check-clause-answers g c) valid
+
+pub returns-in-Some-clause-certified : goal.returns-in-Some-clause-certified
+returns-in-Some-clause-certified g c =
+    let B = g.F.Field.number in
+    let N = g.EF.Field.number in
+    let job = c.args.job.now in
+    let way = c.in-Some.way in
+    let given = given-way job _ way c.in-Some.is c.requires in
+    let q = asked_of job (g.C.Challenger.rules c.args.challenger.now) (g.C.Challenger.history c.args.challenger.now) in
+    certified_answer q g.met.EF.Field.is_field tt (claimed-low _ N _ g.met.EF.Field.number_below job.constraint.statements.items) B N _ c.play.result _ (build (strategy_by way))
+    (ap (task_in B N) given.mode) (returns-in-Some-clause-answers g c) (held_figures B N (strategy_by way) c.play.result c.play.ensures.holds) tt
+
+pub returns-in-None-clause-certified : goal.returns-in-None-clause-certified
+returns-in-None-clause-certified g c =
+    let B = g.F.Field.number in
+    let N = g.EF.Field.number in
+    let job = c.args.job.now in
+    let q = asked_of job (g.C.Challenger.rules c.args.challenger.now) (g.C.Challenger.history c.args.challenger.now) in
+    certified_answer q g.met.EF.Field.is_field tt (claimed-low _ N _ g.met.EF.Field.number_below job.constraint.statements.items) B N _ c.build.result _ (build c.in-Build.strategy)
+    (ap (task_in B N) c.in-Build.is) (returns-in-None-clause-answers g c) (held_figures B N c.in-Build.strategy c.build.result c.build.ensures.holds) tt
+
+pub returns-in-Check-clause-certified : goal.returns-in-Check-clause-certified
+returns-in-Check-clause-certified g c =
+    let B = g.F.Field.number in
+    let N = g.EF.Field.number in
+    let job = c.args.job.now in
+    let q = asked_of job (g.C.Challenger.rules c.args.challenger.now) (g.C.Challenger.history c.args.challenger.now) in
+    certified_answer q g.met.EF.Field.is_field tt (claimed-low _ N _ g.met.EF.Field.number_below job.constraint.statements.items) B N _ c.check.result _ (check (option_map (given_in B N) c.in-Check.proof))
+    (ap (task_in B N) c.in-Check.is) (returns-in-Check-clause-answers g c) (unheld B N (option_map (given_in B N) c.in-Check.proof) c.check.result) (proof_pairs B N c.in-Check.proof)

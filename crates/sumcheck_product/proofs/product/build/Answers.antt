@@ -1,10 +1,10 @@
-use Rattle.std.proofs.Common.{map, ◌∙◌, ap, subst}
+use Rattle.std.proofs.Common.{None, map, ◌∙◌, ap, subst}
 use Rattle.std.proofs.lemmas.Result.{IfOk-weaker}
 use Rattle.sc_definitions.specs.Channels.{Footing, channel, footing}
 use Rattle.sc_degree.specs.Proofs.{Replay, wire_in, IsReplayedTo}
 use Rattle.sc_degree.specs.Products.{tables_of, arity_of}
-use Rattle.sumcheck_product.specs.Products.{ProductCase, ProductFigures, case_over, figures_reply}
-use Rattle.sumcheck_product.proofs.ProductReplies.{replay-is, built-shown}
+use Rattle.sumcheck_product.specs.Products.{ProductCase, ProductFigures, case_over, shown_reply}
+use Rattle.sumcheck_product.proofs.ProductReplies.{replay-is, built-shown, figures-shown}
 use Rattle.sumcheck_product.proofs.product.build.Goals as goal
 
 -- what was built is replayed
@@ -29,6 +29,7 @@ returns-in-Ok-verify g c =
       product = N built.product;
     } in
     IfOk-weaker c.show.result _ _
-    (λ a e. e ∙ ap (λ s. figures_reply s figures) c.sum-sum.ensures
+    (λ a e. e ∙ ap (λ s. shown_reply s None figures) c.sum-sum.ensures
+    ∙ figures-shown q figures None (λ other. absurd (other c.in-Ok.ensures.claim))
     ∙ built-shown q (N built.proof.claimed_sum) (N built.product) (N c.in-Ok-verify.residual) came rs _ c.in-Ok.ensures replayed)
     c.show.ensures

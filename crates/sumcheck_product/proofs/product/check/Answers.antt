@@ -1,18 +1,21 @@
-use Rattle.std.proofs.Common.{◌≡◌, Err, length, map, sym, ◌∙◌, ap, subst}
+use Rattle.std.proofs.Common.{◌≡◌, ◌≢◌, Err, [], length, map, sym, ◌∙◌, ap, subst}
+use Rattle.std.specs.Prelude.{option_map}
 use Rattle.std.proofs.lemmas.Result.{IfOk-weaker}
 use Rattle.std.proofs.lemmas.List.{length-map}
 use Rattle.sc_definitions.specs.Channels.{Footing, channel, footing}
 use Rattle.sc_definitions.specs.Products.{values_product}
+use Rattle.sc_definitions.specs.Lucky.{first_turn, product_course}
 use Rattle.sc_degree.specs.Proofs.{Replay, wire_in, IsCounted, IsReplayedTo, LeavesReplay}
 use Rattle.sc_degree.specs.Products.{tables_of, arity_of}
+use Rattle.sc_degree.specs.Turns.{turn_in}
 use Rattle.sumcheck_jobs.specs.declared.product.ProductProof.{ProductProof}
-use Rattle.sumcheck_product.specs.Products.{ProductCase, ProductFigures, case_over, given_proof, figures_reply}
-use Rattle.sumcheck_product.proofs.ProductReplies.{replay-is, given-count, given-shown, given-refused}
+use Rattle.sumcheck_product.specs.Products.{ProductCase, ProductFigures, case_over, true_sum, given_proof, product_luck, luck_found, shown_reply}
+use Rattle.sumcheck_product.proofs.ProductReplies.{replay-is, first-luck, figures-shown, given-count, given-wide, given-shown, given-refused, wide_items}
 use Rattle.sumcheck_product.proofs.product.check.Goals as goal
 
 -- there are as many challenges as variables
-pub value_at-product-requires : goal.value_at-product-requires
-value_at-product-requires g c =
+pub end_at-requires-clause-challenges : goal.end_at-requires-clause-challenges
+end_at-requires-clause-challenges g c =
     let B = g.F.Field.number in
     let N = g.EF.Field.number in
     let q : ProductCase = case_over g.EF.Field.ops (tables_of N c.args.product) (arity_of c.args.product)
@@ -25,9 +28,19 @@ value_at-product-requires g c =
     ∙ given-count q p rs end (subst IsCounted same c.in-Ok.ensures.left.0)
     (subst (λ (t : Replay). IsReplayedTo t t.shape.num_rounds rs end) same c.in-Ok.ensures.left.1)
 
--- a proof that was replayed
-pub returns-in-Ok : goal.returns-in-Ok
-returns-in-Ok g c =
+-- as many rounds
+pub end_at-requires-clause-messages : goal.end_at-requires-clause-messages
+end_at-requires-clause-messages g c =
+    let B = g.F.Field.number in
+    let N = g.EF.Field.number in
+    let q : ProductCase = case_over g.EF.Field.ops (tables_of N c.args.product) (arity_of c.args.product)
+    (channel (g.C.Challenger.rules c.args.challenger.now) g.EF.ExtensionField.extension g.F.Field.ops.size c.args.pow_bits) (g.C.Challenger.history c.args.challenger.now) in
+    let same = replay-is q _ _ (N c.args.proof.claimed_sum) (wire_in B N c.args.proof) c.num_variables-variables.ensures c.degree-degree.ensures in
+    sym (length-map c.args.proof.round_polys.items (λ v. map N v.items)) ∙ (subst IsCounted same c.in-Ok.ensures.left.0).rounds
+
+-- each of them with as many values as there are tables
+pub end_at-requires-clause-widths : goal.end_at-requires-clause-widths
+end_at-requires-clause-widths g c =
     let B = g.F.Field.number in
     let N = g.EF.Field.number in
     let q : ProductCase = case_over g.EF.Field.ops (tables_of N c.args.product) (arity_of c.args.product)
@@ -36,19 +49,40 @@ returns-in-Ok g c =
     let rs = map N c.in-Ok.challenges in
     let end : Footing = footing (g.C.Challenger.history c.verify.new.challenger) (N c.in-Ok.residual) in
     let same = replay-is q _ _ p.claimed (wire_in B N c.args.proof) c.num_variables-variables.ensures c.degree-degree.ensures in
-    let value : N c.value_at-product.result ≡ values_product q.ops q.tables rs =
-    c.value_at-product.ensures ∙ ap (λ xs. values_product q.ops q.tables (map N xs)) c.as_slice.ensures in
+    wide_items N (length q.tables) c.args.proof.round_polys.items
+    (given-wide q p rs end (subst IsCounted same c.in-Ok.ensures.left.0)
+    (subst (λ (t : Replay). IsReplayedTo t t.shape.num_rounds rs end) same c.in-Ok.ensures.left.1))
+
+-- a proof that was replayed
+pub returns-in_ok-product-in-Ok : goal.returns-in_ok-product-in-Ok
+returns-in_ok-product-in-Ok g c =
+    let B = g.F.Field.number in
+    let N = g.EF.Field.number in
+    let q : ProductCase = case_over g.EF.Field.ops (tables_of N c.args.product) (arity_of c.args.product)
+    (channel (g.C.Challenger.rules c.args.challenger.now) g.EF.ExtensionField.extension g.F.Field.ops.size c.args.pow_bits) (g.C.Challenger.history c.args.challenger.now) in
+    let p : ProductProof = given_proof B N c.args.proof in
+    let rs = map N c.in-Ok.challenges in
+    let end : Footing = footing (g.C.Challenger.history c.verify.new.challenger) (N c.in-Ok.residual) in
+    let same = replay-is q _ _ p.claimed (wire_in B N c.args.proof) c.num_variables-variables.ensures c.degree-degree.ensures in
+    let value : N c.in_ok-product-in-Ok.product ≡ values_product q.ops q.tables rs =
+    c.in_ok-product-in-Ok.ensures.product ∙ ap (λ xs. values_product q.ops q.tables (map N xs)) c.as_slice.ensures in
     let figures : ProductFigures = record {
       claimed = p.claimed;
       messages = p.rounds;
       witnesses = p.witnesses;
       challenges = rs;
       residual = N c.in-Ok.residual;
-      product = N c.value_at-product.result;
+      product = N c.in_ok-product-in-Ok.product;
     } in
+    let luck = luck_found q.ops N c.in_ok-product-in-Ok.turn in
+    let first : p.claimed ≢ true_sum q → luck ≡ product_luck q figures =
+    λ other.
+    first-luck q figures (option_map (turn_in N) c.in_ok-product-in-Ok.turn)
+    (c.in_ok-product-in-Ok.ensures.turn (λ e. other (e ∙ c.sum-sum.ensures))
+    ∙ ap (λ xs. first_turn (product_course q.ops q.tables) 0 p.claimed p.rounds [] (map N xs)) c.as_slice.ensures) in
     IfOk-weaker c.show.result _ _
-    (λ a e. e ∙ ap (λ s. figures_reply s figures) c.sum-sum.ensures
-    ∙ given-shown q p (N c.in-Ok.residual) (N c.value_at-product.result) rs _ (subst IsCounted same c.in-Ok.ensures.left.0)
+    (λ a e. e ∙ ap (λ s. shown_reply s luck figures) c.sum-sum.ensures ∙ figures-shown q figures luck first
+    ∙ given-shown q p (N c.in-Ok.residual) (N c.in_ok-product-in-Ok.product) rs _ (subst IsCounted same c.in-Ok.ensures.left.0)
     (subst (λ (t : Replay). IsReplayedTo t t.shape.num_rounds rs end) same c.in-Ok.ensures.left.1) value)
     c.show.ensures
 

@@ -31,6 +31,6 @@ returns-in-Err g c =
     let q = asked_of job R H in
     let lines = summary_lines c.args.rows 2 g.EF.Field.ops in
     IfOk-weaker c.refuse.result _ _
-    (λ a e. e.0 ∙ told-reply lines q g.met.EF.Field.is_field.ring tt c.audit_true.result _ _ e.1 c.in-Err.is call.refused c.in-Err.ensures.answers
+    (λ a e. e.0 ∙ told-reply lines q c.audit_true.result _ _ e.1 c.in-Err.is call.refused c.in-Err.ensures.answers
     ∙ ap (case_reply lines) (asked-stated c.args.job.now job R H c.audit_true.result call.kept c.requires (λ none. e.1 (cc (c.in-Err.is, none))) call.stated))
     c.refuse.ensures

@@ -18,5 +18,5 @@ pub returns-in-Err : goal.returns-in-Err
 returns-in-Err g c =
     let q = asked_of c.args.asked.now (g.C.Challenger.rules c.args.challenger.now) (g.C.Challenger.history c.args.challenger.now) in
     IfOk-weaker c.refuse.result _ _
-    (λ a e. e.0 ∙ told-reply report_lines q g.met.EF.Field.is_field.ring tt c.audit.result _ _ e.1 c.in-Err.is c.audit.ensures.refused c.in-Err.ensures.answers)
+    (λ a e. e.0 ∙ told-reply report_lines q c.audit.result _ _ e.1 c.in-Err.is c.audit.ensures.refused c.in-Err.ensures.answers)
     c.refuse.ensures
