@@ -47,6 +47,7 @@ def compare(programs, word, path, repeats, folder):
         ratios = "  ".join(f"{a / b:.2f}" for a, b in zip(m, medians[-1]))
         print(f"{program[-39:]:40}{m[0] * 1e3:>10.1f}{m[1] * 1e3:>10.1f}{m[2]:>10.1f}   x {ratios}")
     for status, text in answers:
-        print(f"status {status}, {text.splitlines()[-1].decode() if text else 'nothing written'}")
+        last = text.splitlines()[-1].decode() if text else "nothing written"
+        print(f"status {status}, {last if len(last) < 100 else last[:96] + ' ...'}")
     if len(answers) != 1:
         sys.exit("the programs' answers differ")
