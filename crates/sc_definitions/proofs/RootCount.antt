@@ -95,14 +95,18 @@ module _ (o : Ops) (ring : IsRing o) where
   roots-take k cs (r ∷ rs) h roots = (roots.0, poly_at-take k cs r h ∙ roots.1, roots.2, roots-take k cs rs h roots.3)
 
 module _ (o : Ops) (field : IsField o) where
-  -- with k roots or more and no coefficient past the first k, a polynomial is zero
+  -- with k listed roots or more and no coefficient past the first k, a polynomial is zero
+  zero-from_listed : (k : ℕ) (cs rs : List ℕ) → AllZero o (drop k cs) → AreRoots o cs rs → k ≤ length rs → AllZero o cs
+  zero-from_listed k cs rs h listed many =
+      let enough : length (take k cs) ≤ length rs = omega (arith, length-take_most o field.ring k cs, many) in
+      zero-from_take o field.ring k cs
+      (zero-from_roots o field rs (take k cs) enough (roots-take o field.ring k cs rs h listed)) h
+
+  -- the same of all elements that are roots
   pub zero-from_count : (k : ℕ) (cs : List ℕ) → AllZero o (drop k cs) → k ≤ root_count o cs → AllZero o cs
   unfolding root_count roots_below
   zero-from_count k cs h many =
-      let rs = roots o cs o.size in
-      let enough : length (take k cs) ≤ length rs = omega (arith, length-take_most o field.ring k cs, length-roots o cs o.size) in
-      zero-from_take o field.ring k cs
-      (zero-from_roots o field rs (take k cs) enough (roots-take o field.ring k cs rs h (are_roots o cs o.size (omega arith)))) h
+      zero-from_listed k cs (roots o cs o.size) h (are_roots o cs o.size (omega arith)) (omega (arith, many, length-roots o cs o.size))
 
   place-not_zero : (cs : List ℕ) (p : ℕ) → AllZero o cs → element o (slice_index cs p) ≡ 0
   place-not_zero [] p h = element-zero o field.ring
@@ -114,6 +118,13 @@ module _ (o : Ops) (field : IsField o) where
       (λ small. omega arith)
       (λ many. absurd (last.there (place-not_zero cs p (zero-from_count (suc p) cs last.none_after many))))
       (cases_lt (root_count o cs) (suc p))
+
+  -- different roots are no more than the degree
+  pub roots_are_few : (cs rs : List ℕ) (p : ℕ) → IsLastPlace o cs p → AreRoots o cs rs → length rs ≤ p
+  roots_are_few cs rs p last listed = ⊎_elim
+      (λ small. omega arith)
+      (λ many. absurd (last.there (place-not_zero cs p (zero-from_listed (suc p) cs rs last.none_after listed many))))
+      (cases_lt (length rs) (suc p))
 
   -- every root is an element for a zero polynomial; one that is not zero has fewer roots than coefficients
   pub root_count-few : (cs : List ℕ) → (AllZero o cs → ⊥) → root_count o cs < length cs

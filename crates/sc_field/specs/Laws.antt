@@ -1,9 +1,10 @@
 -- Laws of sums and powers in a ring.
-use Rattle.std.specs.Prelude.{◌≡◌, ℕ, ◌+◌, ◌<◌, List, [], ◌∷◌, length, map, All}
+use Rattle.std.specs.Prelude.{◌≡◌, ℕ, ◌+◌, ◌<◌, ◌≤◌, List, [], ◌∷◌, length, map, All}
 use Rattle.std.specs.Iterator.{Yields}
 use Rattle.sc_definitions.specs.Ring.{Ops, ◌+⟨◌⟩◌, ◌*⟨◌⟩◌, power}
 use Rattle.sc_definitions.specs.Tables.{sum_below}
-use Rattle.sc_definitions.specs.Polynomials.{poly_at, IsNoneOf}
+use Rattle.sc_definitions.specs.Polynomials.{poly_at, IsNoneOf, AreRoots}
+use Rattle.sc_definitions.specs.Roots.{IsLastPlace}
 use Rattle.sc_field.specs.declared.powers.Powers.{Powers}
 use Rattle.sc_field.specs.Powers.{base_of, start_of, GivesPower, ArePowers}
 
@@ -60,3 +61,7 @@ abbrev pub InterpolationIsUnique : Ops → Type 0
 InterpolationIsUnique o =
     (nodes cs ds : List ℕ) → AreNodes o nodes → length cs ≡ length nodes → length ds ≡ length nodes →
     All (λ c. c < o.size) cs → All (λ d. d < o.size) ds → AgreeAt o cs ds nodes → cs ≡ ds
+
+-- different roots of a polynomial are no more than its degree, the place of its last coefficient that is not zero
+abbrev pub RootsAreFew : Ops → Type 0
+RootsAreFew o = (cs rs : List ℕ) (degree : ℕ) → IsLastPlace o cs degree → AreRoots o cs rs → length rs ≤ degree

@@ -3,7 +3,7 @@ ghost use Rattle.std.specs.Prelude.{◌≡◌, ◌<◌, ◌≤◌, ◌^◌};
 ghost use Rattle.sc_definitions.specs.Ring.{IsField};
 ghost use Rattle.sc_field.specs.Laws.{SumsSplit, SumsAdd, SumsExchange, FactorMovesIn, PowerOfNone};
 ghost use Rattle.sc_field.specs.Laws.{PowersSplit, PowerOfProduct, ItemsArePowers};
-ghost use Rattle.sc_field.specs.Laws.{InterpolationIsUnique};
+ghost use Rattle.sc_field.specs.Laws.{InterpolationIsUnique, RootsAreFew};
 
 use crate::field::Field;
 pub use crate::roots::{count_roots, poly_at};
@@ -35,4 +35,9 @@ pub fn power_laws<F: Field>()
 /// A polynomial of degree at most d is determined by its values at d + 1 different nodes.
 pub fn interpolation_laws<F: Field>()
     ensures unique { InterpolationIsUnique F.ops }
+{}
+
+/// A polynomial that is not zero has no more different roots than its degree.
+pub fn root_laws<F: Field>()
+    ensures few { RootsAreFew F.ops }
 {}

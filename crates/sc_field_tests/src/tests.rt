@@ -10,7 +10,7 @@ mod roots;
 mod sixteen;
 mod sums;
 
-use sc_field::laws::{field_laws, interpolation_laws, power_laws, sum_laws};
+use sc_field::laws::{field_laws, interpolation_laws, power_laws, root_laws, sum_laws};
 use sc_field::{Algebra, ExtensionField, F65537, Field, FromTable, IntoTranscriptField, NoMemory};
 use std::alloc::Global;
 
@@ -106,4 +106,5 @@ fn laws_are_calls(_rt: HostRuntime) {
     sum_laws::<F65537>();
     power_laws::<F65537>();
     interpolation_laws::<F65537>();
+    root_laws::<F65537>();
 }
