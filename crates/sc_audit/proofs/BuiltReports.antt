@@ -29,13 +29,15 @@ use Rattle.sc_table.specs.declared.strategy.Basis.TheVariants.{Evaluation}
 use Rattle.sc_transcript.specs.Shapes.{shape_of}
 use Rattle.sc_rounds.specs.Provers.{Shown, setting_at, standing_at}
 use Rattle.sc_rounds.specs.Standings.{Batch, batch_at, PlaysWhole, BreaksOff}
-use Rattle.sc_rounds.proofs.InStep.{given_played, count_witnesses, none_failing}
+use Rattle.sc_transcript.proofs.GivenRounds.{given_played, count_witnesses}
+use Rattle.sc_rounds.proofs.InStep.{none_failing}
 use Rattle.sc_table.specs.declared.strategy.Strategy.{Strategy}
 use Rattle.sc_audit.specs.Cases.{build, Asked, with_task, start_of}
-use Rattle.sc_audit.specs.Figures.{holds, finding_by, false_claim_of, is_matched}
+use Rattle.sc_verdicts.specs.Findings.{holds}
+use Rattle.sc_audit.specs.Figures.{finding_by, false_claim_of, is_matched}
 use Rattle.sc_audit.specs.Audits.{IsAudited, BuildStops, IsCaused, grids_for, refusal_by}
 use Rattle.sc_audit.specs.Built.{as_build, prover_for, Kept, IsBuiltCase, LeavesBuild}
-use Rattle.sc_audit.specs.declared.error.AuditError.{AuditError}
+use Rattle.sc_verdicts.specs.declared.error.AuditError.{AuditError}
 use Rattle.sc_audit.proofs.FigureLaws.{figures-are}
 
 -- the numbers of a list of one

@@ -12,22 +12,12 @@ use Rattle.sc_definitions.specs.Transcript.{Round, round_events, rounds_events}
 use Rattle.sc_definitions.specs.Replays.{round_passes, AllPass, given_rounds}
 use Rattle.sc_svo.specs.Grids.{most_rounds}
 use Rattle.sc_audit.specs.declared.report.Report.{Report}
-use Rattle.sc_audit.specs.declared.error.AuditError.{AuditError}
-use Rattle.sc_audit.specs.declared.error.AuditError.TheVariants.{StrategyUnfit, NoWitness, InvalidPowWitness, NoMemory}
-use Rattle.sc_audit.specs.declared.error.FitFault.TheVariants.{Variables}
+use Rattle.sc_verdicts.specs.declared.error.AuditError.{AuditError}
+use Rattle.sc_verdicts.specs.declared.error.AuditError.TheVariants.{StrategyUnfit, NoWitness, InvalidPowWitness, NoMemory}
+use Rattle.sc_verdicts.specs.declared.error.FitFault.TheVariants.{Variables}
 use Rattle.sc_audit.specs.Cases.{Task, build, check, Asked, start_of}
-use Rattle.sc_audit.specs.Refusals.{
-  arity_of,
-  shape_by,
-  or_later,
-  variables_refusal,
-  unfit,
-  first_unfit,
-  strategy_refusal,
-  shape_refusal,
-  task_refusal,
-  refusal_of,
-}
+use Rattle.sc_verdicts.specs.Arities.{arity_of}
+use Rattle.sc_audit.specs.Refusals.{shape_by, or_later, variables_refusal, unfit, first_unfit, strategy_refusal, shape_refusal, task_refusal, refusal_of}
 use Rattle.sc_audit.specs.Audits.{WitnessFails, IsCaused, Answers, IsRefusedBy, PassesAll, IsValid, MayMeet}
 
 -- nothing is no error

@@ -31,9 +31,10 @@ use Rattle.sc_transcript.specs.declared.data.SumcheckData.{SumcheckData}
 use Rattle.sc_transcript.specs.Data.{pair_of}
 use Rattle.sc_audit.specs.declared.report.Report.{Report}
 use Rattle.sc_audit.specs.declared.report.Verdict.TheVariants.{Holds}
-use Rattle.sc_audit.specs.declared.error.AuditError.{AuditError}
+use Rattle.sc_verdicts.specs.declared.error.AuditError.{AuditError}
 use Rattle.sc_audit.specs.Cases.{Given, Task, build, check, Asked, given_in}
-use Rattle.sc_audit.specs.Figures.{Figures, holds, lucky, finding_by, named, false_claim_of, is_matched, figures_of, finding_in, report_in}
+use Rattle.sc_verdicts.specs.Findings.{holds, lucky, named}
+use Rattle.sc_audit.specs.Figures.{Figures, finding_by, false_claim_of, is_matched, figures_of, finding_in, report_in}
 use Rattle.sc_audit.specs.Audits.{AreRounds, IsPlayed, Answers, HoldsIfBuilt}
 use Rattle.sc_audit.specs.Certified.{CertifiesLuck}
 

@@ -14,8 +14,8 @@ use Rattle.sc_transcript.specs.Replayed.{Replay, LeavesReplay}
 use Rattle.sc_transcript.specs.declared.error.SumcheckError.{SumcheckError}
 use Rattle.sc_transcript.specs.declared.error.SumcheckError.TheVariants as replay
 use Rattle.sc_audit.specs.declared.report.Report.{Report}
-use Rattle.sc_audit.specs.declared.error.AuditError.{AuditError}
-use Rattle.sc_audit.specs.declared.error.AuditError.TheVariants.{RoundCountMismatch, PowWitnessCountMismatch, NoMemory}
+use Rattle.sc_verdicts.specs.declared.error.AuditError.{AuditError}
+use Rattle.sc_verdicts.specs.declared.error.AuditError.TheVariants.{RoundCountMismatch, PowWitnessCountMismatch, NoMemory}
 use Rattle.sc_audit.specs.Cases.{Given, check, Asked, with_task, start_of}
 use Rattle.sc_audit.specs.Refusals.{count_refusal}
 use Rattle.sc_audit.specs.Figures.{figures_of}

@@ -24,9 +24,9 @@ use Rattle.sc_statements.proofs.GroupSteps.{groups-more, groups-split}
 use Rattle.sc_svo.specs.declared.claims.SvoClaim.{SvoClaim}
 use Rattle.sc_svo.specs.Claims.{AreOn, kind_by, scaled_in, claims_in, true_values_of}
 use Rattle.sc_svo.specs.Grids.{most_rounds}
-use Rattle.sc_audit.specs.declared.error.AuditError.{AuditError}
-use Rattle.sc_audit.specs.declared.error.AuditError.TheVariants.{StrategyUnfit}
-use Rattle.sc_audit.specs.declared.error.FitFault.TheVariants.{Variables}
+use Rattle.sc_verdicts.specs.declared.error.AuditError.{AuditError}
+use Rattle.sc_verdicts.specs.declared.error.AuditError.TheVariants.{StrategyUnfit}
+use Rattle.sc_verdicts.specs.declared.error.FitFault.TheVariants.{Variables}
 use Rattle.sc_audit.specs.declared.claims.Claimed.{Claimed}
 use Rattle.sc_audit.specs.Refusals.{or_later, variables_refusal, unfit, first_unfit, small_refusal}
 use Rattle.sc_audit.specs.SmallRounds.{IsTaken, AreTaken, kind_taken, claims_from, listed_in, Appends}

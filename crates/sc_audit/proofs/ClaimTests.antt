@@ -5,8 +5,8 @@ use Rattle.sc_definitions.specs.declared.events.Event.{Event}
 use Rattle.sc_definitions.specs.Ring.{Ops}
 use Rattle.sc_definitions.specs.Problem.{Problem}
 use Rattle.sc_statements.specs.FalseClaims.{capped}
-use Rattle.sc_audit.specs.declared.error.AuditError.{AuditError}
-use Rattle.sc_audit.specs.declared.error.AuditError.TheVariants.{FalseClaim, NoMemory}
+use Rattle.sc_verdicts.specs.declared.error.AuditError.{AuditError}
+use Rattle.sc_verdicts.specs.declared.error.AuditError.TheVariants.{FalseClaim, NoMemory}
 use Rattle.sc_audit.specs.Cases.{Asked}
 use Rattle.sc_audit.specs.Refusals.{false_refusal, refusal_in}
 use Rattle.sc_audit.specs.Figures.{false_claim_of}

@@ -11,7 +11,8 @@ use Rattle.sc_definitions.specs.Problem.{Problem, weights_of, claim_of, residual
 use Rattle.sc_definitions.specs.Lucky.{luck_of}
 use Rattle.sc_definitions.proofs.TableLaws.{value-same}
 use Rattle.sc_table.proofs.EntryLaws.{entry-embedded}
-use Rattle.sc_audit.specs.Figures.{Figures, Finding, finding_by, false_claim_of, is_matched, figures_of}
+use Rattle.sc_verdicts.specs.Findings.{Finding}
+use Rattle.sc_audit.specs.Figures.{Figures, finding_by, false_claim_of, is_matched, figures_of}
 
 module _ (o : Ops) (p : Problem) where
   pub claim-batched : (x : ℕ) → x ≡ batched_claim o p.batching p.initial p.statements → x ≡ claim_of o p

@@ -1,4 +1,3 @@
-pub mod ShapeLaws
 pub mod UnfitLaws
 pub mod FigureLaws
 pub mod Embedded

@@ -6,7 +6,8 @@ use Rattle.sc_definitions.specs.Rounds.{next_claim, claim_along}
 use Rattle.sc_definitions.specs.Problem.{claim_of, residual_of, eval_of, weight_value_of}
 use Rattle.sc_definitions.specs.Lucky.{Luck, luck_of}
 use Rattle.sc_definitions.specs.Strategies.{lets_through}
-use Rattle.sc_audit.specs.Figures.{refuted, finding_by, false_claim_of, is_matched, figures_of}
+use Rattle.sc_verdicts.specs.Findings.{refuted}
+use Rattle.sc_audit.specs.Figures.{finding_by, false_claim_of, is_matched, figures_of}
 use Rattle.sc_audit.specs.Laws.{PassingLetsThrough}
 
 unrefuted : (b : Bool) (fault : Option FalseClaim) (luck : Option Luck) → (finding_by b fault luck ≡ refuted → ⊥) → b ≡ true

@@ -20,8 +20,8 @@ use Rattle.sc_statements.specs.FalseClaims.{capped}
 use Rattle.sc_statements.proofs.FalseSteps.{first_false-none}
 use Rattle.sc_svo.specs.Batches.{Batch, batch_in}
 use Rattle.sc_svo.specs.Grids.{most_rounds}
-use Rattle.sc_audit.specs.declared.error.AuditError.{AuditError}
-use Rattle.sc_audit.specs.declared.error.AuditError.TheVariants.{NoMemory}
+use Rattle.sc_verdicts.specs.declared.error.AuditError.{AuditError}
+use Rattle.sc_verdicts.specs.declared.error.AuditError.TheVariants.{NoMemory}
 use Rattle.sc_audit.specs.declared.job.Job.{Job}
 use Rattle.sc_audit.specs.declared.ways.Way.{Way}
 use Rattle.sc_audit.specs.declared.ways.Way.TheVariants as ways

@@ -11,9 +11,9 @@ use Rattle.sc_statements.specs.EqStatements.{point_kind}
 use Rattle.sc_statements.specs.NextStatements.{next_kind, selector_at}
 use Rattle.sc_statements.specs.SelectStatements.{claims_of}
 use Rattle.sc_statements.proofs.GroupSteps.{groups-more, groups-split}
-use Rattle.sc_audit.specs.declared.error.AuditError.{AuditError}
-use Rattle.sc_audit.specs.declared.error.AuditError.TheVariants.{StrategyUnfit}
-use Rattle.sc_audit.specs.declared.error.FitFault.TheVariants.{Select, Selector}
+use Rattle.sc_verdicts.specs.declared.error.AuditError.{AuditError}
+use Rattle.sc_verdicts.specs.declared.error.AuditError.TheVariants.{StrategyUnfit}
+use Rattle.sc_verdicts.specs.declared.error.FitFault.TheVariants.{Select, Selector}
 use Rattle.sc_audit.specs.Refusals.{or_later, told_number, unfit, first_unfit}
 
 later-assoc : (a b c : Option AuditError) → or_later (or_later a b) c ≡ or_later a (or_later b c)

@@ -11,11 +11,12 @@ use Rattle.sc_table.specs.declared.strategy.Strategy.TheVariants.{SmallValue}
 use Rattle.sc_transcript.specs.declared.error.SumcheckError.{SumcheckError}
 use Rattle.sc_transcript.specs.declared.error.SumcheckError.TheVariants as replay
 use Rattle.sc_audit.specs.declared.report.Report.{Report}
-use Rattle.sc_audit.specs.declared.error.AuditError.{AuditError}
-use Rattle.sc_audit.specs.declared.error.AuditError.TheVariants.{RoundCountMismatch, PowWitnessCountMismatch, InvalidPowWitness, NoWitness, NoMemory}
+use Rattle.sc_verdicts.specs.declared.error.AuditError.{AuditError}
+use Rattle.sc_verdicts.specs.declared.error.AuditError.TheVariants.{RoundCountMismatch, PowWitnessCountMismatch, InvalidPowWitness, NoWitness, NoMemory}
 use Rattle.sc_audit.specs.Cases.{Given, Task, build, check, Asked, start_of}
 use Rattle.sc_audit.specs.Refusals.{refusal_of, task_refusal}
-use Rattle.sc_audit.specs.Figures.{Figures, Reported, holds, figures_of, report_in}
+use Rattle.sc_verdicts.specs.Findings.{holds}
+use Rattle.sc_audit.specs.Figures.{Figures, Reported, figures_of, report_in}
 
 -- The rounds that are played: those that are built, of which each sends what an honest prover sends, with the first witness that passes; or those of the
 -- proof. No proof has no rounds.

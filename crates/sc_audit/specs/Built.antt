@@ -8,8 +8,8 @@ use Rattle.sc_definitions.specs.Problem.{Problem, weights_of, claim_of, eval_of,
 use Rattle.sc_transcript.specs.Data.{wire_in}
 use Rattle.sc_rounds.specs.Provers.{Shown}
 use Rattle.sc_svo.specs.Grids.{grids_shown}
-use Rattle.sc_audit.specs.declared.error.AuditError.{AuditError}
-use Rattle.sc_audit.specs.declared.error.AuditError.TheVariants.{NoWitness, NoMemory}
+use Rattle.sc_verdicts.specs.declared.error.AuditError.{AuditError}
+use Rattle.sc_verdicts.specs.declared.error.AuditError.TheVariants.{NoWitness, NoMemory}
 use Rattle.sc_audit.specs.declared.strategies.Built.{Built}
 use Rattle.sc_audit.specs.Cases.{build, Asked, with_task, start_of}
 use Rattle.sc_audit.specs.Audits.{AreRounds, BuildStops, grids_for}

@@ -4,7 +4,8 @@ use Rattle.sc_definitions.specs.Ring.{Ops, ◌*⟨◌⟩◌}
 use Rattle.sc_definitions.specs.Statements.{AllTrueOf}
 use Rattle.sc_definitions.specs.Problem.{Problem}
 use Rattle.sc_definitions.specs.Lucky.{Luck, IsCertified}
-use Rattle.sc_audit.specs.Figures.{Figures, lucky}
+use Rattle.sc_verdicts.specs.Findings.{lucky}
+use Rattle.sc_audit.specs.Figures.{Figures}
 
 -- A challenge that is named lucky is certified; and where the residual is right although a statement is false, one is named.
 pub record CertifiesLuck (o : Ops) (p : Problem) (f : Figures) : Type 0 where

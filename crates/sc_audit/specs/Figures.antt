@@ -6,16 +6,11 @@ use Rattle.sc_definitions.specs.Statements.{first_false_claim}
 use Rattle.sc_definitions.specs.Problem.{Problem, claim_of, residual_of, eval_of, weight_value_of}
 use Rattle.sc_definitions.specs.Lucky.{Luck, in_batch, in_round, luck_of}
 use Rattle.sc_transcript.specs.Data.{messages_in, witnesses_in}
+use Rattle.sc_verdicts.specs.Findings.{Finding, holds, refuted, lucky, named}
 use Rattle.sc_svo.specs.Grids.{grids_shown}
 use Rattle.sc_audit.specs.declared.report.Report.{Report}
 use Rattle.sc_audit.specs.declared.report.Verdict.{Verdict}
 use Rattle.sc_audit.specs.declared.report.Verdict.TheVariants.{Holds, Refuted, LuckyBatch, LuckyRound}
-
--- What rounds say of statements. Where the residual is right although a statement is false, a challenge was lucky.
-pub data Finding : Type 0 where
-  holds : Finding
-  refuted : Finding
-  lucky : Luck → Finding
 
 -- the figures of a report
 pub record Figures : Type 0 where
@@ -27,11 +22,6 @@ pub record Figures : Type 0 where
   pub eval : ℕ
   pub weight : ℕ
   pub finding : Finding
-
--- The finding where the residual is right although a statement is false: the first lucky challenge. There always is one, so the other case is not met.
-abbrev pub named : Option Luck → Finding
-named (Some l) = lucky l
-named None = refuted
 
 -- what is found where the residual is right or not, and this is the first false statement, if one is, and the first lucky challenge, if one is
 abbrev pub finding_by : Bool → Option FalseClaim → Option Luck → Finding

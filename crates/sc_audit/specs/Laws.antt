@@ -6,7 +6,8 @@ use Rattle.sc_definitions.specs.Problem.{Problem, claim_of}
 use Rattle.sc_definitions.specs.Strategies.{Held, messages_against, lets_through}
 use Rattle.sc_table.specs.declared.strategy.Strategy.{Strategy}
 use Rattle.sc_audit.specs.Cases.{build, Asked, with_task}
-use Rattle.sc_audit.specs.Figures.{Reported, refuted, figures_of}
+use Rattle.sc_verdicts.specs.Findings.{refuted}
+use Rattle.sc_audit.specs.Figures.{Reported, figures_of}
 use Rattle.sc_audit.specs.Audits.{IsAudited}
 
 -- Two builds of one table with the same statements at one difficulty, from one history on, have the same report, the grids of small-value rounds aside,

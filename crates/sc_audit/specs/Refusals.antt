@@ -8,10 +8,11 @@ use Rattle.sc_transcript.specs.Data.{witness_count}
 use Rattle.sc_table.specs.declared.strategy.Strategy.{Strategy}
 use Rattle.sc_table.specs.declared.strategy.Strategy.TheVariants.{Plain, Represented, SmallValue}
 use Rattle.sc_svo.specs.Grids.{most_rounds}
-use Rattle.sc_audit.specs.declared.error.AuditError.{AuditError}
-use Rattle.sc_audit.specs.declared.error.AuditError.TheVariants.{JobShape, StrategyUnfit, FalseClaim, MissingSumcheckData, RoundCountMismatch, PowWitnessCountMismatch}
-use Rattle.sc_audit.specs.declared.error.FitFault.TheVariants.{Variables, Select, Selector}
-use Rattle.sc_audit.specs.declared.error.ShapeFault.TheVariants.{TableLength, Difficulty, Arity}
+use Rattle.sc_verdicts.specs.declared.error.AuditError.{AuditError}
+use Rattle.sc_verdicts.specs.declared.error.AuditError.TheVariants.{JobShape, StrategyUnfit, FalseClaim, MissingSumcheckData, RoundCountMismatch, PowWitnessCountMismatch}
+use Rattle.sc_verdicts.specs.declared.error.FitFault.TheVariants.{Variables, Select, Selector}
+use Rattle.sc_verdicts.specs.declared.error.ShapeFault.TheVariants.{TableLength, Difficulty, Arity}
+use Rattle.sc_verdicts.specs.Arities.{arity_of}
 use Rattle.sc_audit.specs.Cases.{Given, Task, build, check, Asked}
 
 -- the first refusal, or else the later one
@@ -20,19 +21,6 @@ or_later (Some e) later = Some e
 or_later None later = later
 
 -- ---- the shape
-
--- the first of the `count` numbers from n on that 2 has to be raised to
-abbrev pub exponent_from : ℕ → ℕ → ℕ → Option ℕ
-exponent_from n zero len = None
-exponent_from n (suc count) len = if len == 2 ^ n then Some n else exponent_from (suc n) count len
-
--- the greatest number of variables
-abbrev pub most_variables : ℕ
-most_variables = 24
-
--- the number of variables, at most the greatest one, of a table of so many rows
-unfoldable pub arity_of : ℕ → Option ℕ
-arity_of len = exponent_from 0 (suc most_variables) len
 
 -- the difficulty is above the challenger's bound, or else the statements are on another number of variables than the table has
 abbrev pub shape_by : Option ℕ → ℕ → ℕ → ℕ → ℕ → Option AuditError

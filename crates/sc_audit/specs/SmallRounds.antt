@@ -33,8 +33,8 @@ use Rattle.sc_svo.specs.Batches.{Batch, batch_in, IsTableOf}
 use Rattle.sc_audit.specs.declared.job.Job.{Job}
 use Rattle.sc_audit.specs.declared.job.Mode.{Mode}
 use Rattle.sc_audit.specs.declared.job.Mode.TheVariants.{Build}
-use Rattle.sc_audit.specs.declared.error.AuditError.{AuditError}
-use Rattle.sc_audit.specs.declared.error.AuditError.TheVariants.{NoMemory}
+use Rattle.sc_verdicts.specs.declared.error.AuditError.{AuditError}
+use Rattle.sc_verdicts.specs.declared.error.AuditError.TheVariants.{NoMemory}
 use Rattle.sc_audit.specs.declared.claims.Claimed.{Claimed}
 use Rattle.sc_audit.specs.declared.ways.Way.{Way}
 use Rattle.sc_audit.specs.declared.ways.Way.TheVariants as ways

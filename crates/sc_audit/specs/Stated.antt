@@ -11,15 +11,16 @@ use Rattle.sc_statements.specs.Constraints.{constraint_arity, constraint_challen
 use Rattle.sc_statements.specs.Claimed.{all_stated_truly}
 use Rattle.sc_table.specs.declared.strategy.Strategy.TheVariants.{SmallValue}
 use Rattle.sc_svo.specs.Batches.{batch_in}
-use Rattle.sc_audit.specs.declared.error.AuditError.{AuditError}
-use Rattle.sc_audit.specs.declared.error.AuditError.TheVariants.{NoMemory}
+use Rattle.sc_verdicts.specs.declared.error.AuditError.{AuditError}
+use Rattle.sc_verdicts.specs.declared.error.AuditError.TheVariants.{NoMemory}
 use Rattle.sc_audit.specs.declared.job.Job.{Job}
 use Rattle.sc_audit.specs.declared.job.Mode.TheVariants.{Build}
 use Rattle.sc_audit.specs.declared.ways.Way.{Way}
 use Rattle.sc_audit.specs.declared.ways.Batched.{Batched}
 use Rattle.sc_audit.specs.Cases.{Asked, problem_in}
 use Rattle.sc_audit.specs.Figures.{false_claim_of}
-use Rattle.sc_audit.specs.Refusals.{arity_of, shape_by, strategy_refusal}
+use Rattle.sc_verdicts.specs.Arities.{arity_of}
+use Rattle.sc_audit.specs.Refusals.{shape_by, strategy_refusal}
 use Rattle.sc_audit.specs.SmallRounds.{IsBatchOf, IsReady, strategy_by}
 
 -- the problem whose statements claim their true values, and that is the same otherwise

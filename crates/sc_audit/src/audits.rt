@@ -9,7 +9,6 @@ ghost use Rattle.sc_audit.specs.Stated.{IsRestated, IsWayOf, LeavesStated};
 
 use crate::building::{build, play};
 use crate::checking::check;
-use crate::error::AuditError;
 use crate::job::{Job, Mode};
 use crate::report::Report;
 use crate::shape::FittingJob;
@@ -17,6 +16,7 @@ use crate::stating::state_truth;
 use crate::ways::Way;
 use sc_challenger::Challenger;
 use sc_field::{ExtensionField, Field, IntoTranscriptField};
+use sc_verdicts::AuditError;
 use std::alloc::Global;
 
 /// Builds the rounds of a job, or checks those of its proof, and reports on them. There is no condition on the job: what does not fit is refused, in

@@ -9,7 +9,6 @@ ghost use Rattle.sc_audit.specs.Built.{IsBuiltCase, LeavesBuild, kept_in};
 ghost use Rattle.sc_audit.specs.SmallRounds.{strategy_by, IsReady};
 
 use crate::common::refusal;
-use crate::error::AuditError;
 use crate::fit::check_strategy;
 use crate::report::{Report, Verdict};
 use crate::shape::FittingJob;
@@ -19,6 +18,7 @@ use crate::ways::{Way, way_of};
 use sc_challenger::Challenger;
 use sc_field::{ExtensionField, Field, IntoTranscriptField};
 use sc_table::{Basis, Strategy};
+use sc_verdicts::AuditError;
 use std::alloc::Global;
 
 // Builds the rounds of a job of the right shape, unless the strategy does not fit it or a statement

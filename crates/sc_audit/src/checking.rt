@@ -13,7 +13,6 @@ ghost use Rattle.sc_audit.specs.Audits.{AnswersTask, IsRefusedBy};
 ghost use Rattle.sc_audit.specs.Checked.{LeavesReport};
 
 use crate::common::refusal;
-use crate::error::AuditError;
 use crate::report::Report;
 use crate::shape::FittingJob;
 use crate::verdict::verdict_on;
@@ -22,6 +21,7 @@ use sc_field::{ExtensionField, Field, NoMemory};
 use sc_rounds::SumcheckData;
 use sc_svo::Grids;
 use sc_table::{Basis, Point, VariableOrder, eval_slice};
+use sc_verdicts::AuditError;
 use std::alloc::Global;
 
 // Checks the rounds of a proof for a job of the right shape. No proof has no rounds.

@@ -6,12 +6,12 @@ ghost use Rattle.sc_statements.specs.NextStatements.{next_statements};
 ghost use Rattle.sc_audit.specs.Fitting.{stated_in};
 ghost use Rattle.sc_audit.specs.Refusals.{first_unfit, small_refusal, strategy_refusal, refusal_in};
 
-use crate::error::{AuditError, FitFault};
 use crate::shape::FittingJob;
 use sc_field::{ExtensionField, Field};
 use sc_statements::{Constraint, NextStatement, Statements};
 use sc_svo::MOST_ROUNDS;
 use sc_table::Strategy;
+use sc_verdicts::{AuditError, FitFault};
 
 // Refuses a strategy that does not fit the statements of a job.
 pub(crate) fn check_strategy<F: Field, EF: ExtensionField<F>>(

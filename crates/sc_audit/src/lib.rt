@@ -8,7 +8,6 @@ mod building;
 mod checking;
 mod claims;
 mod common;
-mod error;
 mod fit;
 mod job;
 pub mod laws;
@@ -21,8 +20,8 @@ mod verdict;
 mod ways;
 
 pub use audits::{audit, audit_true};
-pub use error::{AuditError, FitFault, ShapeFault};
 pub use job::{Job, Mode};
 pub use report::{Report, Verdict};
 pub use sc_svo::{Grid, Grids};
 pub use sc_table::Strategy;
+pub use sc_verdicts::{AuditError, FitFault, ShapeFault};

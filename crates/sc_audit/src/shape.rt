@@ -1,26 +1,12 @@
 //! What a job has to be like before a round is played.
 ghost use Rattle.std.specs.Prelude.{◌≡◌, ◌≤◌, ◌^◌, Some, None, IfOk, OnOk, vec_len};
 ghost use Rattle.sc_statements.specs.Constraints.{constraint_arity};
-ghost use Rattle.sc_audit.specs.Refusals.{most_variables, arity_of, shape_by, refusal_in};
+ghost use Rattle.sc_verdicts.specs.Arities.{most_variables, arity_of};
+ghost use Rattle.sc_audit.specs.Refusals.{shape_by, refusal_in};
 
-use crate::error::{AuditError, ShapeFault};
 use crate::job::Job;
 use sc_field::{ExtensionField, Field};
-
-// The greatest number of a table's variables.
-const MOST_VARIABLES: usize = 24;
-
-/// How many variables a table of so many rows has, where it is a power of two up to 2^24.
-pub(crate) fn arity(len: usize) -> Option<usize>
-    ensures { result ≡ arity_of len }
-{
-    for n in 0..MOST_VARIABLES + 1 {
-        if len == 1 << n {
-            return Some(n);
-        }
-    }
-    None
-}
+use sc_verdicts::{AuditError, ShapeFault, arity};
 
 /// A job of the right shape: its table has a row for each choice of its statements' variables, of
 /// which there are at most the greatest number.

@@ -25,7 +25,6 @@ ghost use Rattle.sc_audit.specs.SmallRounds.{
 };
 
 use crate::common::refusal;
-use crate::error::AuditError;
 use crate::shape::FittingJob;
 use crate::strategies::Built;
 use sc_challenger::Challenger;
@@ -33,6 +32,7 @@ use sc_field::{ExtensionField, Field, with_room};
 use sc_rounds::{ProductPolynomial, ProverTranscript, SumcheckData, SumcheckError, SumcheckShape};
 use sc_svo::SvoBatch;
 use sc_table::{Basis, Point};
+use sc_verdicts::AuditError;
 use std::alloc::Global;
 
 // Builds the rounds of a job whose statements are true, in the transcript of a copy of the

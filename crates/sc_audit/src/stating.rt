@@ -12,13 +12,13 @@ ghost use Rattle.sc_audit.specs.Stated.{
   IsBatchedFor,
 };
 
-use crate::error::AuditError;
 use crate::fit::check_strategy;
 use crate::job::{Job, Mode};
 use crate::shape::FittingJob;
 use crate::ways::{Batched, Way, batch_of};
 use sc_field::{ExtensionField, Field, NoMemory};
 use sc_table::Strategy;
+use sc_verdicts::AuditError;
 use std::alloc::Global;
 
 // Puts their true values in place of what the statements of a job claim, whose shape is not refused

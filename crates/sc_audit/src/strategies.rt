@@ -11,13 +11,13 @@ ghost use Rattle.sc_audit.specs.Figures.{false_claim_of};
 ghost use Rattle.sc_audit.specs.Built.{LeavesBuild, prover_for};
 
 use crate::common::refusal;
-use crate::error::AuditError;
 use crate::shape::FittingJob;
 use sc_challenger::Challenger;
 use sc_field::{ExtensionField, Field, IntoTranscriptField, NoMemory};
 use sc_rounds::{BaseProduct, ProductPolynomial, ReprSumcheckProver, SumcheckData, SumcheckProver};
 use sc_svo::Grids;
 use sc_table::{Point, Poly};
+use sc_verdicts::AuditError;
 use std::alloc::Global;
 
 // Rounds that were built, with the claim that they began with, their challenges in drawing order,

@@ -7,7 +7,8 @@ ghost use Rattle.sc_definitions.specs.Roots.{root_count};
 ghost use Rattle.sc_rounds.specs.Turns.{IsPairOf};
 ghost use Rattle.sc_transcript.specs.Data.{messages_in};
 ghost use Rattle.sc_audit.specs.Fitting.{stated_in};
-ghost use Rattle.sc_audit.specs.Figures.{finding_in, finding_by, false_claim_of, lucky, named};
+ghost use Rattle.sc_verdicts.specs.Findings.{lucky, named};
+ghost use Rattle.sc_audit.specs.Figures.{finding_in, finding_by, false_claim_of};
 
 use crate::report::Verdict;
 use crate::shape::FittingJob;

@@ -8,12 +8,12 @@ ghost use Rattle.sc_audit.specs.Refusals.{strategy_refusal, false_refusal, refus
 ghost use Rattle.sc_audit.specs.SmallRounds.{IsBatchOf, strategy_by, IsReady, TestsClaims};
 
 use crate::claims::{claims_of, first_other};
-use crate::error::AuditError;
 use crate::shape::FittingJob;
 use sc_definitions::FalseClaim;
 use sc_field::{ExtensionField, Field, NoMemory};
 use sc_svo::SvoBatch;
 use sc_table::Strategy;
+use sc_verdicts::AuditError;
 use std::alloc::Global;
 
 // How rounds are built, with what that takes.

@@ -5,3 +5,4 @@ pub mod SeedLaws
 pub mod ReplayedLaws
 pub mod RoundRoom
 pub mod Lent
+pub mod GivenRounds

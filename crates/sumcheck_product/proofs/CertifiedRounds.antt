@@ -22,7 +22,7 @@ use Rattle.sc_definitions.proofs.LuckyLaws.{AllSend, turns, products_certify, Is
 use Rattle.sc_transcript.specs.Data.{witness_count}
 use Rattle.sc_degree.specs.declared.error.GenericDegreeError.{GenericDegreeError}
 use Rattle.sc_degree.specs.declared.error.GenericDegreeError.TheVariants.{RoundCountMismatch, PowWitnessCountMismatch, PolyEvalCountMismatch, InvalidPowWitness}
-use Rattle.sc_audit.specs.Figures.{lucky, named}
+use Rattle.sc_verdicts.specs.Findings.{lucky, named}
 use Rattle.sumcheck_jobs.specs.declared.job.FieldName.{FieldName}
 use Rattle.sumcheck_jobs.specs.declared.job.FieldName.TheVariants.{F65537, F257x2, F16}
 use Rattle.sumcheck_jobs.specs.declared.product.ProductProof.{ProductProof}

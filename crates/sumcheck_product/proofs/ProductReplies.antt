@@ -17,7 +17,7 @@ use Rattle.sc_definitions.proofs.BuiltLaws.{length-challenges}
 use Rattle.sc_definitions.proofs.ReplayLaws.{length-given_rounds, messages-given_rounds, take_whole}
 use Rattle.sc_definitions.proofs.ProductRounds.{honest_along}
 use Rattle.sc_transcript.specs.Data.{witness_count}
-use Rattle.sc_rounds.proofs.InStep.{given_played}
+use Rattle.sc_transcript.proofs.GivenRounds.{given_played}
 use Rattle.sc_degree.specs.declared.error.GenericDegreeError.{GenericDegreeError}
 use Rattle.sc_degree.specs.declared.error.GenericDegreeError.TheVariants.{InvalidDegree, RoundCountMismatch, PowWitnessCountMismatch, PolyEvalCountMismatch, InvalidPowWitness, NoWitness, NoMemory}
 use Rattle.sc_degree.specs.Proofs.{Replay, AreWide, rounds_in, start_of, IsCounted, IsReplayedTo, LeavesReplay}
@@ -25,7 +25,7 @@ use Rattle.sc_degree.specs.Shapes.{shape_of}
 use Rattle.sc_field.specs.ResiduesLaws.{residues_field}
 use Rattle.sc_field.specs.F257x2Laws.{f257x2_field}
 use Rattle.sc_field.specs.SixteenLaws.{tower_field}
-use Rattle.sc_audit.specs.declared.error.ShapeFault.{ShapeFault}
+use Rattle.sc_verdicts.specs.declared.error.ShapeFault.{ShapeFault}
 use Rattle.sumcheck_jobs.specs.declared.job.FieldName.{FieldName}
 use Rattle.sumcheck_jobs.specs.declared.job.FieldName.TheVariants.{F65537, F257x2, F16}
 use Rattle.sumcheck_jobs.specs.declared.product.ProductProof.{ProductProof}

@@ -5,7 +5,7 @@ use Rattle.std.proofs.lemmas.List.Elements.{All-head, All-tail, All-push}
 use Rattle.std.proofs.lemmas.List.{length-map, map-append}
 use Rattle.sc_definitions.specs.Tables.{entries}
 use Rattle.sc_definitions.proofs.Lengths.{pow-same}
-use Rattle.sc_audit.specs.Refusals.{arity_of}
+use Rattle.sc_verdicts.specs.Arities.{arity_of}
 use Rattle.sc_table.specs.declared.poly.Poly.{Poly}
 use Rattle.sc_table.specs.Polys.{table_of, variables_of}
 use Rattle.sc_degree.specs.Arities.{first_arity, HaveArity}

@@ -3,7 +3,7 @@ use Rattle.std.specs.Prelude.{◌≡◌, ℕ, suc, List, length, Some}
 use Rattle.std.specs.List.{slice_get}
 use Rattle.sc_definitions.specs.Ring.{Ops}
 use Rattle.sc_definitions.specs.Lucky.{IsCertificate, Luck, in_batch, in_round}
-use Rattle.sc_audit.specs.Figures.{lucky}
+use Rattle.sc_verdicts.specs.Findings.{lucky}
 use Rattle.sumcheck_product.specs.Products.{ProductCase, ProductFigures, true_sum, figures_finding}
 
 -- a round's luck: its challenge is there, and the polynomial, of one coefficient more than the degree, certifies it

@@ -19,10 +19,10 @@ use Rattle.sc_degree.specs.Shapes.{prelude_of, shape_of}
 use Rattle.sc_degree.specs.Proofs.{wire_in}
 use Rattle.sc_degree.specs.declared.turns.FoundTurn.{FoundTurn}
 use Rattle.sc_degree.specs.Turns.{turn_in}
-use Rattle.sc_audit.specs.declared.error.ShapeFault.{ShapeFault}
-use Rattle.sc_audit.specs.declared.error.ShapeFault.TheVariants.{TableLength, Difficulty}
-use Rattle.sc_audit.specs.Refusals.{arity_of}
-use Rattle.sc_audit.specs.Figures.{Finding, holds, refuted, named}
+use Rattle.sc_verdicts.specs.declared.error.ShapeFault.{ShapeFault}
+use Rattle.sc_verdicts.specs.declared.error.ShapeFault.TheVariants.{TableLength, Difficulty}
+use Rattle.sc_verdicts.specs.Arities.{arity_of}
+use Rattle.sc_verdicts.specs.Findings.{Finding, holds, refuted, named}
 use Rattle.sumcheck_jobs.specs.declared.product.ProductProof.{ProductProof}
 use Rattle.sumcheck_jobs.specs.declared.product.ProductMode.{ProductMode}
 use Rattle.sumcheck_jobs.specs.declared.product.ProductMode.TheVariants.{Build, Check}

@@ -7,7 +7,7 @@ ghost use Rattle.sc_definitions.specs.Products.{values_product};
 ghost use Rattle.sc_definitions.specs.Transcript.{Round};
 ghost use Rattle.sc_degree.specs.Products.{arity_of, tables_of};
 ghost use Rattle.sc_degree.specs.Turns.{turn_in};
-ghost use Rattle.sc_audit.specs.Figures.{named};
+ghost use Rattle.sc_verdicts.specs.Findings.{named};
 ghost use Rattle.sumcheck_jobs.specs.declared.product.ProductProof.{ProductProof};
 ghost use Rattle.sumcheck_jobs.specs.Elements.{sizes_of};
 ghost use Rattle.sumcheck_jobs.specs.ProductJob.{ProductJobFits, ProductModeFits};
@@ -24,7 +24,6 @@ ghost use Rattle.sumcheck_replies.specs.Fields.{rules_by};
 
 use crate::images::image_tables;
 use crate::shape::fitting_arity;
-use sc_audit::AuditError;
 use sc_challenger::{Challenger, HashChallenger, ScriptedChallenger};
 use sc_degree::{
     FoundTurn, GenericDegreeError, GenericDegreeProof, RoundProver, TableProduct, find_turn,
@@ -32,6 +31,7 @@ use sc_degree::{
 use sc_field::laws::count_roots;
 use sc_field::{ExtensionField, F257, F257x2, F65537, Field, NoMemory, Tower16};
 use sc_table::Point;
+use sc_verdicts::AuditError;
 use std::alloc::Global;
 use sumcheck_jobs::{FieldName, ProductJob, ProductMode};
 use sumcheck_replies::{

@@ -1,14 +1,11 @@
 //! The shape of a job of `product`.
 ghost use Rattle.std.specs.Prelude.{◌≡◌, ◌≤◌, ◌^◌, All, IfOk, OnOk, length, map};
-ghost use Rattle.sc_audit.specs.Refusals.{arity_of};
+ghost use Rattle.sc_verdicts.specs.Arities.{arity_of};
 ghost use Rattle.sumcheck_product.specs.Products.{arity_over, product_shape};
 
-use sc_audit::ShapeFault;
 use sc_table::Row;
+use sc_verdicts::{ShapeFault, arity};
 use sumcheck_jobs::ProductJob;
-
-// The greatest number of variables.
-const MOST_VARIABLES: usize = 24;
 
 /// How many variables the tables of a job have, where their lengths and the difficulty fit under a
 /// challenger with this bound.
@@ -39,7 +36,7 @@ fn common_arity(tables: &[Row<u64>]) -> Result<usize, usize>
     let Some(first) = tables.first() else {
         return Err(0);
     };
-    let Some(n) = variables_in(first.len()) else {
+    let Some(n) = arity(first.len()) else {
         return Err(first.len());
     };
     for table in tables {
@@ -48,16 +45,4 @@ fn common_arity(tables: &[Row<u64>]) -> Result<usize, usize>
         }
     }
     Ok(n)
-}
-
-// How many variables a table of so many rows has, where it is a power of two up to 2^24.
-fn variables_in(rows: usize) -> Option<usize>
-    ensures { result ≡ arity_of rows }
-{
-    for n in 0..MOST_VARIABLES + 1 {
-        if rows == 1 << n {
-            return Some(n);
-        }
-    }
-    None
 }

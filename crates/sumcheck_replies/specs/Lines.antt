@@ -1,10 +1,10 @@
 -- The lines of a report, and the texts of refusals, of the numbers in them. Each line ends with a line feed.
 use Rattle.std.specs.Prelude.{ℕ, suc, List, [], ◌∷◌, ◌++◌, codes, decimal, Option, Some, None}
 use Rattle.sc_definitions.specs.Lucky.{Luck, in_batch, in_round}
-use Rattle.sc_audit.specs.declared.error.ShapeFault.{ShapeFault}
-use Rattle.sc_audit.specs.declared.error.ShapeFault.TheVariants.{TableLength, Difficulty, Arity}
-use Rattle.sc_audit.specs.declared.error.FitFault.{FitFault}
-use Rattle.sc_audit.specs.declared.error.FitFault.TheVariants.{Variables, Select, Selector}
+use Rattle.sc_verdicts.specs.declared.error.ShapeFault.{ShapeFault}
+use Rattle.sc_verdicts.specs.declared.error.ShapeFault.TheVariants.{TableLength, Difficulty, Arity}
+use Rattle.sc_verdicts.specs.declared.error.FitFault.{FitFault}
+use Rattle.sc_verdicts.specs.declared.error.FitFault.TheVariants.{Variables, Select, Selector}
 
 -- numbers, a space before each
 unfoldable pub spaced : List ℕ → List ℕ

@@ -11,8 +11,8 @@ ghost use Rattle.sumcheck_replies.specs.Lines.{challenge_part, product_line, rou
 ghost use Rattle.sumcheck_replies.specs.Lines.{witness_part};
 ghost use Rattle.sumcheck_jobs.specs.Members.{misfit_text};
 
-use sc_audit::{FitFault, ShapeFault};
 use sc_field::{Field, NoMemory};
+use sc_verdicts::{FitFault, ShapeFault};
 use std::alloc::{AllocError, Global};
 use sumcheck_jobs::Member;
 

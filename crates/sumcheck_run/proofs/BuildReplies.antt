@@ -11,10 +11,11 @@ use Rattle.sc_definitions.specs.Lucky.{luck_of}
 use Rattle.sc_definitions.proofs.BuildLaws.{built-residual, first_false_claim-all}
 use Rattle.sc_statements.specs.FalseClaims.{capped}
 use Rattle.sc_table.specs.declared.strategy.Strategy.{Strategy}
-use Rattle.sc_audit.specs.declared.error.AuditError.{AuditError}
+use Rattle.sc_verdicts.specs.declared.error.AuditError.{AuditError}
 use Rattle.sc_audit.specs.Cases.{build, Asked, start_of}
 use Rattle.sc_audit.specs.Refusals.{or_later, strategy_refusal, shape_refusal, refusal_for, false_refusal, refusal_of}
-use Rattle.sc_audit.specs.Figures.{Reported, holds, finding_by, false_claim_of, is_matched, figures_of}
+use Rattle.sc_verdicts.specs.Findings.{holds}
+use Rattle.sc_audit.specs.Figures.{Reported, finding_by, false_claim_of, is_matched, figures_of}
 use Rattle.sc_audit.specs.Audits.{figures_from}
 use Rattle.sc_field.specs.ResiduesLaws.{residues_field}
 use Rattle.sc_field.specs.F257x2Laws.{f257x2_field}

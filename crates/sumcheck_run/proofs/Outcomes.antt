@@ -13,16 +13,17 @@ use Rattle.sumcheck_replies.specs.Reply.{Reply, code_of, no_witness, proof_refus
 use Rattle.sumcheck_jobs.specs.Job.{job_of}
 use Rattle.sumcheck_jobs.specs.ProductJob.{product_job_of}
 use Rattle.sumcheck_jobs.specs.declared.member.Member.{Member}
-use Rattle.sc_audit.specs.declared.error.AuditError.{AuditError}
-use Rattle.sc_audit.specs.declared.error.AuditError.TheVariants.{JobShape, StrategyUnfit, FalseClaim, MissingSumcheckData, RoundCountMismatch, PowWitnessCountMismatch, InvalidPowWitness, NoWitness, NoMemory}
+use Rattle.sc_verdicts.specs.declared.error.AuditError.{AuditError}
+use Rattle.sc_verdicts.specs.declared.error.AuditError.TheVariants.{JobShape, StrategyUnfit, FalseClaim, MissingSumcheckData, RoundCountMismatch, PowWitnessCountMismatch, InvalidPowWitness, NoWitness, NoMemory}
 use Rattle.sc_audit.specs.Refusals.{refusal_of}
-use Rattle.sc_audit.specs.Figures.{Reported, Finding, holds, refuted, lucky}
+use Rattle.sc_verdicts.specs.Findings.{Finding, holds, refuted, lucky}
+use Rattle.sc_audit.specs.Figures.{Reported}
 use Rattle.sc_definitions.specs.declared.events.Event.{Event}
 use Rattle.sc_definitions.specs.Events.{Rules}
 use Rattle.sc_definitions.specs.Transcript.{Round}
 use Rattle.sc_degree.specs.declared.error.GenericDegreeError.{GenericDegreeError}
 use Rattle.sc_degree.specs.declared.error.GenericDegreeError.TheVariants as degree
-use Rattle.sc_audit.specs.declared.error.ShapeFault.{ShapeFault}
+use Rattle.sc_verdicts.specs.declared.error.ShapeFault.{ShapeFault}
 use Rattle.sc_audit.specs.Cases.{Asked}
 use Rattle.sumcheck_replies.specs.Fields.{Fields, fields_of}
 use Rattle.sumcheck_replies.specs.Refusals.{refusal_reply, finding_reply}

@@ -11,8 +11,8 @@ use Rattle.sc_definitions.specs.Transcript.{Round, rounds_events}
 use Rattle.sc_definitions.specs.Replays.{round_passes, AllPass, given_rounds}
 use Rattle.sc_definitions.specs.Problem.{honest_of}
 use Rattle.sc_table.specs.Strategy.{order_of}
-use Rattle.sc_audit.specs.declared.error.AuditError.{AuditError}
-use Rattle.sc_audit.specs.declared.error.AuditError.TheVariants.{InvalidPowWitness, NoWitness, NoMemory}
+use Rattle.sc_verdicts.specs.declared.error.AuditError.{AuditError}
+use Rattle.sc_verdicts.specs.declared.error.AuditError.TheVariants.{InvalidPowWitness, NoWitness, NoMemory}
 use Rattle.sc_audit.specs.Cases.{Task, build, check, Asked, start_of}
 use Rattle.sc_audit.specs.Refusals.{refusal_of}
 use Rattle.sc_audit.specs.Figures.{Figures, Reported, figures_of}

@@ -9,8 +9,8 @@ use Rattle.sc_definitions.specs.Replays.{given_rounds}
 use Rattle.sc_definitions.specs.Channels.{channel}
 use Rattle.sc_definitions.specs.Problem.{Problem, honest_of}
 use Rattle.sc_table.specs.Strategy.{order_of}
-use Rattle.sc_audit.specs.declared.error.AuditError.{AuditError}
-use Rattle.sc_audit.specs.declared.error.AuditError.TheVariants.{InvalidPowWitness, NoWitness}
+use Rattle.sc_verdicts.specs.declared.error.AuditError.{AuditError}
+use Rattle.sc_verdicts.specs.declared.error.AuditError.TheVariants.{InvalidPowWitness, NoWitness}
 use Rattle.sc_audit.specs.Cases.{Case, Given, Task, build, check, Asked, start_of}
 use Rattle.sc_audit.specs.Refusals.{refusal_of}
 use Rattle.sc_audit.specs.Figures.{Figures, Reported}

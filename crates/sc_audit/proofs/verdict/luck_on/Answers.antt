@@ -6,7 +6,8 @@ use Rattle.sc_definitions.specs.Lucky.{true_claim_of, course_of, first_turn, in_
 use Rattle.sc_transcript.specs.Data.{pair_of, messages_in}
 use Rattle.sc_rounds.specs.Turns.{turn_in}
 use Rattle.sc_audit.specs.Fitting.{stated_in}
-use Rattle.sc_audit.specs.Figures.{finding_in, lucky, named}
+use Rattle.sc_verdicts.specs.Findings.{lucky, named}
+use Rattle.sc_audit.specs.Figures.{finding_in}
 use Rattle.sc_audit.proofs.LuckFound.{pair-truth, luck-batch, luck-round}
 use Rattle.sc_audit.proofs.verdict.luck_on.Goals as goal
 

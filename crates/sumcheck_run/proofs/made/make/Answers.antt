@@ -1,6 +1,6 @@
 use Rattle.std.proofs.Common.{◌∙◌, map, sym, ap, subst, arith}
 use Rattle.std.proofs.lemmas.Result.{IfOk-weaker}
-use Rattle.sc_audit.proofs.ShapeLaws.{shifted}
+use Rattle.sc_verdicts.proofs.ArityLaws.{shifted}
 use Rattle.sumcheck_run.specs.Made.{PartsFit, parts_in, parts_end}
 use Rattle.sumcheck_run.specs.Values.{number_of}
 use Rattle.sumcheck_run.proofs.MadeJobs.{made-holds, parts-fit, about-shape, about-reply}

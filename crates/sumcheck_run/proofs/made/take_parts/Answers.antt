@@ -1,6 +1,6 @@
 use Rattle.std.proofs.Common.{◌≡◌, suc, ◌+◌, ◌*◌, ◌%◌, ◌^◌, ◌∙◌, zero-add, sym, ap, arith}
 use Rattle.sumcheck_run.specs.Made.{parts_end, value_at, values_behind}
-use Rattle.sc_audit.proofs.ShapeLaws.{shifted}
+use Rattle.sc_verdicts.proofs.ArityLaws.{shifted}
 use Rattle.sumcheck_run.proofs.MadeLaws.{value_at-first}
 use Rattle.sumcheck_run.proofs.MadeJobs.{parts-same}
 use Rattle.sumcheck_run.proofs.made.take_parts.Goals as goal

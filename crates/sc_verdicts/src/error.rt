@@ -1,5 +1,5 @@
 //! What an audit refuses.
-use sc_field::NoMemory;
+use sc_memory::NoMemory;
 use thiserror::Error;
 
 /// Why there is no report. The refusals are tested in this order, but that [`AuditError::NoMemory`] may come before any other.
@@ -82,7 +82,7 @@ pub enum FitFault {
 
 impl From<NoMemory> for AuditError {
     ghost use Rattle.std.specs.Prelude.{◌≡◌};
-    ghost use Rattle.sc_audit.specs.declared.error.AuditError.TheVariants as errors;
+    ghost use Rattle.sc_verdicts.specs.declared.error.AuditError.TheVariants as errors;
 
     ghost from_gives = { λ _ e. e ≡ errors.NoMemory };
 

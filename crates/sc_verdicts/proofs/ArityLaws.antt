@@ -3,7 +3,7 @@ use Rattle.std.proofs.Common.{◌≡◌, ℕ, zero, suc, ◌+◌, ◌*◌, ◌%�
 use Rattle.std.proofs.Math.Pow.{pow_mono}
 use Rattle.std.proofs.lemmas.Option.{same_Some}
 use Rattle.std.proofs.lemmas.Bool.Decides.{eqb_tells}
-use Rattle.sc_audit.specs.Refusals.{exponent_from, arity_of}
+use Rattle.sc_verdicts.specs.Arities.{exponent_from, arity_of}
 
 -- what a shift by so few places gives
 pub shifted : (n : ℕ) → n < 25 → (1 * 2 ^ n) % 18446744073709551616 ≡ 2 ^ n

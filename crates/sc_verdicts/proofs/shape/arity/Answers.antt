@@ -1,7 +1,7 @@
 use Rattle.std.proofs.Common.{suc, ◌+◌, ◌-◌, refl, sym, ◌∙◌, ap, arith}
-use Rattle.sc_audit.specs.Refusals.{arity_of, exponent_from}
-use Rattle.sc_audit.proofs.ShapeLaws.{exponent-next, shifted}
-use Rattle.sc_audit.proofs.shape.arity.Goals as goal
+use Rattle.sc_verdicts.specs.Arities.{arity_of, exponent_from}
+use Rattle.sc_verdicts.proofs.ArityLaws.{exponent-next, shifted}
+use Rattle.sc_verdicts.proofs.shape.arity.Goals as goal
 
 pub loop-n-init : goal.loop-n-init
 unfolding arity_of
