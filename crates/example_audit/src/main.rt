@@ -3,7 +3,8 @@
 
 use sc_audit::{Job, Mode, Strategy, Verdict, audit};
 use sc_challenger::HashChallenger;
-use sc_field::{F65537 as F, Field, NoMemory};
+use sc_field::{Field, NoMemory};
+use sc_small_fields::F65537 as F;
 use sc_statements::{Constraint, EqStatement, Statements};
 use sc_table::{Point, VariableOrder};
 use std::alloc::Global;

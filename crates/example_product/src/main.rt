@@ -6,7 +6,8 @@ ghost use Rattle.sc_degree.specs.Products.{arity_of, tables_of};
 
 use sc_challenger::HashChallenger;
 use sc_degree::{GenericDegreeProof, RoundProver, TableProduct};
-use sc_field::{F65537 as F, Field, NoMemory};
+use sc_field::{Field, NoMemory};
+use sc_small_fields::F65537 as F;
 use sc_table::Poly;
 use std::alloc::Global;
 

@@ -14,7 +14,8 @@ use sc_challenger::{
     sample_ext,
 };
 use sc_definitions::{Event, Interaction, Kind, Label, Length, Protocol};
-use sc_field::{ExtensionField, F65537, Field, NoMemory};
+use sc_field::{ExtensionField, Field, NoMemory};
+use sc_small_fields::F65537;
 use std::alloc::Global;
 use std::process::Abort;
 

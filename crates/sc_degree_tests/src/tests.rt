@@ -8,7 +8,8 @@ mod turns;
 
 use sc_challenger::{Challenger, Event, ScriptedChallenger};
 use sc_degree::{GenericDegreeError, GenericDegreeProof, GenericDegreeShape, VerifierTranscript};
-use sc_field::{ExtensionField, F257, F257x2, F65537, Field, NoMemory};
+use sc_field::{ExtensionField, Field, NoMemory};
+use sc_small_fields::{F257, F257x2, F65537};
 use sc_table::Point;
 use sc_tests_common::{elements, have_numbers, of, scripted};
 use std::alloc::Global;

@@ -1,14 +1,6 @@
-pub mod ProductLaws
 pub mod PowersLaws
 pub mod SumsLaws
-pub mod InverseLaws
-pub mod SixteenTables
-pub mod TowerTables
-pub mod PolynomialTables
-pub mod PairLaws
 pub mod DotLaws
-pub mod DelayedLaws
-pub mod DelayedPairs
 pub mod EntryLaws
 pub mod WrittenLaws
 pub mod ColumnLaws

@@ -1,13 +1,7 @@
-pub mod F257Laws
-pub mod F257x2Laws
 pub mod Laws
 pub mod Own
 pub mod Powers
 pub mod PrimeLaws
 pub mod Products
-pub mod QuadraticFields
-pub mod QuadraticLaws
-pub mod ResiduesLaws
-pub mod SixteenLaws
 pub mod Tested
 pub mod Written

@@ -11,7 +11,8 @@ mod sixteen;
 mod sums;
 
 use sc_field::laws::{field_laws, interpolation_laws, power_laws, root_laws, sum_laws};
-use sc_field::{Algebra, ExtensionField, F65537, Field, FromTable, IntoTranscriptField, NoMemory};
+use sc_field::{Algebra, ExtensionField, Field, FromTable, IntoTranscriptField, NoMemory};
+use sc_small_fields::F65537;
 use std::alloc::Global;
 
 // Element number 15, which every field has.

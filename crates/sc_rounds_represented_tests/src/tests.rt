@@ -4,10 +4,11 @@ ghost use Rattle.std.specs.Prelude.{◌≡◌, ◌≤◌, IfOk, length};
 ghost use Rattle.sc_table.specs.Polys.{variables_of};
 
 use sc_challenger::{Challenger, ScriptedChallenger};
-use sc_field::{Field, NoMemory, Poly16, Tower16};
+use sc_field::{Field, NoMemory};
 use sc_rounds::{
     ProductPolynomial, ReprSumcheckProver, SumcheckData, SumcheckError, SumcheckProver,
 };
+use sc_small_fields::{Poly16, Tower16};
 use sc_table::{Point, Poly, VariableOrder};
 use sc_tests_common::{are_pairs, elements, have_numbers, of};
 use std::alloc::Global;

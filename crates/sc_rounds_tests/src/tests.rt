@@ -10,10 +10,11 @@ mod step;
 mod turns;
 
 use sc_challenger::ScriptedChallenger;
-use sc_field::{F65537, Field, NoMemory};
+use sc_field::{Field, NoMemory};
 use sc_rounds::{
     ProductPolynomial, ProverTranscript, SumcheckData, SumcheckError, SumcheckProver, SumcheckShape,
 };
+use sc_small_fields::F65537;
 use sc_table::{Basis, Point, Poly, VariableOrder};
 use sc_tests_common::{are_pairs, elements, have_numbers, of, point, scripted};
 use std::alloc::Global;

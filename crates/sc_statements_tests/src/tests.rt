@@ -10,7 +10,8 @@ mod batches;
 mod claimed;
 mod kinds;
 
-use sc_field::{F65537, Field, NoMemory};
+use sc_field::{Field, NoMemory};
+use sc_small_fields::F65537;
 use sc_statements::EqStatement;
 use sc_statements::laws::row_laws;
 use sc_table::{Point, Poly};

@@ -12,7 +12,8 @@ mod rounds;
 mod successors;
 
 use VariableOrder::{Prefix, Suffix};
-use sc_field::{F65537, Field, NoMemory};
+use sc_field::{Field, NoMemory};
+use sc_small_fields::F65537;
 use sc_svo::{EqPartials, EqSvoPartials, Grids, SvoBatch, SvoClaim, SvoPoint};
 use sc_table::{Poly, VariableOrder};
 use sc_tests_common::{are_pairs, elements, have_numbers, of, point};

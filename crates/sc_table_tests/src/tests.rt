@@ -5,7 +5,8 @@ ghost use Rattle.std.specs.Prelude.{◌≡◌, suc, ◌^◌, length, IfOk};
 mod kernels;
 mod split_eq;
 
-use sc_field::{Algebra, F257, F257x2, F65537, Field, NoMemory};
+use sc_field::{Algebra, Field, NoMemory};
+use sc_small_fields::{F257, F257x2, F65537};
 use sc_table::{
     Basis, Point, Poly, RoundMessage, VariableOrder, extrapolate_01inf, fix_prefix_var_slice,
     fix_suffix_var_slice, lagrange_weights_01inf, strategy_laws, sumcheck_coefficients_prefix,

@@ -3,9 +3,10 @@ ghost use Rattle.std.specs.Prelude.{◌≡◌, map, IfOk, false, refl};
 ghost use Rattle.std.proofs.Common.{lit≤};
 ghost use Rattle.sc_field.specs.Own.{own_representation};
 ghost use Rattle.sc_field.specs.PrimeLaws.{eqb_iff};
-ghost use Rattle.sc_field.specs.ResiduesLaws.{residues_field, residues_two};
+ghost use Rattle.sc_small_fields.specs.ResiduesLaws.{residues_field, residues_two};
 
-use sc_field::{F65537, Field, FromTable, IntoTranscriptField, NoMemory};
+use sc_field::{Field, FromTable, IntoTranscriptField, NoMemory};
+use sc_small_fields::F65537;
 use std::alloc::Global;
 
 /// An element modulo 65537 with a flag and a count, of which only the element is compared. What is

@@ -7,7 +7,8 @@ mod shapes;
 mod texts;
 
 use sc_challenger::{Challenger, Event, ScriptedChallenger};
-use sc_field::{ExtensionField, F65537, Field, NoMemory};
+use sc_field::{ExtensionField, Field, NoMemory};
+use sc_small_fields::F65537;
 use sc_table::{Basis, Point, RoundMessage};
 use sc_tests_common::{elements, have_numbers, of, scripted};
 use sc_transcript::{

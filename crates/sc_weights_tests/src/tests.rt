@@ -8,7 +8,8 @@ ghost use Rattle.std.specs.Prelude.{◌≡◌, ◌≤◌, IfOk};
 ghost use Rattle.sc_definitions.specs.Statements.{arity_of};
 ghost use Rattle.sc_table.specs.Polys.{variables_of};
 
-use sc_field::{F65537, Field, NoMemory};
+use sc_field::{Field, NoMemory};
+use sc_small_fields::F65537;
 use sc_table::{Poly, VariableOrder};
 use sc_tests_common::{elements, of, point};
 use sc_weights::{NextConstraint, RowWeights, Selector};

@@ -22,9 +22,9 @@ use Rattle.sc_degree.specs.declared.error.GenericDegreeError.{GenericDegreeError
 use Rattle.sc_degree.specs.declared.error.GenericDegreeError.TheVariants.{InvalidDegree, RoundCountMismatch, PowWitnessCountMismatch, PolyEvalCountMismatch, InvalidPowWitness, NoWitness, NoMemory}
 use Rattle.sc_degree.specs.Proofs.{Replay, AreWide, rounds_in, start_of, IsCounted, IsReplayedTo, LeavesReplay}
 use Rattle.sc_degree.specs.Shapes.{shape_of}
-use Rattle.sc_field.specs.ResiduesLaws.{residues_field}
-use Rattle.sc_field.specs.F257x2Laws.{f257x2_field}
-use Rattle.sc_field.specs.SixteenLaws.{tower_field}
+use Rattle.sc_small_fields.specs.ResiduesLaws.{residues_field}
+use Rattle.sc_small_fields.specs.F257x2Laws.{f257x2_field}
+use Rattle.sc_small_fields.specs.SixteenLaws.{tower_field}
 use Rattle.sc_verdicts.specs.declared.error.ShapeFault.{ShapeFault}
 use Rattle.sumcheck_jobs.specs.declared.job.FieldName.{FieldName}
 use Rattle.sumcheck_jobs.specs.declared.job.FieldName.TheVariants.{F65537, F257x2, F16}

@@ -17,9 +17,9 @@ use Rattle.sc_audit.specs.Refusals.{or_later, strategy_refusal, shape_refusal, r
 use Rattle.sc_verdicts.specs.Findings.{holds}
 use Rattle.sc_audit.specs.Figures.{Reported, finding_by, false_claim_of, is_matched, figures_of}
 use Rattle.sc_audit.specs.Audits.{figures_from}
-use Rattle.sc_field.specs.ResiduesLaws.{residues_field}
-use Rattle.sc_field.specs.F257x2Laws.{f257x2_field}
-use Rattle.sc_field.specs.SixteenLaws.{tower_field}
+use Rattle.sc_small_fields.specs.ResiduesLaws.{residues_field}
+use Rattle.sc_small_fields.specs.F257x2Laws.{f257x2_field}
+use Rattle.sc_small_fields.specs.SixteenLaws.{tower_field}
 use Rattle.sumcheck_jobs.specs.declared.job.FieldName.{FieldName}
 use Rattle.sumcheck_jobs.specs.declared.job.FieldName.TheVariants.{F65537, F257x2, F16}
 use Rattle.sumcheck_jobs.specs.declared.job.Job.{Job}

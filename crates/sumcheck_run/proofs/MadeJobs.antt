@@ -13,7 +13,7 @@ use Rattle.sc_definitions.specs.Scripted.{scripted_rules}
 use Rattle.sc_definitions.specs.Channels.{channel}
 use Rattle.sc_definitions.proofs.Lengths.{pow-same}
 use Rattle.sc_definitions.proofs.StatementLaws.{first_false_claim-true, first_false_claim-none}
-use Rattle.sc_field.specs.ResiduesLaws.{residues_field}
+use Rattle.sc_small_fields.specs.ResiduesLaws.{residues_field}
 use Rattle.sc_table.specs.declared.strategy.Strategy.{Strategy}
 use Rattle.sc_table.specs.declared.strategy.Strategy.TheVariants.{Plain, Represented, SmallValue}
 use Rattle.sc_statements.specs.declared.statement.Statements.{Statements}

@@ -1,6 +1,6 @@
 -- What clauses see of the values that a number begins.
 use Rattle.std.specs.Prelude.{ℕ}
-use Rattle.sc_field.specs.declared.f65537.F65537.{F65537}
+use Rattle.sc_small_fields.specs.declared.f65537.F65537.{F65537}
 use Rattle.sumcheck_run.specs.declared.values.Values.{Values}
 
 -- the last one that was taken

@@ -17,9 +17,8 @@ use crate::asked::audit_job;
 use crate::grids::push_grids;
 use sc_audit::{Job as AuditJob, Report, Strategy, Verdict, audit};
 use sc_challenger::{Challenger, HashChallenger, ScriptedChallenger};
-use sc_field::{
-    ExtensionField, F257, F257x2, F65537, Field, IntoTranscriptField, NoMemory, Poly16, Tower16,
-};
+use sc_field::{ExtensionField, Field, IntoTranscriptField, NoMemory};
+use sc_small_fields::{F257, F257x2, F65537, Poly16, Tower16};
 use sc_table::RoundMessage;
 use std::alloc::Global;
 use sumcheck_jobs::{FieldName, Job, Mode};

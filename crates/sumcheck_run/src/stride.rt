@@ -3,7 +3,8 @@ ghost use Rattle.std.specs.Prelude.{◌≡◌, ℕ, ◌+◌, ◌*◌, ◌%◌, �
 ghost use Rattle.sumcheck_run.specs.Made.{values_behind};
 ghost use Rattle.sumcheck_run.specs.Values.{number_of};
 
-use sc_field::{F65537, Field};
+use sc_field::Field;
+use sc_small_fields::F65537;
 
 /// How many places stand between a value and the one that it is made of.
 pub(crate) const STRIDE: usize = 8;

@@ -3,7 +3,8 @@ ghost use Rattle.std.specs.Prelude.{◌≡◌, ℕ, suc, ◌+◌, ◌<◌, map, 
 ghost use Rattle.sumcheck_run.specs.Made.{value_at, values_behind};
 
 use crate::stride::{STRIDE, push_rest};
-use sc_field::{F65537, Field, NoMemory};
+use sc_field::{Field, NoMemory};
+use sc_small_fields::F65537;
 use std::alloc::Global;
 
 /// The values that a number begins: each is 75 times the one before it plus 74, modulo 65537.

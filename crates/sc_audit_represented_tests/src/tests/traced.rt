@@ -9,7 +9,8 @@
 use super::{Case, Figures, TWO_ROUNDS, assert_case};
 use sc_audit::Strategy;
 use sc_definitions::Event::{Draw, Word};
-use sc_field::{F65537, Field};
+use sc_field::Field;
+use sc_small_fields::F65537;
 use sc_table::{RoundMessage, VariableOrder};
 use sc_tests_common::{Counted, Image, Traced};
 use std::alloc::Global;

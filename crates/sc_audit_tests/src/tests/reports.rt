@@ -7,7 +7,8 @@ use super::{
 use sc_audit::{AuditError, FitFault, Mode, Strategy, audit};
 use sc_challenger::ScriptedChallenger;
 use sc_definitions::Event::{Draw, Test, Word};
-use sc_field::{F65537, Field};
+use sc_field::Field;
+use sc_small_fields::F65537;
 use sc_table::VariableOrder;
 use std::process::Abort;
 

@@ -3,7 +3,7 @@ use super::seventeen::F17;
 use super::{Case, Figures, Finding, Last, PREFIX, Task, assert_all};
 use sc_audit::{AuditError, FitFault, Strategy};
 use sc_definitions::Event::{Draw, Word};
-use sc_field::F65537;
+use sc_small_fields::F65537;
 use sc_table::VariableOrder;
 
 // One successor alone, over the integers modulo 65537, under a plain build.

@@ -3,7 +3,7 @@ use super::plays::Step::{self, Draw, Grind, Look, Observe, Test};
 use super::plays::play;
 use sc_challenger::{Challenger, GrindError, HashChallenger};
 use sc_definitions::Event;
-use sc_field::F65537;
+use sc_small_fields::F65537;
 
 // SHA-256 of the empty text.
 static EMPTY: [u8; 32] = [

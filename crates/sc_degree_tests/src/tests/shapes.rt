@@ -3,7 +3,8 @@
 use sc_challenger::{Interaction, Kind, Label, Length};
 use sc_degree::GenericDegreeShape;
 use sc_degree::laws::shape_laws;
-use sc_field::{ExtensionField, F257, F257x2, F65537, Field, NoMemory};
+use sc_field::{ExtensionField, Field, NoMemory};
+use sc_small_fields::{F257, F257x2, F65537};
 use std::alloc::Global;
 use std::process::Abort;
 

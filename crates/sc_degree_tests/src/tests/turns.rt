@@ -7,7 +7,8 @@ ghost use Rattle.sc_table.specs.Polys.{variables_of};
 ghost use Rattle.sc_degree.specs.Products.{tables_of, arity_of};
 
 use sc_degree::{FoundTurn, TableProduct, find_turn};
-use sc_field::{F65537, Field, NoMemory};
+use sc_field::{Field, NoMemory};
+use sc_small_fields::F65537;
 use sc_table::Poly;
 use sc_tests_common::{elements, have_numbers, of};
 use std::alloc::Global;

@@ -1,7 +1,8 @@
 //! The integers modulo 65537 and modulo 257, against remainders by hand.
 use super::figures::Operation::{Difference, Double, Node, Opposite, Power, Product, Square, Sum};
 use super::figures::{Figures, assert_figures};
-use sc_field::{F257, F65537, Field};
+use sc_field::Field;
+use sc_small_fields::{F257, F65537};
 
 // 2 * 32769 is 65538, and 3 * 21846 is 65538 too.
 static MODULO_65537: Figures = Figures {

@@ -2,7 +2,8 @@
 //! a + 257 b is a + b u.
 use super::figures::Operation::{Difference, Double, Opposite, Power, Product, Square, Sum};
 use super::figures::{Figures, assert_figures};
-use sc_field::{Algebra, ExtensionField, F257, F257x2, Field};
+use sc_field::{Algebra, ExtensionField, Field};
+use sc_small_fields::{F257, F257x2};
 
 // u u is 3, (2 + u) (2 - u) is 1, and (10 + 20 u) (30 + 40 u) is 2700 + 1000 u: 130 + 229 u. So 2 + u
 // and 2 - u are inverse to each other, and u/3 inverts u. The power 257 turns the sign of u, and the

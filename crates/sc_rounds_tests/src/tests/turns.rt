@@ -5,8 +5,9 @@ ghost use Rattle.sc_table.specs.Polys.{variables_of};
 ghost use Rattle.sc_rounds.specs.Products.{variables_in};
 
 use super::Pair;
-use sc_field::{F65537, Field, NoMemory};
+use sc_field::{Field, NoMemory};
 use sc_rounds::{FoundTurn, ProductPolynomial, find_turn};
+use sc_small_fields::F65537;
 use sc_table::{Poly, RoundMessage, VariableOrder};
 use sc_tests_common::{elements, have_numbers, of};
 use std::alloc::Global;

@@ -5,7 +5,8 @@ ghost use Rattle.sc_statements.specs.Constraints.{constraint_arity};
 
 use super::{claims, table};
 use sc_definitions::FalseClaim;
-use sc_field::{F65537, Field};
+use sc_field::Field;
+use sc_small_fields::F65537;
 use sc_statements::{Constraint, Statements};
 use sc_tests_common::{have_numbers, of};
 use std::process::Abort;

@@ -7,7 +7,8 @@ ghost use Rattle.sc_statements.specs.Groups.{group_arity};
 
 use super::kinds::{TWO_VALUES, a_direct_point, successors, two_scalars};
 use super::{claims, elements, four, point};
-use sc_field::{ExtensionField, F65537, Field};
+use sc_field::{ExtensionField, Field};
+use sc_small_fields::F65537;
 use sc_statements::{Constraint, StatementList, Statements};
 use sc_tests_common::of;
 use std::process::Abort;

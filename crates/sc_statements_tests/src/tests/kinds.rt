@@ -8,7 +8,8 @@ ghost use Rattle.sc_statements.specs.Constraints.{constraint_arity};
 ghost use Rattle.sc_table.specs.Polys.{variables_of};
 
 use super::{elements, four, point, table};
-use sc_field::{F65537, Field};
+use sc_field::Field;
+use sc_small_fields::F65537;
 use sc_statements::{
     Claim, Constraint, NextStatement, SelectStatement, StatementList, Statements, Weights,
 };

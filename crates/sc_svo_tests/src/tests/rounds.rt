@@ -6,7 +6,8 @@ ghost use Rattle.sc_svo.specs.Batches.{batch_in};
 
 use super::claims::{KINDS, Kinds, claims, images, weights};
 use VariableOrder::{Prefix, Suffix};
-use sc_field::{ExtensionField, F257, F257x2, F65537, Field, NoMemory};
+use sc_field::{ExtensionField, Field, NoMemory};
+use sc_small_fields::{F257, F257x2, F65537};
 use sc_svo::SvoBatch;
 use sc_table::{Poly, VariableOrder};
 use sc_tests_common::{elements, table};

@@ -12,7 +12,8 @@ ghost use Rattle.sc_svo.specs.Partials.{IsPartial};
 
 use super::{are_grids, claim, four, point_in_parts};
 use VariableOrder::{Prefix, Suffix};
-use sc_field::{ExtensionField, F257x2, F65537, Field, NoMemory};
+use sc_field::{ExtensionField, Field, NoMemory};
+use sc_small_fields::{F257x2, F65537};
 use sc_svo::{NextPartials, NextSvoPartials, SvoBatch, SvoPoint};
 use sc_table::{Point, Poly, VariableOrder};
 use sc_tests_common::{elements, have_numbers, of, point};

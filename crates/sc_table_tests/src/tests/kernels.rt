@@ -3,7 +3,8 @@
 ghost use Rattle.std.specs.Prelude.{◌≡◌, ◌+◌, ◌*◌, ◌<◌, ◌≤◌, length, IfOk};
 
 use VariableOrder::{Prefix, Suffix};
-use sc_field::{Algebra, F257, F257x2, F65537, Field, NoMemory, Tower16};
+use sc_field::{Algebra, Field, NoMemory};
+use sc_small_fields::{F257, F257x2, F65537, Tower16};
 use sc_table::{
     Poly, RoundMessage, VariableOrder, eval_slice, fold_and_round_coefficients_prefix,
     fold_and_round_coefficients_suffix, joined_block_weights,

@@ -6,7 +6,8 @@ ghost use Rattle.sc_table.specs.SplitEqs.{split_variables};
 
 use super::kernels::{list, weight_at};
 use VariableOrder::{Prefix, Suffix};
-use sc_field::{Algebra, F257, F257x2, F65537, Field, NoMemory};
+use sc_field::{Algebra, Field, NoMemory};
+use sc_small_fields::{F257, F257x2, F65537};
 use sc_table::{Point, Poly, SplitEq, VariableOrder, dot_slices, lagrange_weights_01inf_multi};
 use sc_tests_common::{Traced, elements, entry, have_numbers, point, table};
 use std::alloc::Global;

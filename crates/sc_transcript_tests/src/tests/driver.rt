@@ -3,7 +3,8 @@ use super::{ends, numbers};
 use sc_challenger::{
     Challenger, Event, Interaction, Kind, Label, Length, ScriptedChallenger, observe_ext,
 };
-use sc_field::{ExtensionField, F65537, Field, NoMemory};
+use sc_field::{ExtensionField, Field, NoMemory};
+use sc_small_fields::F65537;
 use sc_tests_common::{of, scripted};
 use sc_transcript::driver::{
     WitnessError, events_in_round, push_round_steps, send_rest, take_rest,

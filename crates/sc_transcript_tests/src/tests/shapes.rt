@@ -1,6 +1,7 @@
 //! The steps of a batch and its separator, as bytes that a script wrote by the format, which is no part of this.
 use sc_challenger::{Interaction, Kind, Label, Length};
-use sc_field::{ExtensionField, F257, F257x2, F65537, Field, NoMemory};
+use sc_field::{ExtensionField, Field, NoMemory};
+use sc_small_fields::{F257, F257x2, F65537};
 use sc_table::Basis;
 use sc_transcript::{SumcheckShape, shape_laws};
 use std::alloc::Global;

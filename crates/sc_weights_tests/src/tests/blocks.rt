@@ -4,7 +4,8 @@
 ghost use Rattle.std.specs.Prelude.{◌≡◌};
 ghost use Rattle.sc_definitions.specs.Statements.{arity_of};
 
-use sc_field::{Algebra, ExtensionField, F257, F257x2, F65537, Field, NoMemory};
+use sc_field::{Algebra, ExtensionField, Field, NoMemory};
+use sc_small_fields::{F257, F257x2, F65537};
 use sc_table::{Poly, VariableOrder};
 use sc_tests_common::{of, point, table};
 use sc_weights::{NextConstraint, RowWeights, Selector};

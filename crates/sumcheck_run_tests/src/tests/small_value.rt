@@ -1,8 +1,8 @@
 //! What small-value builds are refused for, and the lines of grids.
 use super::{Case, Refusal, assert_cases, assert_refused};
 use sc_audit::{Grid, Grids, Report, Verdict};
-use sc_field::F65537;
 use sc_rounds::SumcheckData;
+use sc_small_fields::F65537;
 use sc_table::{RoundMessage, Row};
 use sc_tests_common::{elements, of, point};
 use std::alloc::Global;

@@ -1,6 +1,0 @@
-use Rattle.std.proofs.Common.{arith}
-use Rattle.sc_field.specs.F257Laws.{f257_plus, f257_opposite}
-use Rattle.sc_field.proofs.f257.F257.above.Goals as goal
-
-pub returns-clause-number : goal.returns-clause-number
-returns-clause-number c = grind (arith, f257_plus, f257_opposite)

@@ -1,5 +1,0 @@
-use Rattle.sc_field.proofs.PairLaws.{same_value}
-use Rattle.sc_field.proofs.f257x2.F257x2Field.TWO.Goals as goal
-
-pub returns : goal.returns
-returns c = same_value _ _ _ _

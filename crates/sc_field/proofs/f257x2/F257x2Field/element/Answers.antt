@@ -1,9 +1,0 @@
-use Rattle.std.proofs.Common.{◌∙◌}
-use Rattle.sc_definitions.specs.Residues.{residues}
-use Rattle.sc_field.specs.F257Laws.{f257_field}
-use Rattle.sc_field.specs.QuadraticLaws.{same_pair}
-use Rattle.sc_field.proofs.PairLaws.{element_pair}
-use Rattle.sc_field.proofs.f257x2.F257x2Field.element.Goals as goal
-
-pub returns : goal.returns
-returns c = same_pair (residues 257) f257_field.ring c.element.ensures c.element-2.ensures ∙ element_pair c.args.index

@@ -1,0 +1,14 @@
+use Rattle.std.proofs.Common.{◌<◌, subst, sym}
+use Rattle.sc_definitions.proofs.RingLaws.{times_below}
+use Rattle.sc_small_fields.specs.SixteenLaws.{polynomials_field}
+use Rattle.sc_definitions.specs.Sixteen.{polynomials}
+use Rattle.sc_small_fields.proofs.PolynomialTables.{polynomial_product_entry}
+use Rattle.sc_small_fields.proofs.poly16.product.Goals as goal
+
+pub returns-clause-below : goal.returns-clause-below
+returns-clause-below c =
+    subst (λ k. k < 16) (sym (polynomial_product_entry c.args.a c.args.b c.requires.first c.requires.second))
+    (times_below polynomials polynomials_field.ring c.args.a c.args.b)
+
+pub returns-clause-product : goal.returns-clause-product
+returns-clause-product c = polynomial_product_entry c.args.a c.args.b c.requires.first c.requires.second
