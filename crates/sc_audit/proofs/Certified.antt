@@ -170,6 +170,11 @@ pub held_figures : {F EF : Type 0} (base : F → ℕ) (number : EF → ℕ) (str
 held_figures base number strategy (Ok r) is = ap (finding_in number) is
 held_figures base number strategy (Err e) is = tt
 
+-- the same of a task by another name
+pub held-as : {F EF : Type 0} (base : F → ℕ) (number : EF → ℕ) (result : Result (Report F EF) AuditError) {t t' : Task} → t ≡ t' →
+    IfOk result (λ r. HoldsIfBuilt t' (report_in base number r).figures) → IfOk result (λ r. HoldsIfBuilt t (report_in base number r).figures)
+held-as base number result same held = subst (λ s. IfOk result (λ r. HoldsIfBuilt s (report_in base number r).figures)) (sym same) held
+
 -- nothing is asked of a report on a proof
 pub unheld : {F EF : Type 0} (base : F → ℕ) (number : EF → ℕ) (proof : Option Given) (result : Result (Report F EF) AuditError) →
     IfOk result (λ r. HoldsIfBuilt (check proof) (report_in base number r).figures)

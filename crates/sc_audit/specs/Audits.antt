@@ -1,5 +1,5 @@
 -- What is answered, and what the answer leaves of the challenger's history.
-use Rattle.std.specs.Prelude.{◌≡◌, ◌⊎◌, ◌<◌, ℕ, suc, ◌+◌, List, [], ◌++◌, length, take, All, Option, Some, None, Result, Ok, Err}
+use Rattle.std.specs.Prelude.{◌≡◌, ◌⊎◌, ◌<◌, ℕ, suc, ◌+◌, List, [], ◌++◌, length, take, All, Option, Some, None, Result, Ok, Err, IfOk, IfErr}
 use Rattle.sc_definitions.specs.declared.events.Event.{Event}
 use Rattle.sc_definitions.specs.Rounds.{next_claim}
 use Rattle.sc_definitions.specs.Transcript.{Round, messages_of, rounds_events, challenges, IsBuilt}
@@ -17,6 +17,7 @@ use Rattle.sc_audit.specs.Cases.{Given, Task, build, check, Asked, start_of}
 use Rattle.sc_audit.specs.Refusals.{refusal_of, task_refusal}
 use Rattle.sc_verdicts.specs.Findings.{holds}
 use Rattle.sc_audit.specs.Figures.{Figures, Reported, figures_of, report_in}
+use Rattle.sc_audit.specs.Certified.{CertifiesLuck}
 
 -- The rounds that are played: those that are built, of which each sends what an honest prover sends, with the first witness that passes; or those of the
 -- proof. No proof has no rounds.
@@ -106,14 +107,15 @@ abbrev pub Answers : {F EF : Type 0} → (F → ℕ) → (EF → ℕ) → Option
 Answers base number first q (Ok r) h' = IsAudited q (report_in base number r) h'
 Answers base number first q (Err e) h' = IsCaused first q h' e
 
--- the same where the shape fits, so that this is the refusal of what is done
-abbrev pub AnswersTask : {F EF : Type 0} → (F → ℕ) → (EF → ℕ) → Asked → Result (Report F EF) AuditError → List Event → Type 0
-AnswersTask base number q result h' = Answers base number (task_refusal q) q result h'
-
 -- a refusal, if there is one, is answered, want of memory aside
 abbrev pub IsRefusedBy : {T : Type 0} → Option AuditError → Result T AuditError → Type 0
 IsRefusedBy None result = Unit {0}
 IsRefusedBy (Some e) result = (result ≡ Err e) ⊎ (result ≡ Err NoMemory)
+
+-- both, where the shape fits, so that what is done alone can be refused before a round
+pub record AnswersTask {F EF : Type 0} (base : F → ℕ) (number : EF → ℕ) (q : Asked) (result : Result (Report F EF) AuditError) (h' : List Event) : Type 0 where
+  pub answers : Answers base number (task_refusal q) q result h'
+  pub refused : IsRefusedBy (task_refusal q) result
 
 -- the verdict on a build is that the statements hold
 abbrev pub HoldsIfBuilt : Task → Figures → Type 0
@@ -137,6 +139,14 @@ abbrev pub MayMeet : AuditError → Type 0
 MayMeet (NoWitness i) = Unit {0}
 MayMeet NoMemory = Unit {0}
 MayMeet e = ⊥
+
+-- all that is said of what an audit answers
+pub record IsAnswer {F EF : Type 0} (base : F → ℕ) (number : EF → ℕ) (q : Asked) (result : Result (Report F EF) AuditError) (h' : List Event) : Type 0 where
+  pub answers : Answers base number (refusal_of q) q result h'
+  pub holds : IfOk result (λ r. HoldsIfBuilt q.case.task (report_in base number r).figures)
+  pub certified : IfOk result (λ r. CertifiesLuck q.ops q.case.problem (report_in base number r).figures)
+  pub refused : IsRefusedBy (refusal_of q) result
+  pub answered : IsValid q → IfErr result MayMeet
 
 -- what the replay's or the prover's refusal is answered as; neither refuses more than these, want of memory aside
 abbrev pub refusal_by : SumcheckError → AuditError

@@ -1,8 +1,8 @@
 -- Rounds that begin on the grids of a batch.
-use Rattle.std.specs.Prelude.{◌≡◌, ℕ, ◌-◌, ◌^◌, ◌<◌, ◌≤◌, List, [], ◌++◌, All, length, map, Some, None, Result, Ok, Err}
+use Rattle.std.specs.Prelude.{◌≡◌, ℕ, ◌+◌, ◌-◌, ◌^◌, ◌<◌, ◌≤◌, List, [], ◌++◌, All, length, map, Some, None, Result, Ok, Err}
 use Rattle.std.specs.declared.cmp.PartialEq.{Ghosts as PartialEqOf}
 use Rattle.sc_definitions.specs.declared.events.Event.{Event}
-use Rattle.sc_definitions.specs.Ring.{Ops}
+use Rattle.sc_definitions.specs.Ring.{Ops, power}
 use Rattle.sc_definitions.specs.Tables.{prefix, rows_of, bound_by}
 use Rattle.sc_definitions.specs.Statements.{Kind, equality, successor, Statement, claims, claimed_values}
 use Rattle.sc_definitions.specs.Combined.{Scaled, combined_weight, scaled_from}
@@ -76,6 +76,14 @@ listed_in number c = record { claims = claims_in number c.claims.items; values =
 pub record Appends (o : Ops) (challenge p : ℕ) (ss : List Statement) (old now : Listed) : Type 0 where
   pub claims : now.claims ≡ old.claims ++ claims_from o challenge p ss
   pub values : now.values ≡ old.values ++ claimed_values ss
+
+-- the same, where the factor of the first of them is given in place of its power of the challenge
+abbrev pub AppendsBy : Ops → ℕ → ℕ → List Statement → Listed → Listed → Type 0
+AppendsBy o challenge first ss old now = (p : ℕ) → first ≡ power o challenge p → Appends o challenge p ss old now
+
+-- the factor of a claim behind them
+abbrev pub IsNextFactor : Ops → ℕ → ℕ → List Statement → ℕ → Type 0
+IsNextFactor o challenge first ss next = (p : ℕ) → first ≡ power o challenge p → next ≡ power o challenge (p + length ss)
 
 -- A batch is on a problem's table, of no more rounds than it has variables, and its claims' weights are the batched ones at each of its rows.
 pub record IsBatchOf (o : Ops) (p : Problem) (b : Batch) : Type 0 where

@@ -3,7 +3,7 @@ ghost use Rattle.std.specs.Prelude.{◌≡◌, IfOk, IfErr, IfSome};
 ghost use Rattle.sc_audit.specs.Cases.{asked_of, problem_in, task_in};
 ghost use Rattle.sc_audit.specs.Refusals.{refusal_of, shape_refusal};
 ghost use Rattle.sc_audit.specs.Figures.{report_in};
-ghost use Rattle.sc_audit.specs.Audits.{Answers, IsRefusedBy, HoldsIfBuilt, IsValid, MayMeet};
+ghost use Rattle.sc_audit.specs.Audits.{Answers, IsAnswer, IsRefusedBy, HoldsIfBuilt, IsValid, MayMeet};
 ghost use Rattle.sc_audit.specs.Certified.{CertifiesLuck};
 ghost use Rattle.sc_audit.specs.Stated.{IsRestated, IsWayOf, LeavesStated};
 
@@ -106,19 +106,9 @@ fn audit_by<F: Field, EF: ExtensionField<F>, R: IntoTranscriptField<EF>, C: Chal
 ) -> Result<Report<F, EF>, AuditError>
     requires { IfSome way (IsWayOf job.now) }
     ensures rules { C.rules challenger.new ≡ C.rules challenger.old }
-    ensures answers { Answers F.number EF.number
-        (refusal_of (asked_of job.now (C.rules challenger.old) (C.history challenger.old)))
-        (asked_of job.now (C.rules challenger.old) (C.history challenger.old))
-        result (C.history challenger.new) }
-    ensures holds { IfOk result (λ r. HoldsIfBuilt (task_in F.number EF.number job.now.mode)
-        (report_in F.number EF.number r).figures) }
-    ensures certified { IfOk result (λ r. CertifiesLuck EF.ops (problem_in job.now)
-        (report_in F.number EF.number r).figures) }
-    ensures refused { IsRefusedBy
-        (refusal_of (asked_of job.now (C.rules challenger.old) (C.history challenger.old))) result }
-    ensures answered { IsValid
-        (asked_of job.now (C.rules challenger.old) (C.history challenger.old))
-        → IfErr result MayMeet }
+    ensures answer { IsAnswer F.number EF.number
+        (asked_of job.now (C.rules challenger.old) (C.history challenger.old)) result
+        (C.history challenger.new) }
 {
     let fitting = FittingJob::of(job, challenger.max_bits())?;
     match &job.mode {

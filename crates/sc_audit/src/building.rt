@@ -2,9 +2,8 @@
 ghost use Rattle.std.specs.Prelude.{◌≡◌, ◌≤◌, IfOk, None};
 ghost use Rattle.sc_audit.specs.Cases.{asked_to, build};
 ghost use Rattle.sc_audit.specs.Fitting.{job_in, stated_in};
-ghost use Rattle.sc_audit.specs.Refusals.{task_refusal};
 ghost use Rattle.sc_audit.specs.Figures.{false_claim_of};
-ghost use Rattle.sc_audit.specs.Audits.{Answers, AnswersTask, IsRefusedBy};
+ghost use Rattle.sc_audit.specs.Audits.{Answers, AnswersTask};
 ghost use Rattle.sc_audit.specs.Built.{IsBuiltCase, LeavesBuild, kept_in};
 ghost use Rattle.sc_audit.specs.SmallRounds.{strategy_by, IsReady};
 
@@ -31,12 +30,9 @@ pub(crate) fn build<F: Field, EF: ExtensionField<F>, R: IntoTranscriptField<EF>,
 ) -> Result<Report<F, EF>, AuditError>
     requires { (job_in fitting.now).pow_bits ≤ (C.rules challenger.old).max_bits }
     ensures rules { C.rules challenger.new ≡ C.rules challenger.old }
-    ensures answers { AnswersTask F.number EF.number
+    ensures task { AnswersTask F.number EF.number
         (asked_to (job_in fitting.now) (build strategy) (C.rules challenger.old)
         (C.history challenger.old)) result (C.history challenger.new) }
-    ensures refused { IsRefusedBy (task_refusal
-        (asked_to (job_in fitting.now) (build strategy) (C.rules challenger.old)
-        (C.history challenger.old))) result }
     ensures holds { IfOk result (λ r. r.verdict ≡ Verdict.Holds) }
 {
     check_strategy(fitting, strategy)?;

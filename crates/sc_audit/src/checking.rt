@@ -7,9 +7,8 @@ ghost use Rattle.sc_table.specs.Strategy.{order_of};
 ghost use Rattle.sc_transcript.specs.Data.{messages_in, witnesses_in};
 ghost use Rattle.sc_audit.specs.Cases.{asked_to, given_in, check};
 ghost use Rattle.sc_audit.specs.Fitting.{job_in, stated_in};
-ghost use Rattle.sc_audit.specs.Refusals.{task_refusal};
 ghost use Rattle.sc_audit.specs.Figures.{report_in, figures_of};
-ghost use Rattle.sc_audit.specs.Audits.{AnswersTask, IsRefusedBy};
+ghost use Rattle.sc_audit.specs.Audits.{AnswersTask};
 ghost use Rattle.sc_audit.specs.Checked.{LeavesReport};
 
 use crate::common::refusal;
@@ -33,9 +32,9 @@ pub(crate) fn check<F: Field, EF: ExtensionField<F>, C: Challenger<F>>(
 ) -> Result<Report<F, EF>, AuditError>
     requires { (job_in fitting.now).pow_bits ≤ (C.rules challenger.old).max_bits }
     ensures rules { C.rules challenger.new ≡ C.rules challenger.old }
-    ensures answers { AnswersTask F.number EF.number
-        (asked_to (job_in fitting.now) (check (option_map (given_in F.number EF.number) proof.now)) (C.rules challenger.old) (C.history challenger.old)) result (C.history challenger.new) }
-    ensures refused { IsRefusedBy (task_refusal (asked_to (job_in fitting.now) (check (option_map (given_in F.number EF.number) proof.now)) (C.rules challenger.old) (C.history challenger.old))) result }
+    ensures task { AnswersTask F.number EF.number
+        (asked_to (job_in fitting.now) (check (option_map (given_in F.number EF.number) proof.now))
+        (C.rules challenger.old) (C.history challenger.old)) result (C.history challenger.new) }
 {
     match proof {
         Some(proof) => check_rounds(alloc, fitting, proof, challenger),
@@ -51,9 +50,9 @@ fn check_none<F: Field, EF: ExtensionField<F>, C: Challenger<F>>(
 ) -> Result<Report<F, EF>, AuditError>
     requires { (job_in fitting.now).pow_bits ≤ (C.rules challenger.old).max_bits }
     ensures rules { C.rules challenger.new ≡ C.rules challenger.old }
-    ensures answers { AnswersTask F.number EF.number
-        (asked_to (job_in fitting.now) (check None) (C.rules challenger.old) (C.history challenger.old)) result (C.history challenger.new) }
-    ensures refused { IsRefusedBy (task_refusal (asked_to (job_in fitting.now) (check None) (C.rules challenger.old) (C.history challenger.old))) result }
+    ensures task { AnswersTask F.number EF.number
+        (asked_to (job_in fitting.now) (check None)
+        (C.rules challenger.old) (C.history challenger.old)) result (C.history challenger.new) }
 {
     let variables = fitting.job.constraint.num_variables();
     if variables > 0 {
@@ -73,9 +72,9 @@ fn check_rounds<F: Field, EF: ExtensionField<F>, C: Challenger<F>>(
 ) -> Result<Report<F, EF>, AuditError>
     requires { (job_in fitting.now).pow_bits ≤ (C.rules challenger.old).max_bits }
     ensures rules { C.rules challenger.new ≡ C.rules challenger.old }
-    ensures answers { AnswersTask F.number EF.number
-        (asked_to (job_in fitting.now) (check (Some (given_in F.number EF.number proof.now))) (C.rules challenger.old) (C.history challenger.old)) result (C.history challenger.new) }
-    ensures refused { IsRefusedBy (task_refusal (asked_to (job_in fitting.now) (check (Some (given_in F.number EF.number proof.now))) (C.rules challenger.old) (C.history challenger.old))) result }
+    ensures task { AnswersTask F.number EF.number
+        (asked_to (job_in fitting.now) (check (Some (given_in F.number EF.number proof.now)))
+        (C.rules challenger.old) (C.history challenger.old)) result (C.history challenger.new) }
 {
     let job = fitting.job;
     let mut claim = EF::ZERO;

@@ -1,6 +1,5 @@
 //! Statements as the claims of a batch, with the values that they claim.
-ghost use Rattle.std.specs.Prelude.{◌≡◌, ℕ, ◌+◌, ◌∷◌, [], ◌++◌, List, length, map, IfOk, OnOk};
-ghost use Rattle.sc_definitions.specs.Ring.{power};
+ghost use Rattle.std.specs.Prelude.{◌≡◌, ℕ, ◌∷◌, [], ◌++◌, List, length, map, IfOk, OnOk};
 ghost use Rattle.sc_definitions.specs.Statements.{
   Statement,
   claimed_values,
@@ -17,7 +16,7 @@ ghost use Rattle.sc_statements.specs.EqStatements.{eq_arity, eq_statements};
 ghost use Rattle.sc_statements.specs.NextStatements.{next_arity, next_statements};
 ghost use Rattle.sc_statements.specs.Groups.{group_arity, group_statements};
 ghost use Rattle.sc_svo.specs.Claims.{AreOn, claims_in};
-ghost use Rattle.sc_audit.specs.SmallRounds.{AreTaken, Appends, claims_from, listed_in};
+ghost use Rattle.sc_audit.specs.SmallRounds.{AreTaken, AppendsBy, IsNextFactor, claims_from, listed_in};
 
 use sc_definitions::FalseClaim;
 use sc_field::{ExtensionField, Field, NoMemory};
@@ -82,14 +81,11 @@ fn push_group<F: Field, EF: ExtensionField<F>>(
 ) -> Result<EF, NoMemory>
     requires { AreTaken
         (group_statements (λ x. EF.embedding (F.number x)) EF.number group.now) }
-    ensures claims { OnOk result ((p : ℕ) → EF.number first ≡ power EF.ops (EF.number challenge) p →
-        Appends EF.ops (EF.number challenge) p
+    ensures claims { OnOk result (AppendsBy EF.ops (EF.number challenge) (EF.number first)
         (group_statements (λ x. EF.embedding (F.number x)) EF.number group.now)
         (listed_in EF.number claimed.old) (listed_in EF.number claimed.new)) }
-    ensures next { IfOk result (λ next. (p : ℕ) →
-        EF.number first ≡ power EF.ops (EF.number challenge) p → EF.number next
-        ≡ power EF.ops (EF.number challenge) (p + length
-        (group_statements (λ x. EF.embedding (F.number x)) EF.number group.now))) }
+    ensures next { IfOk result (λ next. IsNextFactor EF.ops (EF.number challenge) (EF.number first)
+        (group_statements (λ x. EF.embedding (F.number x)) EF.number group.now) (EF.number next)) }
     ensures on { AreOn (group_arity group.now) claimed.old.claims.items →
         OnOk result (AreOn (group_arity group.now) claimed.new.claims.items) }
 {
@@ -109,12 +105,11 @@ fn push_values<EF: Field>(
     challenge: EF,
     first: EF,
 ) -> Result<EF, NoMemory>
-    ensures claims { OnOk result ((p : ℕ) → EF.number first ≡ power EF.ops (EF.number challenge) p →
-        Appends EF.ops (EF.number challenge) p (eq_statements EF.number statement.now)
+    ensures claims { OnOk result (AppendsBy EF.ops (EF.number challenge) (EF.number first)
+        (eq_statements EF.number statement.now)
         (listed_in EF.number claimed.old) (listed_in EF.number claimed.new)) }
-    ensures next { IfOk result (λ next. (p : ℕ) →
-        EF.number first ≡ power EF.ops (EF.number challenge) p → EF.number next
-        ≡ power EF.ops (EF.number challenge) (p + length (eq_statements EF.number statement.now))) }
+    ensures next { IfOk result (λ next. IsNextFactor EF.ops (EF.number challenge) (EF.number first)
+        (eq_statements EF.number statement.now) (EF.number next)) }
     ensures on { AreOn (eq_arity statement.now) claimed.old.claims.items →
         OnOk result (AreOn (eq_arity statement.now) claimed.new.claims.items) }
 {
@@ -141,13 +136,11 @@ fn push_successors<EF: Field>(
     first: EF,
 ) -> Result<EF, NoMemory>
     requires { AreTaken (next_statements EF.number statement.now) }
-    ensures claims { OnOk result ((p : ℕ) → EF.number first ≡ power EF.ops (EF.number challenge) p →
-        Appends EF.ops (EF.number challenge) p (next_statements EF.number statement.now)
+    ensures claims { OnOk result (AppendsBy EF.ops (EF.number challenge) (EF.number first)
+        (next_statements EF.number statement.now)
         (listed_in EF.number claimed.old) (listed_in EF.number claimed.new)) }
-    ensures next { IfOk result (λ next. (p : ℕ) →
-        EF.number first ≡ power EF.ops (EF.number challenge) p → EF.number next
-        ≡ power EF.ops (EF.number challenge)
-        (p + length (next_statements EF.number statement.now))) }
+    ensures next { IfOk result (λ next. IsNextFactor EF.ops (EF.number challenge) (EF.number first)
+        (next_statements EF.number statement.now) (EF.number next)) }
     ensures on { AreOn (next_arity statement.now) claimed.old.claims.items →
         OnOk result (AreOn (next_arity statement.now) claimed.new.claims.items) }
 {

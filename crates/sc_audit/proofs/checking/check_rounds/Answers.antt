@@ -54,8 +54,8 @@ report_on-requires-clause-residual g c =
     residual_checked q given end out replayed messages witnesses
 
 -- a replay that was reported on
-pub returns-clause-answers : goal.returns-clause-answers
-returns-clause-answers g c =
+pub returns-clause-task : goal.returns-clause-task
+returns-clause-task g c =
     let N = g.EF.Field.number in
     let job = c.args.fitting.now.job.now in
     let q = asked_of job (g.C.Challenger.rules c.args.challenger.now) (g.C.Challenger.history c.args.challenger.now) in
@@ -69,28 +69,14 @@ returns-clause-answers g c =
     let end = footing (g.C.Challenger.history c.verify_rounds.new.challenger) (N c.verify_rounds.new.claimed_sum) in
     let out = map N c.in-Ok.challenges in
     let replayed = subst (λ f. IsReplayed (next_claim evaluation g.EF.Field.ops) q.channel f end (given_rounds given.messages given.witnesses) out) start c.in-Ok.ensures.left.1 in
-    report_checked q given end out replayed messages witnesses g.F.Field.number N _ c.report_on.result c.report_on.ensures
-
-pub returns-clause-refused : goal.returns-clause-refused
-returns-clause-refused g c =
-    let N = g.EF.Field.number in
-    let job = c.args.fitting.now.job.now in
-    let q = asked_of job (g.C.Challenger.rules c.args.challenger.now) (g.C.Challenger.history c.args.challenger.now) in
-    let given = given_in g.F.Field.number N c.args.proof.now in
-    let claim : N c.combine_evals.new.eval ≡ claim_of g.EF.Field.ops (problem_in job) =
-    claim-batched g.EF.Field.ops _ _ (claim-alone g.EF.Field.ops g.met.EF.Field.is_field.ring _ _ _ _ _ (ap N c.ZERO-claim.ensures ∙ g.met.EF.Field.zero_is) c.combine_evals.ensures) in
-    let start = start_is q _ _ _ (sym g.met.EF.ExtensionField.degree_is) c.num_variables.ensures claim in
-    let counts = c.in-Ok.ensures.left.0 in
-    let messages = counts.rounds ∙ c.num_variables.ensures in
-    let witnesses = counts.witnesses ∙ ap (witness_count job.pow_bits) c.num_variables.ensures in
-    let end = footing (g.C.Challenger.history c.verify_rounds.new.challenger) (N c.verify_rounds.new.claimed_sum) in
-    let out = map N c.in-Ok.challenges in
-    let replayed = subst (λ f. IsReplayed (next_claim evaluation g.EF.Field.ops) q.channel f end (given_rounds given.messages given.witnesses) out) start c.in-Ok.ensures.left.1 in
-    unrefused _ _ (count-none (problem_in job).variables job.pow_bits given messages witnesses)
+    record {
+      answers = report_checked q given end out replayed messages witnesses g.F.Field.number N _ c.report_on.result c.report_on.ensures;
+      refused = unrefused _ _ (count-none (problem_in job).variables job.pow_bits given messages witnesses);
+    }
 
 -- a replay that was refused
-pub returns-in-Err-clause-answers : goal.returns-in-Err-clause-answers
-returns-in-Err-clause-answers g c =
+pub returns-in-Err-clause-task : goal.returns-in-Err-clause-task
+returns-in-Err-clause-task g c =
     let N = g.EF.Field.number in
     let job = c.args.fitting.now.job.now in
     let q = asked_of job (g.C.Challenger.rules c.args.challenger.now) (g.C.Challenger.history c.args.challenger.now) in
@@ -99,16 +85,7 @@ returns-in-Err-clause-answers g c =
     claim-batched g.EF.Field.ops _ _ (claim-alone g.EF.Field.ops g.met.EF.Field.is_field.ring _ _ _ _ _ (ap N c.ZERO-claim.ensures ∙ g.met.EF.Field.zero_is) c.combine_evals.ensures) in
     let start = start_is q _ _ _ (sym g.met.EF.ExtensionField.degree_is) c.num_variables.ensures claim in
     let end = footing (g.C.Challenger.history c.verify_rounds.new.challenger) (N c.verify_rounds.new.claimed_sum) in
-    caused_err _ (with_task q (check (Some given))) _ _ _ c.refusal.ensures (proof_refused q given N _ _ _ end _ c.in-Err.error c.num_variables.ensures start (λ kept. kept) c.in-Err.ensures.left)
-
-pub returns-in-Err-clause-refused : goal.returns-in-Err-clause-refused
-returns-in-Err-clause-refused g c =
-    let N = g.EF.Field.number in
-    let job = c.args.fitting.now.job.now in
-    let q = asked_of job (g.C.Challenger.rules c.args.challenger.now) (g.C.Challenger.history c.args.challenger.now) in
-    let given = given_in g.F.Field.number N c.args.proof.now in
-    let claim : N c.combine_evals.new.eval ≡ claim_of g.EF.Field.ops (problem_in job) =
-    claim-batched g.EF.Field.ops _ _ (claim-alone g.EF.Field.ops g.met.EF.Field.is_field.ring _ _ _ _ _ (ap N c.ZERO-claim.ensures ∙ g.met.EF.Field.zero_is) c.combine_evals.ensures) in
-    let start = start_is q _ _ _ (sym g.met.EF.ExtensionField.degree_is) c.num_variables.ensures claim in
-    let end = footing (g.C.Challenger.history c.verify_rounds.new.challenger) (N c.verify_rounds.new.claimed_sum) in
-    refused_err _ _ _ _ c.refusal.ensures (counts_refused q given _ N _ _ end _ c.in-Err.error c.num_variables.ensures c.in-Err.ensures.left)
+    record {
+      answers = caused_err _ (with_task q (check (Some given))) _ _ _ c.refusal.ensures (proof_refused q given N _ _ _ end _ c.in-Err.error c.num_variables.ensures start (λ kept. kept) c.in-Err.ensures.left);
+      refused = refused_err _ _ _ _ c.refusal.ensures (counts_refused q given _ N _ _ end _ c.in-Err.error c.num_variables.ensures c.in-Err.ensures.left);
+    }
