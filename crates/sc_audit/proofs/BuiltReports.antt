@@ -5,9 +5,9 @@ use Rattle.sc_definitions.specs.declared.events.Event.{Event}
 use Rattle.sc_definitions.specs.Ring.{IsRing}
 use Rattle.sc_definitions.specs.Tables.{Basis, evaluation, IsOffered, entries, rows_of, value_in, point_of, bound_by}
 use Rattle.sc_definitions.specs.Rounds.{honest_pair, next_claim}
-use Rattle.sc_definitions.specs.Transcript.{Round, messages_of, challenges, IsBuilt}
+use Rattle.sc_definitions.specs.Transcript.{Round, messages_of, challenges}
 use Rattle.sc_definitions.specs.Replays.{given_rounds}
-use Rattle.sc_definitions.specs.Channels.{Wire, empty_wire, witnesses_of, Footing, NoWitnessFound, IsReplayed, IsReplayedInPart, FailsAt}
+use Rattle.sc_definitions.specs.Channels.{Wire, empty_wire, witnesses_of, Footing, NoWitnessFound, IsReplayed, IsReplayedInPart, FailsAt, IsBuilt}
 use Rattle.sc_definitions.specs.Standings.{Setting, Standing, entries_of, message_in, honest_in, IsPlayed, IsPlayedWithoutWitness}
 use Rattle.sc_definitions.specs.Problem.{weights_of, claim_of, honest_of, residual_of, eval_of, weight_value_of}
 use Rattle.sc_definitions.specs.Lucky.{luck_of}
@@ -66,15 +66,14 @@ module _ (q : Asked) (ring : IsRing q.ops) (even : q.case.problem.basis ≡ eval
       honest-same evaluation p.order q.ops ring tt p.variables _ p.table _ (weights_of q.ops p) (rows-entries_of p.variables p.table) (rows-entries_of p.variables (weights_of q.ops p)) rs m whole
       ∙ ap (λ b. honest_pair b p.order q.ops p.table (weights_of q.ops p) rs m) (sym even)
 
-  built_honest : (rounds : List Round) → IsBuilt (honest_in setting_for start_for) q.channel.rules q.channel.extension q.channel.bits (start_of q).history [] q.case.problem.variables rounds →
-      IsBuilt (honest_of q.ops q.case.problem) q.channel.rules q.channel.extension q.channel.bits (start_of q).history [] q.case.problem.variables rounds
+  built_honest : (rounds : List Round) → IsBuilt (honest_in setting_for start_for) q.channel (start_of q).history [] q.case.problem.variables rounds →
+      IsBuilt (honest_of q.ops q.case.problem) q.channel (start_of q).history [] q.case.problem.variables rounds
   unfolding honest_of
   built_honest rounds b =
       let p = q.case.problem in
-      let c = q.channel in
-      subst (λ k. IsBuilt (honest_pair k p.order q.ops p.table (weights_of q.ops p)) c.rules c.extension c.bits (start_of q).history [] p.variables rounds) (sym even)
+      subst (λ k. IsBuilt (honest_pair k p.order q.ops p.table (weights_of q.ops p)) q.channel (start_of q).history [] p.variables rounds) (sym even)
       (built-same evaluation p.order q.ops ring tt p.variables _ p.table _ (weights_of q.ops p) (rows-entries_of p.variables p.table) (rows-entries_of p.variables (weights_of q.ops p))
-      c.rules c.extension c.bits (start_of q).history [] p.variables rounds (omega arith) b)
+      q.channel (start_of q).history [] p.variables rounds (omega arith) b)
 
   -- the one entry that is left is the table's value at the challenges
   value_left : (f : ℕ → ℕ) (rs xs : List ℕ) (x : ℕ) → length rs ≡ q.case.problem.variables →
@@ -216,7 +215,7 @@ module _ (q : Asked) (ring : IsRing q.ops) (even : q.case.problem.basis ≡ eval
     rounds_given : given_rounds k.wire.messages k.wire.witnesses ≡ b.rounds
     rounds_given =
         ap (λ (w : Wire). given_rounds w.messages w.witnesses) b.wire
-        ∙ given_played (honest_of q.ops q.case.problem) q.channel.rules q.channel.extension q.channel.bits (start_of q).history [] q.case.problem.variables b.rounds b.built
+        ∙ given_played (honest_of q.ops q.case.problem) q.channel (start_of q).history [] q.case.problem.variables b.rounds b.built
 
     -- its counts
     pub rounds_built : length k.wire.messages ≡ q.case.problem.variables
@@ -250,7 +249,7 @@ module _ (q : Asked) (ring : IsRing q.ops) (even : q.case.problem.basis ≡ eval
         let moved : IsReplayed (next_claim p.basis o) q.channel (start_of q) end b.rounds out =
         subst (λ rounds. IsReplayed (next_claim p.basis o) q.channel (start_of q) end rounds out) rounds_given replays in
         let matched : is_matched o p (messages_of b.rounds) rs ≡ true =
-        eq-eqb _ _ (built-residual o ring p q.channel.rules q.channel.extension q.channel.bits (start_of q).history b.rounds offered (first_false_claim-all o p.variables p.table 0 p.statements true_all) b.count b.built) in
+        eq-eqb _ _ (built-residual o ring p q.channel (start_of q).history b.rounds offered (first_false_claim-all o p.variables p.table 0 p.statements true_all) b.count b.built) in
         let luck = luck_of o p (messages_of b.rounds) rs in
         let finding : holds ≡ finding_by (is_matched o p (messages_of b.rounds) rs) (false_claim_of o p) luck =
         sym (ap (λ t. finding_by t (false_claim_of o p) luck) matched ∙ ap (λ c. finding_by true c luck) true_all) in

@@ -50,7 +50,7 @@ played_true s ring offered t u rs p true_sum =
     let start : t.claim ≡ true_claim s.basis s.order o f w [] n = true_sum ∙ sym (true_claim-inner o ring s.basis s.order f w [] n) in
     let left : n - length p.rounds ≡ m = omega (arith, p.count) in
     p.claim ∙ ap (claim_along next t.claim (messages_of p.rounds)) p.drawn ∙ ap (λ k. claim_along next k (messages_of p.rounds) qs) start
-    ∙ built-claim o ring s.basis s.order offered f w c.rules c.extension c.bits t.history [] n p.rounds p.built
+    ∙ built-claim o ring s.basis s.order offered f w c t.history [] n p.rounds p.built
     ∙ ap (true_claim s.basis s.order o f w qs) left ∙ ap (λ xs. true_claim s.basis s.order o f w xs m) (sym p.drawn)
     ∙ true_claim-inner o ring s.basis s.order f w rs m
     ∙ sym (inner-same o m (rows_of u.evals) (bound_by s.basis s.order o rs m f) (rows_of u.weights) (bound_by s.basis s.order o rs m w) (evals_at s t u rs p) (weights_at s t u rs p))

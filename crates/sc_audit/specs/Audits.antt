@@ -2,9 +2,9 @@
 use Rattle.std.specs.Prelude.{◌≡◌, ◌⊎◌, ◌<◌, ℕ, suc, ◌+◌, List, [], ◌++◌, length, take, All, Option, Some, None, Result, Ok, Err, IfOk, IfErr}
 use Rattle.sc_definitions.specs.declared.events.Event.{Event}
 use Rattle.sc_definitions.specs.Rounds.{next_claim}
-use Rattle.sc_definitions.specs.Transcript.{Round, messages_of, rounds_events, challenges, IsBuilt}
+use Rattle.sc_definitions.specs.Transcript.{Round, messages_of, rounds_events, challenges}
 use Rattle.sc_definitions.specs.Replays.{AllPass, given_rounds}
-use Rattle.sc_definitions.specs.Channels.{footing, FailsAt, NoWitnessFound, witnesses_of}
+use Rattle.sc_definitions.specs.Channels.{footing, FailsAt, NoWitnessFound, witnesses_of, IsBuilt}
 use Rattle.sc_definitions.specs.Problem.{honest_of, weights_of}
 use Rattle.sc_definitions.specs.Grids.{grids_of}
 use Rattle.sc_table.specs.declared.strategy.Strategy.TheVariants.{SmallValue}
@@ -23,7 +23,7 @@ use Rattle.sc_audit.specs.Certified.{CertifiesLuck}
 -- proof. No proof has no rounds.
 abbrev pub AreRounds : Asked → Task → List Round → Type 0
 AreRounds q (build strategy) rounds =
-    IsBuilt (honest_of q.ops q.case.problem) q.channel.rules q.channel.extension q.channel.bits (start_of q).history [] q.case.problem.variables rounds
+    IsBuilt (honest_of q.ops q.case.problem) q.channel (start_of q).history [] q.case.problem.variables rounds
 AreRounds q (check None) rounds = rounds ≡ []
 AreRounds q (check (Some given)) rounds = rounds ≡ given_rounds given.messages given.witnesses
 

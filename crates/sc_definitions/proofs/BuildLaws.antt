@@ -6,8 +6,8 @@ use Rattle.sc_definitions.specs.Ring.{Ops, IsRing, plus, times, power}
 use Rattle.sc_definitions.specs.Tables.{Basis, evaluation, projective, Order, prefix, suffix, IsOffered, sum_below, inner, digits, monomial, coefficient_value, value_in, point_of, bound_by}
 use Rattle.sc_definitions.specs.Rounds.{placed_entry, true_claim, honest_pair, next_claim, claim_along}
 use Rattle.sc_definitions.specs.Statements.{Statement, weight_of, true_value, IsTrueOf, is_true_of, AllTrueOf, first_false_claim, powers_sum, weights_at, claimed_values, true_values, batched_weight, batched_claim}
-use Rattle.sc_definitions.specs.Events.{Rules, Extension}
-use Rattle.sc_definitions.specs.Transcript.{Round, messages_of, round_events, challenge, challenges, IsBuilt}
+use Rattle.sc_definitions.specs.Transcript.{Round, messages_of, round_events, challenge, challenges}
+use Rattle.sc_definitions.specs.Channels.{Channel, IsBuilt}
 use Rattle.sc_definitions.specs.Problem.{Problem, weights_of, claim_of, residual_of, eval_of, weight_value_of}
 use Rattle.sc_definitions.proofs.RingLaws.{times-zero}
 use Rattle.sc_definitions.proofs.Sums.{sum-same}
@@ -88,22 +88,25 @@ first_false_claim-all o n f i (s ∷ ss) none =
 -- ---- built rounds
 
 -- built rounds under the true claim leave the true claim
-pub built-claim : (o : Ops) → IsRing o → (basis : Basis) (order : Order) → IsOffered basis order → (f w : ℕ → ℕ) (R : Rules) (E : Extension) (bits : ℕ) (h : List Event) (rs : List ℕ) (n : ℕ) (rounds : List Round) →
-    IsBuilt (honest_pair basis order o f w) R E bits h rs n rounds →
-    claim_along (next_claim basis o) (true_claim basis order o f w rs n) (messages_of rounds) (challenges R E bits h rounds)
-    ≡ true_claim basis order o f w (rs ++ challenges R E bits h rounds) (n - length rounds)
+pub built-claim : (o : Ops) → IsRing o → (basis : Basis) (order : Order) → IsOffered basis order → (f w : ℕ → ℕ) (c : Channel) (h : List Event) (rs : List ℕ) (n : ℕ) (rounds : List Round) →
+    IsBuilt (honest_pair basis order o f w) c h rs n rounds →
+    claim_along (next_claim basis o) (true_claim basis order o f w rs n) (messages_of rounds) (challenges c.rules c.extension c.bits h rounds)
+    ≡ true_claim basis order o f w (rs ++ challenges c.rules c.extension c.bits h rounds) (n - length rounds)
 unfolding claim_along
-built-claim o ring basis order offered f w R E bits h rs n [] b =
+built-claim o ring basis order offered f w c h rs n [] b =
     let same : n ≡ n - 0 = omega arith in
     ap (true_claim basis order o f w rs) same ∙ ap (λ t. true_claim basis order o f w t (n - 0)) (sym (append-nil rs))
-built-claim o ring basis order offered f w R E bits h rs zero (r ∷ rounds) b = absurd b
-built-claim o ring basis order offered f w R E bits h rs (suc n) (r ∷ rounds) b =
+built-claim o ring basis order offered f w c h rs zero (r ∷ rounds) b = absurd b
+built-claim o ring basis order offered f w c h rs (suc n) (r ∷ rounds) b =
+    let R = c.rules in
+    let E = c.extension in
+    let bits = c.bits in
     let x = challenge R E bits h r in
     let h' = h ++ round_events E bits r in
     let rest : n - length rounds ≡ suc n - length (r ∷ rounds) = omega arith in
-    ap (λ c. claim_along (next_claim basis o) c (messages_of rounds) (challenges R E bits h' rounds))
+    ap (λ k. claim_along (next_claim basis o) k (messages_of rounds) (challenges R E bits h' rounds))
     (ap (λ v. next_claim basis o (true_claim basis order o f w rs (suc n)) v x) b.0 ∙ sym (true_claim-next o ring basis order offered f w rs x n))
-    ∙ built-claim o ring basis order offered f w R E bits h' (rs ++ x ∷ []) n rounds b.2
+    ∙ built-claim o ring basis order offered f w c h' (rs ++ x ∷ []) n rounds b.2
     ∙ ap (λ t. true_claim basis order o f w t (n - length rounds)) (append_assoc rs (x ∷ []) (challenges R E bits h' rounds))
     ∙ ap (true_claim basis order o f w (rs ++ x ∷ challenges R E bits h' rounds)) rest
 
@@ -119,17 +122,17 @@ module _ (o : Ops) (ring : IsRing o) where
   claim-true p all = sym (batch_start p ∙ batch-true o ring p.variables p.table p.batching p.initial p.statements all)
 
   -- built rounds on true statements leave the product of the two values
-  pub built-residual : (p : Problem) (R : Rules) (E : Extension) (bits : ℕ) (h : List Event) (rounds : List Round) → IsOffered p.basis p.order →
+  pub built-residual : (p : Problem) (c : Channel) (h : List Event) (rounds : List Round) → IsOffered p.basis p.order →
       AllTrueOf o p.variables p.table p.statements → length rounds ≡ p.variables →
-      IsBuilt (honest_pair p.basis p.order o p.table (weights_of o p)) R E bits h [] p.variables rounds →
-      residual_of o p (messages_of rounds) (challenges R E bits h rounds)
-      ≡ times o (eval_of o p (challenges R E bits h rounds)) (weight_value_of o p (challenges R E bits h rounds))
+      IsBuilt (honest_pair p.basis p.order o p.table (weights_of o p)) c h [] p.variables rounds →
+      let rs = challenges c.rules c.extension c.bits h rounds in
+      residual_of o p (messages_of rounds) rs ≡ times o (eval_of o p rs) (weight_value_of o p rs)
   unfolding residual_of eval_of weight_value_of
-  built-residual p R E bits h rounds offered all whole built =
+  built-residual p c h rounds offered all whole built =
       let w = weights_of o p in
-      let rs = challenges R E bits h rounds in
+      let rs = challenges c.rules c.extension c.bits h rounds in
       let none : p.variables - length rounds ≡ 0 = omega arith in
-      ap (λ c. claim_along (next_claim p.basis o) c (messages_of rounds) rs) (claim-true p all)
-      ∙ built-claim o ring p.basis p.order offered p.table w R E bits h [] p.variables rounds built
+      ap (λ k. claim_along (next_claim p.basis o) k (messages_of rounds) rs) (claim-true p all)
+      ∙ built-claim o ring p.basis p.order offered p.table w c h [] p.variables rounds built
       ∙ ap (true_claim p.basis p.order o p.table w rs) none
       ∙ true_claim-end o ring p.basis p.order offered p.table w rs

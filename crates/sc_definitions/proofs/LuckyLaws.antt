@@ -5,12 +5,12 @@ use Rattle.std.proofs.lemmas.Bool.{cases_eq}
 use Rattle.std.proofs.lemmas.List.{append-nil, length-map}
 use Rattle.sc_definitions.specs.Ring.{Ops, IsRing, IsField, element, plus, times, opposite, minus, power}
 use Rattle.sc_definitions.specs.Tables.{evaluation, projective, Basis, Order, IsOffered, inner, bound_by}
-use Rattle.sc_definitions.specs.Rounds.{true_claim, slow_value, slow_leading, slow_round, honest_pair, sent_pair, sent_polynomial, next_claim, claim_along}
+use Rattle.sc_definitions.specs.Rounds.{true_claim, slow_leading, slow_round, honest_pair, sent_pair, sent_polynomial, next_claim, claim_along}
 use Rattle.sc_definitions.specs.Polynomials.{poly_at, poly_minus, AllZero}
 use Rattle.sc_definitions.specs.Roots.{root_count}
 use Rattle.sc_definitions.specs.Statements.{Statement, true_value, IsTrueOf, AllTrueOf, powers_sum, claimed_values, true_values, weights_at, batched_weight, batched_claim}
 use Rattle.sc_definitions.specs.Problem.{Problem, weights_of, claim_of, residual_of, eval_of, weight_value_of}
-use Rattle.sc_definitions.specs.Lucky.{IsCertificate, behind_zeros, excess, batch_polynomial, true_claim_of, round_excess, product_excess, Course, course_of, product_course, Turn, first_turn, IsTurn, Luck, in_batch, in_round, luck_in, luck_of, IsRoundLuck, IsCertified}
+use Rattle.sc_definitions.specs.Lucky.{IsCertificate, behind_zeros, excess, batch_polynomial, true_claim_of, round_excess, product_excess, Course, course_of, product_course, Turn, first_turn, IsTurn, Luck, in_batch, luck_in, luck_of, IsRoundLuck, IsCertified}
 use Rattle.sc_definitions.specs.Interpolation.{through, sent_through, next_through}
 use Rattle.sc_definitions.specs.Products.{product_claim, product_round}
 use Rattle.sc_definitions.proofs.RingLaws.{element-plus, element-small, plus-opposite, plus-element_left, plus-element_right}
@@ -118,7 +118,7 @@ module _ (o : Ops) (ring : IsRing o) where
   -- what a round sends exceeds the true polynomial, at its challenge, by as much as the next claim exceeds the true one
   pub excess-at : (p : Problem) → IsOffered p.basis p.order → (claim c q : ℕ) (rs : List ℕ) (m r : ℕ) →
       poly_at o (round_excess o p claim (c ∷ q ∷ []) rs m) r ≡ minus o (next_claim p.basis o claim (c ∷ q ∷ []) r) (true_claim_of o p (rs ++ r ∷ []) m)
-  unfolding round_excess next_claim slow_value
+  unfolding round_excess next_claim
   excess-at p offered claim c q rs m r =
       let S = sent_polynomial p.basis o claim (c ∷ q ∷ []) in
       let T = slow_round p.basis p.order o p.table (weights_of o p) rs m in
@@ -139,7 +139,7 @@ module _ (o : Ops) (ring : IsRing o) where
   pub claims-same : (basis : Basis) (order : Order) → IsOffered basis order → (f w : ℕ → ℕ) (claim c q : ℕ) (rs : List ℕ) (m : ℕ) →
       AllZero o (poly_minus o (sent_polynomial basis o claim (c ∷ q ∷ [])) (slow_round basis order o f w rs m)) →
       element o claim ≡ element o (true_claim basis order o f w rs (suc m))
-  unfolding poly_minus sent_polynomial sent_pair slow_round slow_value next_claim honest_pair poly_at Agree
+  unfolding poly_minus sent_polynomial sent_pair slow_round next_claim honest_pair poly_at Agree
   claims-same evaluation order offered f w claim c q rs m zeros =
       let t = true_claim evaluation order o f w rs (suc m) in
       let a = true_claim evaluation order o f w (rs ++ 0 ∷ []) m in

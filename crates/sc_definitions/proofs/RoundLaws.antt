@@ -2,7 +2,7 @@
 use Rattle.std.proofs.Common.{◌≡◌, ℕ, suc, ◌^◌, ◌<◌, List, [], ◌∷◌, ◌++◌, sym, ◌∙◌, ap, refl}
 use Rattle.sc_definitions.specs.Ring.{Ops, IsRing, element, times, minus}
 use Rattle.sc_definitions.specs.Tables.{Basis, evaluation, projective, Order, prefix, suffix, IsOffered, sum_below, inner, bound_in, bound_by}
-use Rattle.sc_definitions.specs.Rounds.{true_claim, slow_value, slow_leading, slow_round, honest_pair, sent_pair, sent_polynomial, next_claim}
+use Rattle.sc_definitions.specs.Rounds.{true_claim, slow_leading, slow_round, honest_pair, sent_pair, sent_polynomial, next_claim}
 use Rattle.sc_definitions.specs.Messages.{first_term, leading_term, message_first, message_leading, message_of}
 use Rattle.sc_definitions.specs.Polynomials.{poly_at}
 use Rattle.sc_definitions.proofs.Sums.{sum-same}
@@ -32,14 +32,14 @@ module _ (o : Ops) (ring : IsRing o) where
 
   -- what an honest round sends first, from the bound tables: of values, and of coefficients
   value-at_zero : (order : Order) → IsOffered evaluation order → (f w : ℕ → ℕ) (rs : List ℕ) (m : ℕ) →
-      slow_value evaluation order o f w rs m 0 ≡ message_first evaluation order o (2 ^ m) (bound_by evaluation order o rs (suc m) f) (bound_by evaluation order o rs (suc m) w)
-  unfolding slow_value true_claim inner first_term message_first
+      true_claim evaluation order o f w (rs ++ 0 ∷ []) m ≡ message_first evaluation order o (2 ^ m) (bound_by evaluation order o rs (suc m) f) (bound_by evaluation order o rs (suc m) w)
+  unfolding true_claim inner first_term message_first
   value-at_zero order offered f w rs m =
       sum-elements (2 ^ m) _ _ _ _ (line-at_zero o ring evaluation order offered f rs m) (line-at_zero o ring evaluation order offered w rs m)
 
   value-at_one : (f w : ℕ → ℕ) (rs : List ℕ) (m : ℕ) →
-      slow_value projective prefix o f w rs m 1 ≡ message_first projective prefix o (2 ^ m) (bound_by projective prefix o rs (suc m) f) (bound_by projective prefix o rs (suc m) w)
-  unfolding slow_value true_claim inner first_term message_first
+      true_claim projective prefix o f w (rs ++ 1 ∷ []) m ≡ message_first projective prefix o (2 ^ m) (bound_by projective prefix o rs (suc m) f) (bound_by projective prefix o rs (suc m) w)
+  unfolding true_claim inner first_term message_first
   value-at_one f w rs m = sum-elements (2 ^ m) _ _ _ _ (line-both o ring f rs m) (line-both o ring w rs m)
 
   -- and its leading coefficient
@@ -81,10 +81,10 @@ module _ (o : Ops) (ring : IsRing o) where
 
   -- and its three coefficients make it
   pub slow_round-values : (basis : Basis) (order : Order) → IsOffered basis order → (f w : ℕ → ℕ) (rs : List ℕ) (m x : ℕ) →
-      slow_value basis order o f w rs m x ≡ poly_at o (slow_round basis order o f w rs m) x
-  unfolding slow_value slow_round honest_pair next_claim sent_polynomial sent_pair poly_at Agree
+      true_claim basis order o f w (rs ++ x ∷ []) m ≡ poly_at o (slow_round basis order o f w rs m) x
+  unfolding slow_round honest_pair next_claim sent_polynomial sent_pair poly_at Agree
   slow_round-values evaluation order offered f w rs m x =
-      let c = slow_value evaluation order o f w rs m 0 in
+      let c = true_claim evaluation order o f w (rs ++ 0 ∷ []) m in
       let q = slow_leading evaluation order o f w rs m in
       let K = atom 0 in let C = atom 1 in let Q = atom 2 in let X = atom 3 in
       let sent : Form → Form = λ t. C ⊕ t ⊗ ((((K ⊖ C) ⊖ C) ⊖ Q) ⊕ t ⊗ (Q ⊕ t ⊗ nought)) in
@@ -93,7 +93,7 @@ module _ (o : Ops) (ring : IsRing o) where
       (sent X) (C ⊕ X ⊗ (((sent unit ⊖ C) ⊖ Q) ⊕ X ⊗ (Q ⊕ X ⊗ nought))) tt tt refl
       ∙ ap (λ v. poly_at o (c ∷ minus o (minus o v c) q ∷ q ∷ []) x) (sym (true_claim-next evaluation order offered f w rs 1 m))
   slow_round-values projective order offered f w rs m x =
-      let v = slow_value projective order o f w rs m 1 in
+      let v = true_claim projective order o f w (rs ++ 1 ∷ []) m in
       let q = slow_leading projective order o f w rs m in
       let K = atom 0 in let V = atom 1 in let Q = atom 2 in let X = atom 3 in
       let sent : Form → Form = λ t. (K ⊖ Q) ⊕ t ⊗ ((V ⊖ K) ⊕ t ⊗ (Q ⊕ t ⊗ nought)) in

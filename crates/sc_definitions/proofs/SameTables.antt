@@ -5,8 +5,8 @@ use Rattle.sc_definitions.specs.declared.events.Event.{Event}
 use Rattle.sc_definitions.specs.Ring.{Ops, IsRing}
 use Rattle.sc_definitions.specs.Tables.{Basis, Order, IsOffered, bound_in, bound_by, inner}
 use Rattle.sc_definitions.specs.Rounds.{honest_pair}
-use Rattle.sc_definitions.specs.Events.{Rules, Extension}
-use Rattle.sc_definitions.specs.Transcript.{Round, round_events, challenge, IsBuilt}
+use Rattle.sc_definitions.specs.Transcript.{Round, round_events, challenge}
+use Rattle.sc_definitions.specs.Channels.{Channel, IsBuilt}
 use Rattle.sc_definitions.proofs.Sums.{sum-same}
 use Rattle.sc_definitions.proofs.PlayedLaws.{message-same, bound_in-same}
 use Rattle.sc_definitions.proofs.RoundLaws.{honest_pair-message}
@@ -41,12 +41,13 @@ module _ (basis : Basis) (order : Order) (o : Ops) where
         (λ b low. bound_by-same rs (suc m) w v w_at b (omega (arith, low, twice)))
         ∙ sym (honest_pair-message o ring basis order offered g v rs m)
 
-    pub built-same : (R : Rules) (E : Extension) (bits : ℕ) (h : List Event) (rs : List ℕ) (k : ℕ) (rounds : List Round) → length rs + k ≡ n →
-        IsBuilt (honest_pair basis order o f w) R E bits h rs k rounds → IsBuilt (honest_pair basis order o g v) R E bits h rs k rounds
-    built-same R E bits h rs k [] whole b = tt
-    built-same R E bits h rs zero (r ∷ rounds) whole b = b
-    built-same R E bits h rs (suc k) (r ∷ rounds) whole b = (
-      b.0 ∙ honest-same rs k whole,
-      b.1,
-      built-same R E bits (h ++ round_events E bits r) (rs ++ challenge R E bits h r ∷ []) k rounds (omega (arith, whole, length-append rs (challenge R E bits h r ∷ []))) b.2,
-    )
+    pub built-same : (c : Channel) (h : List Event) (rs : List ℕ) (k : ℕ) (rounds : List Round) → length rs + k ≡ n →
+        IsBuilt (honest_pair basis order o f w) c h rs k rounds → IsBuilt (honest_pair basis order o g v) c h rs k rounds
+    built-same c h rs k [] whole b = tt
+    built-same c h rs zero (r ∷ rounds) whole b = b
+    built-same c h rs (suc k) (r ∷ rounds) whole b =
+        let x = challenge c.rules c.extension c.bits h r in (
+          b.0 ∙ honest-same rs k whole,
+          b.1,
+          built-same c (h ++ round_events c.extension c.bits r) (rs ++ x ∷ []) k rounds (omega (arith, whole, length-append rs (x ∷ []))) b.2,
+        )

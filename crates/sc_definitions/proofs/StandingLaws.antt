@@ -122,7 +122,7 @@ module _ (s : Setting) (ring : IsRing s.ops) (offered : IsOffered s.basis s.orde
       let count : t.variables ≡ length p.rounds + suc v.variables = p.count ∙ ap (λ n. length p.rounds + n) q.fewer in
       record {
         rounds = p.rounds ++ last ∷ [];
-        built = IsBuilt-append (honest_in s t) R E bits h [] t.variables p.rounds last v.variables p.built count honest witnessed;
+        built = IsBuilt-append (honest_in s t) s.channel h [] t.variables p.rounds last v.variables p.built count honest witnessed;
         count = count ∙ sym (omega (arith, length-append p.rounds (last ∷ [])));
         drawn = ap (λ x. rs ++ x ∷ []) (q.sent.drawn ∙ ap (λ x. challenge R E bits x last) p.history)
             ∙ ap (λ x. x ++ challenge R E bits (h ++ so_far) last ∷ []) p.drawn ∙ sym (challenges-append R E bits h p.rounds (last ∷ []));

@@ -1,13 +1,13 @@
 -- A walk over rounds, by tables that are bound one challenge after the other, finds the first turn.
-use Rattle.std.proofs.Common.{◌≡◌, ℕ, zero, suc, ◌+◌, ◌*◌, ◌^◌, ◌<◌, ◌==◌, List, [], ◌∷◌, ◌++◌, length, if◌then◌else◌, Option, Some, None, sym, ◌∙◌, ap, refl, arith, eq-eqb, ne_eqb}
+use Rattle.std.proofs.Common.{◌≡◌, ℕ, suc, ◌*◌, ◌^◌, List, [], ◌∷◌, ◌++◌, length, if◌then◌else◌, Some, sym, ◌∙◌, ap, refl, arith, eq-eqb, ne_eqb}
 use Rattle.std.proofs.Math.Nat.{pow-suc}
 use Rattle.sc_definitions.specs.Ring.{Ops, IsRing, plus, times, minus}
-use Rattle.sc_definitions.specs.Tables.{evaluation, Basis, Order, IsOffered, inner, bound_in, bound_by}
-use Rattle.sc_definitions.specs.Rounds.{true_claim, slow_value, slow_leading, slow_round, honest_pair, sent_pair, sent_polynomial, next_claim}
+use Rattle.sc_definitions.specs.Tables.{evaluation, Order, IsOffered, inner, bound_in, bound_by}
+use Rattle.sc_definitions.specs.Rounds.{true_claim, slow_leading, slow_round, honest_pair, sent_pair, sent_polynomial, next_claim}
 use Rattle.sc_definitions.specs.Messages.{message_of}
 use Rattle.sc_definitions.specs.Polynomials.{poly_at, poly_minus}
 use Rattle.sc_definitions.specs.Problem.{Problem, weights_of}
-use Rattle.sc_definitions.specs.Lucky.{true_claim_of, round_excess, Course, Turn, first_turn}
+use Rattle.sc_definitions.specs.Lucky.{true_claim_of, Course, Turn, first_turn}
 use Rattle.sc_definitions.proofs.Identity.{atom, nought, unit, ◌⊕◌, ◌⊗◌, ◌⊖◌, Agree as IsSame, identity}
 use Rattle.sc_definitions.proofs.PlacedLaws.{bound_by-append}
 use Rattle.sc_definitions.proofs.PlayedLaws.{message-same, bound_in-same}
@@ -81,7 +81,7 @@ module _ (o : Ops) (ring : IsRing o) (order : Order) (f w : ℕ → ℕ) (rs : L
   pub three_excesses : t ≡ true_claim evaluation order o f w rs (suc m) → a ∷ l ∷ [] ≡ honest_pair evaluation order o f w rs m →
       poly_minus o (sent_polynomial evaluation o claim (c ∷ q ∷ [])) (slow_round evaluation order o f w rs m)
       ≡ minus o c a ∷ minus o (minus o (minus o (minus o claim c) c) q) (minus o (minus o (minus o t a) a) l) ∷ minus o q l ∷ []
-  unfolding poly_minus sent_polynomial sent_pair slow_round slow_value honest_pair next_claim poly_at IsSame
+  unfolding poly_minus sent_polynomial sent_pair slow_round honest_pair next_claim poly_at IsSame
   three_excesses truth pair =
       let first : a ≡ true_claim evaluation order o f w (rs ++ 0 ∷ []) m = cc in
       let last : l ≡ slow_leading evaluation order o f w rs m = cc in

@@ -4,7 +4,7 @@ use Rattle.sc_definitions.specs.Ring.{Ops, plus, times, opposite, power}
 use Rattle.sc_definitions.specs.Residues.{residues}
 use Rattle.sc_definitions.specs.Tables.{Basis, evaluation, projective, Order, prefix, suffix, sum_below, rows_of, digits, weight, monomial, value, coefficient_value, inner}
 use Rattle.sc_definitions.specs.Polynomials.{poly_at}
-use Rattle.sc_definitions.specs.Rounds.{placed_entry, true_claim, slow_value, slope, slow_leading, slow_round, honest_pair, sent_pair, sent_polynomial, extrapolated, next_claim, claim_along}
+use Rattle.sc_definitions.specs.Rounds.{placed_entry, true_claim, slope, slow_leading, slow_round, honest_pair, sent_pair, sent_polynomial, extrapolated, next_claim, claim_along}
 use Rattle.sc_definitions.specs.Statements.{equality, claims, weight_of, powers_sum, batched_weight, batched_claim}
 use Rattle.sc_definitions.specs.Events.{own_extension, draws, extension_draw}
 use Rattle.sc_definitions.specs.Scripted.{scripted_rules}
@@ -31,7 +31,7 @@ first_job-prefix :
     × (eval_of o (first_job evaluation prefix) (3 ∷ 4 ∷ []) ≡ 11)
     × (weight_value_of o (first_job evaluation prefix) (3 ∷ 4 ∷ []) ≡ 65529)
 unfolding honest_of claim_of residual_of eval_of weight_value_of weights_of next_claim claim_along sent_polynomial sent_pair poly_at
-    honest_pair slow_value true_claim slow_leading slope placed_entry inner value sum_below weight digits
+    honest_pair true_claim slow_leading slope placed_entry inner value sum_below weight digits
     rows_of batched_weight batched_claim powers_sum weight_of power plus times opposite
 first_job-prefix = (refl, refl, refl, refl, refl, refl)
 
@@ -43,7 +43,7 @@ first_job-suffix :
     × (eval_of o (first_job evaluation suffix) (3 ∷ 4 ∷ []) ≡ 12)
     × (weight_value_of o (first_job evaluation suffix) (3 ∷ 4 ∷ []) ≡ 65528)
 unfolding honest_of claim_of residual_of eval_of weight_value_of weights_of next_claim claim_along sent_polynomial sent_pair poly_at
-    honest_pair slow_value true_claim slow_leading slope placed_entry inner value sum_below weight digits
+    honest_pair true_claim slow_leading slope placed_entry inner value sum_below weight digits
     rows_of batched_weight batched_claim powers_sum weight_of power plus times opposite
 first_job-suffix = (refl, refl, refl, refl, refl)
 
@@ -55,7 +55,7 @@ first_job-projective :
     × (eval_of o (first_job projective prefix) (3 ∷ 4 ∷ []) ≡ 66)
     × (weight_value_of o (first_job projective prefix) (3 ∷ 4 ∷ []) ≡ 4)
 unfolding honest_of claim_of residual_of eval_of weight_value_of weights_of next_claim claim_along sent_polynomial sent_pair poly_at
-    honest_pair slow_value true_claim slow_leading slope placed_entry inner value coefficient_value
+    honest_pair true_claim slow_leading slope placed_entry inner value coefficient_value
     sum_below weight monomial digits rows_of batched_weight batched_claim powers_sum weight_of power plus times opposite
 first_job-projective = (refl, refl, refl, refl, refl)
 
@@ -66,7 +66,7 @@ first_rounds = built_rounds (honest_of o (first_job evaluation prefix)) (scripte
 first_job-built :
     (messages_of first_rounds ≡ (2 ∷ 65535 ∷ []) ∷ (0 ∷ 65535 ∷ []) ∷ [])
     × (challenges (scripted_rules (3 ∷ 4 ∷ []) []) own_extension 0 [] first_rounds ≡ 3 ∷ 4 ∷ [])
-unfolding honest_of weights_of honest_pair slow_value true_claim slow_leading slope placed_entry inner value sum_below
+unfolding honest_of weights_of honest_pair true_claim slow_leading slope placed_entry inner value sum_below
     weight digits rows_of batched_weight powers_sum weight_of power plus times opposite
     draws extension_draw sent before_draw round_events challenge
 first_job-built = (refl, refl)
@@ -77,7 +77,7 @@ first_job-claims :
     × (true_claim evaluation prefix o four (weights_of o (first_job evaluation prefix)) (3 ∷ 4 ∷ []) 0 ≡ 65449)
     × (slow_round evaluation prefix o four (weights_of o (first_job evaluation prefix)) [] 1 ≡ (2 ∷ 0 ∷ 65535 ∷ []))
     × (slow_round projective prefix o four (weights_of o (first_job projective prefix)) [] 1 ≡ (2 ∷ 4 ∷ 0 ∷ []))
-unfolding weights_of slow_round slow_value true_claim slow_leading slope placed_entry inner
+unfolding weights_of slow_round true_claim slow_leading slope placed_entry inner
     value sum_below weight monomial digits rows_of batched_weight powers_sum weight_of power plus times opposite
 first_job-claims = (refl, refl, refl, refl)
 
@@ -86,7 +86,7 @@ three-kernels :
     (honest_pair evaluation prefix o four (rows_of (5 ∷ 6 ∷ 7 ∷ 8 ∷ [])) [] 1 ≡ (17 ∷ 8 ∷ []))
     × (honest_pair evaluation suffix o four (rows_of (5 ∷ 6 ∷ 7 ∷ 8 ∷ [])) [] 1 ≡ (26 ∷ 2 ∷ []))
     × (honest_pair projective prefix o four (rows_of (5 ∷ 6 ∷ 7 ∷ 8 ∷ [])) [] 1 ≡ (132 ∷ 53 ∷ []))
-unfolding honest_pair slow_value true_claim slow_leading slope placed_entry inner value
+unfolding honest_pair true_claim slow_leading slope placed_entry inner value
     sum_below weight monomial digits rows_of plus times opposite
 three-kernels = (refl, refl, refl)
 

@@ -1,5 +1,5 @@
 -- Rounds of any protocol over a channel: what a round leaves of a history, and what is left where it is refused.
-use Rattle.std.specs.Prelude.{◌≡◌, ℕ, zero, suc, ◌<◌, true, false, List, [], ◌++◌, map, take, Some}
+use Rattle.std.specs.Prelude.{◌≡◌, ℕ, zero, suc, ◌<◌, true, false, List, [], ◌∷◌, ◌++◌, map, take, Some}
 use Rattle.std.specs.List.{slice_get}
 use Rattle.sc_definitions.specs.declared.events.Event.{Event}
 use Rattle.sc_definitions.specs.Events.{Rules, Extension, NonePasses}
@@ -42,6 +42,17 @@ pub record NoWitnessFound (c : Channel) (h : List Event) (values : List ℕ) (h'
 pub record WitnessFails (c : Channel) (h : List Event) (round : Round) (h' : List Event) : Type 0 where
   pub fails : round_passes c.rules c.extension c.bits h round ≡ false
   pub history : h' ≡ h ++ before_draw c.extension c.bits round
+
+-- ---- rounds that are built
+
+-- Played from h on, after the challenges rs and with n variables left, each sends what `honest` gives for the challenges
+-- before it and the number of variables behind it, and its witness is the first.
+abbrev pub IsBuilt : (List ℕ → ℕ → List ℕ) → Channel → List Event → List ℕ → ℕ → List Round → Type 0
+IsBuilt honest c h rs n [] = Unit {0}
+IsBuilt honest c h rs zero (r ∷ rounds) = ⊥
+IsBuilt honest c h rs (suc n) (r ∷ rounds) =
+    (r.values ≡ honest rs n) × HasFirstWitness c.rules c.extension c.bits h r
+    × IsBuilt honest c (h ++ round_events c.extension c.bits r) (rs ++ challenge c.rules c.extension c.bits h r ∷ []) n rounds
 
 -- ---- what rounds have put on the wire
 

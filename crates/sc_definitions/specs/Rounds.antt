@@ -14,11 +14,8 @@ placed_entry projective order o f rs m b = sum_below o (2 ^ length rs) (λ a. f 
 unfoldable pub true_claim : Basis → Order → Ops → (ℕ → ℕ) → (ℕ → ℕ) → List ℕ → ℕ → ℕ
 true_claim basis order o f w rs m = inner o m (placed_entry basis order o f rs m) (placed_entry basis order o w rs m)
 
--- ---- The slow round polynomial after the challenges rs, with m variables behind the round's.
-
--- its value at x: the true claim at one challenge more
-unfoldable pub slow_value : Basis → Order → Ops → (ℕ → ℕ) → (ℕ → ℕ) → List ℕ → ℕ → ℕ → ℕ
-slow_value basis order o f w rs m x = true_claim basis order o f w (rs ++ x ∷ []) m
+-- ---- The slow round polynomial after the challenges rs, with m variables behind the round's. Its value at x is the
+-- true claim at one challenge more, `true_claim basis order o f w (rs ++ x ∷ []) m`.
 
 -- a table's line at row b of the m variables: how much more it is at 1 than at 0
 unfoldable pub slope : Basis → Order → Ops → (ℕ → ℕ) → List ℕ → ℕ → ℕ → ℕ
@@ -31,14 +28,14 @@ slow_leading basis order o f w rs m = inner o m (slope basis order o f rs m) (sl
 -- its three coefficients: the value at 0, the value at 1 less the other two, and the leading one
 unfoldable pub slow_round : Basis → Order → Ops → (ℕ → ℕ) → (ℕ → ℕ) → List ℕ → ℕ → List ℕ
 slow_round basis order o f w rs m =
-    slow_value basis order o f w rs m 0
-    ∷ slow_value basis order o f w rs m 1 -⟨ o ⟩ slow_value basis order o f w rs m 0 -⟨ o ⟩ slow_leading basis order o f w rs m
+    true_claim basis order o f w (rs ++ 0 ∷ []) m
+    ∷ true_claim basis order o f w (rs ++ 1 ∷ []) m -⟨ o ⟩ true_claim basis order o f w (rs ++ 0 ∷ []) m -⟨ o ⟩ slow_leading basis order o f w rs m
     ∷ slow_leading basis order o f w rs m ∷ []
 
 -- what an honest round sends: its polynomial at 0, or in the projective basis at 1, and its leading coefficient
 unfoldable pub honest_pair : Basis → Order → Ops → (ℕ → ℕ) → (ℕ → ℕ) → List ℕ → ℕ → List ℕ
-honest_pair evaluation order o f w rs m = slow_value evaluation order o f w rs m 0 ∷ slow_leading evaluation order o f w rs m ∷ []
-honest_pair projective order o f w rs m = slow_value projective order o f w rs m 1 ∷ slow_leading projective order o f w rs m ∷ []
+honest_pair evaluation order o f w rs m = true_claim evaluation order o f w (rs ++ 0 ∷ []) m ∷ slow_leading evaluation order o f w rs m ∷ []
+honest_pair projective order o f w rs m = true_claim projective order o f w (rs ++ 1 ∷ []) m ∷ slow_leading projective order o f w rs m ∷ []
 
 -- the coefficients of the polynomial that the pair (c, q) sends under a claim
 unfoldable pub sent_pair : Basis → Ops → ℕ → ℕ → ℕ → List ℕ

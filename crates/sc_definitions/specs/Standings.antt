@@ -6,8 +6,8 @@ use Rattle.sc_definitions.specs.Ring.{Ops}
 use Rattle.sc_definitions.specs.Tables.{Basis, Order, rows_of, value_in, placed, bound_in, bound_by}
 use Rattle.sc_definitions.specs.Messages.{message_of}
 use Rattle.sc_definitions.specs.Rounds.{honest_pair, next_claim, claim_along}
-use Rattle.sc_definitions.specs.Transcript.{Round, messages_of, rounds_events, challenges, IsBuilt}
-use Rattle.sc_definitions.specs.Channels.{Channel, IsSent, NoWitnessFound, Wire, with_rounds, Footing}
+use Rattle.sc_definitions.specs.Transcript.{Round, messages_of, rounds_events, challenges}
+use Rattle.sc_definitions.specs.Channels.{Channel, IsSent, NoWitnessFound, Wire, with_rounds, Footing, IsBuilt}
 
 -- What stays: the channel, the ring, what a table's entries are, and which variable a round binds.
 pub record Setting : Type 0 where
@@ -81,7 +81,7 @@ pub record IsRoundWithoutWitness (s : Setting) (before after : Standing) : Type 
 -- along them.
 pub record IsPlayed (s : Setting) (before after : Standing) (rs : List ℕ) : Type 0 where
   pub rounds : List Round
-  pub built : IsBuilt (honest_in s before) s.channel.rules s.channel.extension s.channel.bits before.history [] before.variables rounds
+  pub built : IsBuilt (honest_in s before) s.channel before.history [] before.variables rounds
   pub count : before.variables ≡ length rounds + after.variables
   pub drawn : rs ≡ challenges s.channel.rules s.channel.extension s.channel.bits before.history rounds
   pub history : after.history ≡ before.history ++ rounds_events s.channel.extension s.channel.bits rounds

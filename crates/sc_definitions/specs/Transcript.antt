@@ -57,16 +57,6 @@ unfoldable pub HasFirstWitness : Rules → Extension → ℕ → List Event → 
 HasFirstWitness R E zero h r = r.witness ≡ 0
 HasFirstWitness R E (suc b) h r = IsFirstWitness R (h ++ sent E r.values) (suc b) r.witness
 
--- The rounds are built: played from h on, after the challenges rs and with n variables left, each sends
--- what `honest` gives for the challenges before it and the number of variables behind it, and its
--- witness is the first.
-abbrev pub IsBuilt : (List ℕ → ℕ → List ℕ) → Rules → Extension → ℕ → List Event → List ℕ → ℕ → List Round → Type 0
-IsBuilt honest R E bits h rs n [] = Unit {0}
-IsBuilt honest R E bits h rs zero (r ∷ rounds) = ⊥
-IsBuilt honest R E bits h rs (suc n) (r ∷ rounds) =
-    (r.values ≡ honest rs n) × HasFirstWitness R E bits h r
-    × IsBuilt honest R E bits (h ++ round_events E bits r) (rs ++ challenge R E bits h r ∷ []) n rounds
-
 -- The rounds that an honest prover sends where there is no difficulty: played from h on, after the challenges rs
 -- and with n variables left, each sends what `honest` gives for the challenges before it and the number of
 -- variables behind it.

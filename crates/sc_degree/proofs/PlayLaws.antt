@@ -79,7 +79,7 @@ module _ (o : Ops) (c : Channel) (h : List Event) (p : Prover) (s : Standing) (p
       flat_map-append (round_events E bits) played.rounds (last ∷ []) ∙ ap (λ x. so_far ++ x) (append-nil (round_events E bits last)) in
       record {
         rounds = played.rounds ++ last ∷ [];
-        built = IsBuilt-append (honest_in o p) R E bits h [] p.variables played.rounds last t.prover.variables played.built left values witnessed;
+        built = IsBuilt-append (honest_in o p) c h [] p.variables played.rounds last t.prover.variables played.built left values witnessed;
         are_drawn = all_drawn;
         folded = subst (λ rs. IsFolded rs p t.prover) (sym one.drawn) (folded-more s.drawn one.r p s.prover t.prover played.folded one.folded);
         history = one.sent.history ∙ ap (λ x. x ++ round_events E bits last) played.history ∙ append_assoc h so_far (round_events E bits last)

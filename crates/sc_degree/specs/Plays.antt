@@ -2,9 +2,9 @@
 use Rattle.std.specs.Prelude.{◌≡◌, ℕ, ◌<◌, ◌≤◌, List, [], ◌∷◌, ◌++◌, length, map, All, vec_len, vec_capacity, Result, Ok, Err}
 use Rattle.sc_definitions.specs.declared.events.Event.{Event}
 use Rattle.sc_definitions.specs.Ring.{Ops}
-use Rattle.sc_definitions.specs.Transcript.{Round, rounds_events, challenges, IsBuilt}
+use Rattle.sc_definitions.specs.Transcript.{Round, rounds_events, challenges}
 use Rattle.sc_definitions.specs.Interpolation.{node_values}
-use Rattle.sc_definitions.specs.Channels.{Channel, Wire, empty_wire, with_rounds, IsSent}
+use Rattle.sc_definitions.specs.Channels.{Channel, Wire, empty_wire, with_rounds, IsSent, IsBuilt}
 use Rattle.sc_transcript.specs.Data.{witness_count}
 use Rattle.sc_degree.specs.declared.error.GenericDegreeError.{GenericDegreeError}
 use Rattle.sc_degree.specs.declared.transcript.GenericDegreeShape.{GenericDegreeShape}
@@ -65,7 +65,7 @@ LeavesRound o c i before after (Err e) =
 -- Rounds were played from a history on, of a prover that nothing was folded into.
 pub record HasPlayed (o : Ops) (c : Channel) (start : List Event) (from : Prover) (now : Standing) : Type 0 where
   pub rounds : List Round
-  pub built : IsBuilt (honest_in o from) c.rules c.extension c.bits start [] from.variables rounds
+  pub built : IsBuilt (honest_in o from) c start [] from.variables rounds
   pub are_drawn : now.drawn ≡ challenges c.rules c.extension c.bits start rounds
   pub folded : IsFolded now.drawn from now.prover
   pub history : now.history ≡ start ++ rounds_events c.extension c.bits rounds

@@ -2,9 +2,9 @@
 use Rattle.std.specs.Prelude.{◌≡◌, ◌⊎◌, ℕ, ◌+◌, ◌<◌, ◌≤◌, List, [], ◌++◌, length, map, All, Result, Ok, Err}
 use Rattle.sc_definitions.specs.declared.events.Event.{Event}
 use Rattle.sc_definitions.specs.Ring.{Ops}
-use Rattle.sc_definitions.specs.Transcript.{Round, rounds_events, challenges, IsBuilt}
+use Rattle.sc_definitions.specs.Transcript.{Round, rounds_events, challenges}
 use Rattle.sc_definitions.specs.Interpolation.{node_values}
-use Rattle.sc_definitions.specs.Channels.{Channel, Wire, empty_wire, with_rounds, witnesses_of, NoWitnessFound}
+use Rattle.sc_definitions.specs.Channels.{Channel, Wire, empty_wire, with_rounds, witnesses_of, NoWitnessFound, IsBuilt}
 use Rattle.sc_degree.specs.declared.error.GenericDegreeError.{GenericDegreeError}
 use Rattle.sc_degree.specs.declared.error.GenericDegreeError.TheVariants.{NoWitness, NoMemory}
 use Rattle.sc_degree.specs.declared.proof.GenericDegreeProof.{GenericDegreeProof}
@@ -49,7 +49,7 @@ begun q = q.history ++ prelude_of q.channel.extension q.shape q.claimed
 
 -- Some rounds were built of a prover, which these challenges were then folded in: each sends its values at the nodes, with the first witness that passes.
 pub record PlaysRounds (q : Play) (before after : Prover) (rounds : List Round) (rs : List ℕ) : Type 0 where
-  pub built : IsBuilt (honest_in q.ops before) q.channel.rules q.channel.extension q.channel.bits (begun q) [] before.variables rounds
+  pub built : IsBuilt (honest_in q.ops before) q.channel (begun q) [] before.variables rounds
   pub drawn : rs ≡ challenges q.channel.rules q.channel.extension q.channel.bits (begun q) rounds
   pub folded : IsFolded rs before after
 

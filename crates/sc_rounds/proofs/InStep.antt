@@ -5,9 +5,9 @@ use Rattle.std.specs.List.{slice_get}
 use Rattle.sc_definitions.specs.declared.events.Event.{Event}
 use Rattle.sc_definitions.specs.Rounds.{next_claim, claim_along}
 use Rattle.sc_definitions.specs.Events.{Rules, Extension}
-use Rattle.sc_definitions.specs.Transcript.{Round, messages_of, round_events, rounds_events, challenge, HasFirstWitness, IsBuilt}
+use Rattle.sc_definitions.specs.Transcript.{Round, messages_of, round_events, rounds_events, challenge, HasFirstWitness}
 use Rattle.sc_definitions.specs.Replays.{round_passes, AllPass}
-use Rattle.sc_definitions.specs.Channels.{Channel, Wire, empty_wire, with_rounds, Footing, IsReplayed, IsReplayedInPart, FailsAt}
+use Rattle.sc_definitions.specs.Channels.{Channel, Wire, empty_wire, with_rounds, Footing, IsReplayed, IsReplayedInPart, FailsAt, IsBuilt}
 use Rattle.sc_definitions.specs.Standings.{Setting, Standing, footing_of, IsPlayed}
 use Rattle.sc_definitions.proofs.BuiltLaws.{length-messages}
 use Rattle.sc_transcript.specs.declared.error.SumcheckError.{SumcheckError}
@@ -25,32 +25,41 @@ unfolding HasFirstWitness round_passes
 passes_first R E zero h r w = refl
 passes_first R E (suc bits) h r w = w.passes
 
-passes_at : (honest : List ℕ → ℕ → List ℕ) (R : Rules) (E : Extension) (bits : ℕ) (h : List Event) (rs : List ℕ) (n : ℕ) (rounds : List Round) (i : ℕ) (r : Round) →
-    IsBuilt honest R E bits h rs n rounds → slice_get rounds i ≡ Some r → round_passes R E bits (h ++ rounds_events E bits (take i rounds)) r ≡ true
-passes_at honest R E bits h rs n [] i r b is = cc
-passes_at honest R E bits h rs zero (q ∷ rounds) i r b is = absurd b
-passes_at honest R E bits h rs (suc n) (q ∷ rounds) zero r b is =
+passes_at : (honest : List ℕ → ℕ → List ℕ) (c : Channel) (h : List Event) (rs : List ℕ) (n : ℕ) (rounds : List Round) (i : ℕ) (r : Round) →
+    IsBuilt honest c h rs n rounds → slice_get rounds i ≡ Some r →
+    round_passes c.rules c.extension c.bits (h ++ rounds_events c.extension c.bits (take i rounds)) r ≡ true
+passes_at honest c h rs n [] i r b is = cc
+passes_at honest c h rs zero (q ∷ rounds) i r b is = absurd b
+passes_at honest c h rs (suc n) (q ∷ rounds) zero r b is =
+    let R = c.rules in
+    let E = c.extension in
     let same : q ≡ r = cc in
-    ap (λ t. round_passes R E bits t r) (append-nil h) ∙ ap (round_passes R E bits h) (sym same) ∙ passes_first R E bits h q b.1
-passes_at honest R E bits h rs (suc n) (q ∷ rounds) (suc i) r b is =
+    ap (λ t. round_passes R E c.bits t r) (append-nil h) ∙ ap (round_passes R E c.bits h) (sym same) ∙ passes_first R E c.bits h q b.1
+passes_at honest c h rs (suc n) (q ∷ rounds) (suc i) r b is =
+    let R = c.rules in
+    let E = c.extension in
+    let bits = c.bits in
     ap (λ t. round_passes R E bits t r) (sym (append_assoc h (round_events E bits q) (rounds_events E bits (take i rounds))))
-    ∙ passes_at honest R E bits (h ++ round_events E bits q) (rs ++ challenge R E bits h q ∷ []) n rounds i r b.2 is
+    ∙ passes_at honest c (h ++ round_events E bits q) (rs ++ challenge R E bits h q ∷ []) n rounds i r b.2 is
 
 -- so each of them passes
-pub all_pass : (honest : List ℕ → ℕ → List ℕ) (R : Rules) (E : Extension) (bits : ℕ) (h : List Event) (rs : List ℕ) (n : ℕ) (rounds : List Round) →
-    IsBuilt honest R E bits h rs n rounds → AllPass R E bits h rounds
-all_pass honest R E bits h rs n [] b = tt
-all_pass honest R E bits h rs zero (q ∷ rounds) b = absurd b
-all_pass honest R E bits h rs (suc n) (q ∷ rounds) b =
-    (passes_first R E bits h q b.1, all_pass honest R E bits (h ++ round_events E bits q) (rs ++ challenge R E bits h q ∷ []) n rounds b.2)
+pub all_pass : (honest : List ℕ → ℕ → List ℕ) (c : Channel) (h : List Event) (rs : List ℕ) (n : ℕ) (rounds : List Round) →
+    IsBuilt honest c h rs n rounds → AllPass c.rules c.extension c.bits h rounds
+all_pass honest c h rs n [] b = tt
+all_pass honest c h rs zero (q ∷ rounds) b = absurd b
+all_pass honest c h rs (suc n) (q ∷ rounds) b =
+    let R = c.rules in
+    let E = c.extension in
+    let bits = c.bits in
+    (passes_first R E bits h q b.1, all_pass honest c (h ++ round_events E bits q) (rs ++ challenge R E bits h q ∷ []) n rounds b.2)
 
 -- no round of what was built is refused
 pub none_failing : (next : ℕ → List ℕ → ℕ → ℕ) (honest : List ℕ → ℕ → List ℕ) (c : Channel) (start end : Footing) (n : ℕ) (rounds : List Round) (i : ℕ) →
-    IsBuilt honest c.rules c.extension c.bits start.history [] n rounds → FailsAt next c start end rounds i → ⊥
+    IsBuilt honest c start.history [] n rounds → FailsAt next c start end rounds i → ⊥
 none_failing next honest c start end n rounds i built there =
     let passes : round_passes c.rules c.extension c.bits there.last there.round ≡ true =
     ap (λ t. round_passes c.rules c.extension c.bits t there.round) there.replays.history
-    ∙ passes_at honest c.rules c.extension c.bits start.history [] n rounds i there.round built there.is in
+    ∙ passes_at honest c start.history [] n rounds i there.round built there.is in
     let clash : true ≡ false = sym passes ∙ there.test.fails in cc
 
 -- what holds of an error holds of a result that passes it on
@@ -74,7 +83,7 @@ module _ (s : Setting) (t u : Standing) (rs : List ℕ) (c : Channel) (start : F
   wire_is = played.wire ∙ ap (λ w. with_rounds s.channel.bits w played.rounds) none_sent
 
   rounds_given : rounds_on u.wire ≡ played.rounds
-  rounds_given = ap rounds_on wire_is ∙ given_played _ s.channel.rules s.channel.extension s.channel.bits t.history [] t.variables played.rounds played.built
+  rounds_given = ap rounds_on wire_is ∙ given_played _ s.channel t.history [] t.variables played.rounds played.built
 
   count_rounds : (k : ℕ) → u.variables + k ≡ t.variables → length played.rounds ≡ k
   count_rounds k whole = omega (arith, whole, played.count)
@@ -92,7 +101,7 @@ module _ (s : Setting) (t u : Standing) (rs : List ℕ) (c : Channel) (start : F
     history = played.history;
     drawn = played.drawn;
     claim = played.claim ∙ ap (claim_along (next_claim s.basis s.ops) t.claim (messages_of played.rounds)) played.drawn;
-    passes = all_pass _ s.channel.rules s.channel.extension s.channel.bits t.history [] t.variables played.rounds played.built;
+    passes = all_pass _ s.channel t.history [] t.variables played.rounds played.built;
   }
 
   pub has_replay : IsReplayed (next_claim s.basis s.ops) c start (footing_of u) (rounds_on u.wire) rs

@@ -2,18 +2,21 @@
 use Rattle.std.specs.Prelude.{◌≡◌, ◌⊎◌, ℕ, List, map, Option, Some, Result}
 use Rattle.std.specs.declared.cmp.PartialEq.{Ghosts as PartialEqOf}
 use Rattle.sc_definitions.specs.Ring.{Ops}
+use Rattle.sc_definitions.specs.declared.events.Event.{Event}
 use Rattle.sc_definitions.specs.Events.{Extension}
+use Rattle.sc_definitions.specs.Channels.{Channel, Wire}
 use Rattle.sc_definitions.specs.Standings.{Setting, Standing, IsPlayed}
 use Rattle.sc_field.specs.declared.field.Field.{Ghosts as FieldOf}
 use Rattle.sc_challenger.specs.declared.challenger.Challenger.{Ghosts as ChallengerOf}
 use Rattle.sc_transcript.specs.declared.transcript.ProverTranscript.{ProverTranscript}
+use Rattle.sc_transcript.specs.declared.transcript.SumcheckShape.{SumcheckShape}
 use Rattle.sc_transcript.specs.declared.data.SumcheckData.{SumcheckData}
 use Rattle.sc_transcript.specs.declared.error.SumcheckError.{SumcheckError}
 use Rattle.sc_transcript.specs.Drivers.{Driver, driver_in, channel_of}
 use Rattle.sc_transcript.specs.Data.{wire_in}
 use Rattle.sc_rounds.specs.declared.held_product.HeldProduct.{HeldProduct}
 use Rattle.sc_rounds.specs.declared.product_polynomial.ProductPolynomial.{ProductPolynomial}
-use Rattle.sc_rounds.specs.Standings.{Batch, PlaysAll}
+use Rattle.sc_rounds.specs.Standings.{Batch, batch_at, PlaysAll}
 use Rattle.sc_rounds.specs.Provers.{Shown, Stored, held_shown, stored_of, imaged, HoldsLast, HoldsIfAny, setting_at, standing_at}
 
 module _ {F EF : Type 0} {e : FieldOf EF} {q : PartialEqOf EF} where
@@ -35,6 +38,10 @@ module _ {F EF : Type 0} {e : FieldOf EF} {q : PartialEqOf EF} where
   -- what is kept of it, by the images of its numbers
   abbrev pub image_stored_in : (ℕ → ℕ) → HeldProduct F EF e q → Stored
   image_stored_in h t = stored_of (λ x. h (e.number x)) t.poly t.held
+
+-- the batch of a shape that is asked of it, over a channel and an extension of a degree, from a history and a wire on
+abbrev pub batch_asked : Channel → Ops → Shown → List Event → Wire → ℕ → SumcheckShape → Batch
+batch_asked c o s h sent degree shape = batch_at (setting_at c o s) (standing_at s h sent) degree shape
 
 -- Rounds under way: what stays, where they stand, and the challenges that they have drawn.
 pub record Course : Type 0 where

@@ -1,6 +1,6 @@
 -- The round that turned a false claim into the true one, found on a pair of tables.
-use Rattle.std.specs.Prelude.{◌≡◌, ℕ, ◌<◌, ◌^◌, map}
-use Rattle.sc_definitions.specs.Ring.{Ops}
+use Rattle.std.specs.Prelude.{◌≡◌, ℕ, ◌<◌, ◌^◌, List, [], ◌∷◌, map}
+use Rattle.sc_definitions.specs.Ring.{Ops, ◌-⟨◌⟩◌}
 use Rattle.sc_definitions.specs.Tables.{evaluation}
 use Rattle.sc_definitions.specs.Problem.{Problem, weights_of}
 use Rattle.sc_definitions.specs.Lucky.{Turn}
@@ -15,6 +15,11 @@ pub record IsPairOf {F EF : Type 0} (o : Ops) (number : EF → ℕ) (p : Problem
   pub variables : p.variables ≡ variables_in pair
   pub evals : (b : ℕ) → b < 2 ^ variables_in pair → evals_in number pair b ≡ p.table b
   pub weights : (b : ℕ) → b < 2 ^ variables_in pair → weights_in number pair b ≡ weights_of o p b
+
+-- what the message (c, q) sends under a claim less what (a, l) sends under another one, in coefficients
+abbrev pub sent_excess : Ops → ℕ → ℕ → ℕ → ℕ → ℕ → ℕ → List ℕ
+sent_excess o claim c q truth a l =
+    c -⟨ o ⟩ a ∷ (claim -⟨ o ⟩ c -⟨ o ⟩ c -⟨ o ⟩ q) -⟨ o ⟩ (truth -⟨ o ⟩ a -⟨ o ⟩ a -⟨ o ⟩ l) ∷ q -⟨ o ⟩ l ∷ []
 
 -- a turn that was found, by the numbers of its coefficients
 abbrev pub turn_in : {EF : Type 0} → (EF → ℕ) → FoundTurn EF → Turn

@@ -55,7 +55,7 @@ impl<F: Field, EF: ExtensionField<F>> HeldProduct<F, EF> {
     ghost use Rattle.sc_definitions.specs.Channels.{channel};
     ghost use Rattle.sc_transcript.specs.Data.{wire_in};
     ghost use Rattle.sc_transcript.specs.Drivers.{driver_in, Continues, HasRoundLeft};
-    ghost use Rattle.sc_rounds.specs.Standings.{Moves, Counts, batch_at, LeavesBatch};
+    ghost use Rattle.sc_rounds.specs.Standings.{Moves, Counts, LeavesBatch};
     ghost use Rattle.sc_rounds.specs.Provers.{
       stated,
       IsTrueConstraint,
@@ -75,6 +75,7 @@ impl<F: Field, EF: ExtensionField<F>> HeldProduct<F, EF> {
       setting_over,
       standing_over,
       course_over,
+      batch_asked,
       Holds,
       HoldsBatch,
       GoesOn,
@@ -280,19 +281,15 @@ impl<F: Field, EF: ExtensionField<F>> HeldProduct<F, EF> {
         ensures rules { C.rules challenger.new ≡ C.rules challenger.old }
         ensures order { (shown_in self.new).order ≡ (shown_in self.old).order }
         ensures batch { LeavesBatch (map EG.number)
-            (batch_at (setting_at
-            (channel (C.rules challenger.old) EG.extension G.ops.size shape.pow_bits) EG.ops
-            (shown_in self.old))
-            (standing_at (image_in EF.to_number self.old) (C.history challenger.old)
-            (wire_in G.number EG.number sumcheck_data.old)) EG.DEGREE shape)
+            (batch_asked (channel (C.rules challenger.old) EG.extension G.ops.size shape.pow_bits)
+            EG.ops (image_in EF.to_number self.old) (C.history challenger.old)
+            (wire_in G.number EG.number sumcheck_data.old) EG.DEGREE shape)
             (standing_at (image_in EF.to_number self.new) (C.history challenger.new)
             (wire_in G.number EG.number sumcheck_data.new)) result }
         ensures holds { IfOk result (λ rs. HoldsBatch
-            (batch_at (setting_at
-            (channel (C.rules challenger.old) EG.extension G.ops.size shape.pow_bits) EG.ops
-            (shown_in self.old))
-            (standing_at (image_in EF.to_number self.old) (C.history challenger.old)
-            (wire_in G.number EG.number sumcheck_data.old)) EG.DEGREE shape)
+            (batch_asked (channel (C.rules challenger.old) EG.extension G.ops.size shape.pow_bits)
+            EG.ops (image_in EF.to_number self.old) (C.history challenger.old)
+            (wire_in G.number EG.number sumcheck_data.old) EG.DEGREE shape)
             (map EG.number rs) (image_stored_in EF.to_number self.new)) }
     {
         let mut challenges = with_room(alloc, shape.num_rounds)?;

@@ -1,11 +1,10 @@
 //! The round of a proof that turned a false claim into the true one.
-ghost use Rattle.std.specs.Prelude.{◌≡◌, [], ◌∷◌, IfOk, length, map, option_map};
-ghost use Rattle.sc_definitions.specs.Ring.{◌-⟨◌⟩◌};
+ghost use Rattle.std.specs.Prelude.{◌≡◌, [], IfOk, length, map, option_map};
 ghost use Rattle.sc_definitions.specs.Problem.{Problem};
 ghost use Rattle.sc_definitions.specs.Lucky.{course_of, first_turn};
 ghost use Rattle.sc_transcript.specs.Data.{pair_of};
 ghost use Rattle.sc_rounds.specs.Products.{variables_in};
-ghost use Rattle.sc_rounds.specs.Turns.{IsPairOf, turn_in};
+ghost use Rattle.sc_rounds.specs.Turns.{IsPairOf, sent_excess, turn_in};
 
 use crate::product_polynomial::ProductPolynomial;
 use sc_field::{ExtensionField, Field, NoMemory};
@@ -67,13 +66,9 @@ fn excess<EF: Field>(
     honest: RoundMessage<EF>,
     truth: EF,
 ) -> Result<Row<EF>, NoMemory>
-    ensures { IfOk result (λ v. map EF.number v ≡
-        EF.number message.c_a -⟨ EF.ops ⟩ EF.number honest.c_a
-        ∷ (EF.number claim -⟨ EF.ops ⟩ EF.number message.c_a -⟨ EF.ops ⟩ EF.number message.c_a
-        -⟨ EF.ops ⟩ EF.number message.c_inf) -⟨ EF.ops ⟩ (EF.number truth
-        -⟨ EF.ops ⟩ EF.number honest.c_a -⟨ EF.ops ⟩ EF.number honest.c_a
-        -⟨ EF.ops ⟩ EF.number honest.c_inf)
-        ∷ EF.number message.c_inf -⟨ EF.ops ⟩ EF.number honest.c_inf ∷ []) }
+    ensures { IfOk result (λ v. map EF.number v ≡ sent_excess EF.ops
+        (EF.number claim) (EF.number message.c_a) (EF.number message.c_inf)
+        (EF.number truth) (EF.number honest.c_a) (EF.number honest.c_inf)) }
 {
     let constant = message.c_a.sub(honest.c_a);
     let sent = claim.sub(message.c_a).sub(message.c_a).sub(message.c_inf);

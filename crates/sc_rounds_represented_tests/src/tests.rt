@@ -8,7 +8,7 @@ use sc_field::{Field, NoMemory};
 use sc_rounds::{
     ProductPolynomial, ReprSumcheckProver, SumcheckData, SumcheckError, SumcheckProver,
 };
-use sc_small_fields::{Poly16, Tower16};
+use sc_sixteen::{Poly16, Tower16};
 use sc_table::{Point, Poly, VariableOrder};
 use sc_tests_common::{are_pairs, elements, have_numbers, of};
 use std::alloc::Global;

@@ -1,8 +1,5 @@
 pub mod ProductLaws
 pub mod InverseLaws
-pub mod SixteenTables
-pub mod TowerTables
-pub mod PolynomialTables
 pub mod PairLaws
 pub mod DelayedLaws
 pub mod DelayedPairs

@@ -3,4 +3,3 @@ pub mod F257x2Laws
 pub mod QuadraticFields
 pub mod QuadraticLaws
 pub mod ResiduesLaws
-pub mod SixteenLaws

@@ -1,10 +1,10 @@
 -- The message of two tables is what an honest first round sends, and what it sends is the round's polynomial.
-use Rattle.std.proofs.Common.{◌≡◌, ℕ, suc, ◌*◌, ◌/◌, ◌^◌, List, [], ◌∷◌, sym, ◌∙◌, ap, arith}
+use Rattle.std.proofs.Common.{◌≡◌, ℕ, suc, ◌*◌, ◌/◌, ◌^◌, List, [], ◌∷◌, ◌++◌, sym, ◌∙◌, ap, arith}
 use Rattle.std.proofs.Math.Nat.{pow-suc}
 use Rattle.sc_definitions.specs.Ring.{Ops, IsRing}
 use Rattle.sc_definitions.specs.Tables.{Basis, Order, IsOffered, bound_by}
 use Rattle.sc_definitions.specs.Messages.{message_first, message_leading, message_of}
-use Rattle.sc_definitions.specs.Rounds.{true_claim, slow_value, honest_pair, next_claim}
+use Rattle.sc_definitions.specs.Rounds.{true_claim, honest_pair, next_claim}
 use Rattle.sc_definitions.proofs.RoundLaws.{honest_pair-message, true_claim-next}
 
 module _ (basis : Basis) (order : Order) (offered : IsOffered basis order) (o : Ops) (ring : IsRing o) (f w : ℕ → ℕ) (m : ℕ) where
@@ -29,8 +29,7 @@ pub sent-honest : (basis : Basis) (o : Ops) → IsRing o → (claim : ℕ) (pair
     result ≡ next_claim basis o claim pair r →
     (order : Order) → IsOffered basis order → (f w : ℕ → ℕ) (rs : List ℕ) (m : ℕ) →
     pair ≡ honest_pair basis order o f w rs m → claim ≡ true_claim basis order o f w rs (suc m) →
-    result ≡ slow_value basis order o f w rs m r
-unfolding slow_value
+    result ≡ true_claim basis order o f w (rs ++ r ∷ []) m
 sent-honest basis o ring claim pair r result is order offered f w rs m pair_is claim_is =
     is
     ∙ ap (λ k. next_claim basis o k pair r) claim_is

@@ -1,10 +1,10 @@
 //! What a round sends, from the two tables as they stand, and how it binds them: by basis and by order.
 
-ghost use Rattle.std.specs.Prelude.{◌≡◌, ℕ, suc, ◌+◌, ◌*◌, ◌/◌, ◌%◌, ◌^◌, ◌<◌, ◌≤◌, [], ◌∷◌, List, length};
+ghost use Rattle.std.specs.Prelude.{◌≡◌, ℕ, suc, ◌+◌, ◌*◌, ◌/◌, ◌%◌, ◌^◌, ◌<◌, ◌≤◌, [], ◌∷◌, ◌++◌, List, length};
 ghost use Rattle.sc_definitions.specs.Ring.{◌+⟨◌⟩◌, ◌*⟨◌⟩◌};
 ghost use Rattle.sc_definitions.specs.Tables.{evaluation, projective, Order, prefix, suffix, IsOffered, entries, value, placed, bound_in};
 ghost use Rattle.sc_definitions.specs.Messages.{first_term, leading_term, message_first, message_leading};
-ghost use Rattle.sc_definitions.specs.Rounds.{true_claim, slow_value, honest_pair, next_claim};
+ghost use Rattle.sc_definitions.specs.Rounds.{true_claim, honest_pair, next_claim};
 ghost use Rattle.sc_table.specs.Blocks.{sum_from};
 ghost use Rattle.sc_table.specs.Strategy.{basis_of, order_of};
 ghost use Rattle.sc_table.specs.Polys.{variables_of, table_of};
@@ -274,7 +274,7 @@ impl Basis {
         ensures honest { (order : Order) → IsOffered (basis_of self) order → (f w : ℕ → ℕ) (rs : List ℕ) (m : ℕ) →
             EF.number c_a ∷ EF.number c_inf ∷ [] ≡ honest_pair (basis_of self) order EF.ops f w rs m →
             EF.number claimed_sum ≡ true_claim (basis_of self) order EF.ops f w rs (suc m) →
-            EF.number result ≡ slow_value (basis_of self) order EF.ops f w rs m (EF.number r) }
+            EF.number result ≡ true_claim (basis_of self) order EF.ops f w (rs ++ EF.number r ∷ []) m }
     {
         match self {
             Basis::Evaluation => extrapolate_01inf(c_a, claimed_sum.sub(c_a), c_inf, r),

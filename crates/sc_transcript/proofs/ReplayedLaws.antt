@@ -15,7 +15,7 @@ use Rattle.sc_transcript.specs.declared.error.SumcheckError.TheVariants.{Invalid
 use Rattle.sc_transcript.specs.declared.data.SumcheckData.{SumcheckData}
 use Rattle.sc_transcript.specs.Data.{messages_in, witnesses_in, witness_count}
 use Rattle.sc_transcript.specs.Drivers.{Driver, channel_of, RejectsRound}
-use Rattle.sc_transcript.specs.Replayed.{Leaves, Replay, IsCounted, LeavesReplay}
+use Rattle.sc_transcript.specs.Replayed.{Leaves, Replay, IsCounted, LeavesReplay, IsMiscounted}
 
 -- ---- the loop over the rounds
 
@@ -92,20 +92,20 @@ pub leaves_at : {X : Type 0} (number : X → ℕ) (next : ℕ → List ℕ → �
 leaves_at number next c c' before before' after rs result ec eb p = rw (← ec, ← eb) p
 
 -- a replay that may not have begun, of what was counted
-pub begun_left : {X : Type 0} (A B : Type 0) (number : X → ℕ) (p : Replay) (result : Result (List X) SumcheckError) (after : Footing) → IsCounted p →
-    ((result ≡ Err NoMemory) × A × B) ⊎ Leaves number p.next p.channel p.start p.rounds result after → LeavesReplay number (A × B) p result after
-begun_left A B number p (Ok out) after counts b = elim b [
+pub begun_left : {X : Type 0} (untouched : Type 0) (number : X → ℕ) (p : Replay) (result : Result (List X) SumcheckError) (after : Footing) → IsCounted p →
+    ((result ≡ Err NoMemory) × untouched) ⊎ Leaves number p.next p.channel p.start p.rounds result after → LeavesReplay number untouched p result after
+begun_left untouched number p (Ok out) after counts b = elim b [
   | inl y ↦ (let z = y.0 in absurd cc)
   | inr l ↦ (counts, l)
 ]
-begun_left A B number p (Err NoMemory) after counts b = elim b [
-  | inl y ↦ (counts, inl (y.1, y.2))
+begun_left untouched number p (Err NoMemory) after counts b = elim b [
+  | inl y ↦ (counts, inl y.1)
   | inr l ↦ elim l [
     | inl y ↦ (counts, inr y.1)
     | inr y ↦ (let z = y.1 in absurd cc)
   ]
 ]
-begun_left A B number p (Err (InvalidPowWitness i bits)) after counts b = elim b [
+begun_left untouched number p (Err (InvalidPowWitness i bits)) after counts b = elim b [
   | inl y ↦ (let z = y.0 in absurd cc)
   | inr l ↦ elim l [
     | inl y ↦ (let z = y.0 in absurd cc)
@@ -115,7 +115,7 @@ begun_left A B number p (Err (InvalidPowWitness i bits)) after counts b = elim b
         let place : i ≡ y.0 = cc in (counts, same, rw place y.2)
   ]
 ]
-begun_left A B number p (Err e) after counts b = elim b [
+begun_left untouched number p (Err e) after counts b = elim b [
   | inl y ↦ (let z = y.0 in absurd cc)
   | inr l ↦ elim l [
     | inl y ↦ (let z = y.0 in absurd cc)
@@ -125,24 +125,20 @@ begun_left A B number p (Err e) after counts b = elim b [
 
 -- ---- a count is refused
 
--- which error a result is, and why
-abbrev Counted : {X : Type 0} → Result X SumcheckError → ℕ → ℕ → ℕ → ℕ → Type 0
-Counted result m n k w = ((result ≡ Err (RoundCountMismatch n m)) × (m ≢ n)) ⊎ ((result ≡ Err (PowWitnessCountMismatch w k)) × (m ≡ n) × (k ≢ w))
-
--- the same of an error that a call answered
+-- which count is wrong, by the error that a call answered
 abbrev Counts : Type 0 → SumcheckError → ℕ → ℕ → ℕ → ℕ → Type 0
 Counts Y e m n k w = (Is Y e (RoundCountMismatch n m) × (m ≢ n)) ⊎ (Is Y e (PowWitnessCountMismatch w k) × (m ≡ n) × (k ≢ w))
 
 -- the result that passes such an error on
 pub counts_passed : {X : Type 0} (Y : Type 0) (result : Result X SumcheckError) (e : SumcheckError) (m n k w : ℕ) → result ≡ Err e → Counts Y e m n k w →
-    Counted result m n k w
+    IsMiscounted result m n k w
 counts_passed Y result e m n k w is counts = elim counts [
   | inl p ↦ inl (is ∙ ap Err (error_is Y _ _ p.0), p.1)
   | inr p ↦ inr (is ∙ ap Err (error_is Y _ _ p.0), p.1, p.2)
 ]
 
 -- the same by other names of the counts
-pub counts_as : {X : Type 0} (result : Result X SumcheckError) (m m' n k k' w : ℕ) → m' ≡ m → k' ≡ k → Counted result m n k w → Counted result m' n k' w
+pub counts_as : {X : Type 0} (result : Result X SumcheckError) (m m' n k k' w : ℕ) → m' ≡ m → k' ≡ k → IsMiscounted result m n k w → IsMiscounted result m' n k' w
 counts_as result m m' n k k' w em ek p = rw (em, ek) p
 
 -- how many rounds and witnesses data puts on the wire
@@ -153,7 +149,7 @@ pub witnesses_came : {F EF : Type 0} (number : F → ℕ) (d : SumcheckData F EF
 witnesses_came number d = length-map _ _ ∙ sym d.pow_witnesses.ok.0
 
 pub counted_left : {X : Type 0} (untouched : Type 0) (number : X → ℕ) (p : Replay) (result : Result (List X) SumcheckError) (after : Footing) → untouched →
-    Counted result p.came p.expected p.witnesses (witness_count p.channel.bits p.expected) → LeavesReplay number untouched p result after
+    IsMiscounted result p.came p.expected p.witnesses (witness_count p.channel.bits p.expected) → LeavesReplay number untouched p result after
 counted_left untouched number p result after kept counts = elim counts [
   | inl q ↦ rw q.0 (refl, refl, q.1, kept)
   | inr q ↦ rw q.0 (refl, refl, q.1, q.2, kept)

@@ -5,7 +5,7 @@ use Rattle.std.proofs.lemmas.Grind.{flat_map-append}
 use Rattle.sc_definitions.specs.declared.events.Event.{Event}
 use Rattle.sc_definitions.specs.declared.events.Event.TheVariants.{Word, Draw, Test}
 use Rattle.sc_definitions.specs.Events.{Rules, Extension, words, extension_draw, IsFirstWitness, NonePasses}
-use Rattle.sc_definitions.specs.Transcript.{Round, round_of, sent, witness_events, before_draw, round_events, challenge, HasFirstWitness}
+use Rattle.sc_definitions.specs.Transcript.{round_of, sent, witness_events, before_draw, round_events, challenge, HasFirstWitness}
 use Rattle.sc_definitions.specs.Replays.{round_passes}
 use Rattle.sc_definitions.specs.Channels.{channel, IsSent, IsTaken, WitnessFails, NoWitnessFound}
 use Rattle.sc_definitions.specs.Seeds.{seed_words, quadratic_separator, quadratic_seed}

@@ -5,9 +5,16 @@ ghost use Rattle.std.specs.Option.{option_map_or};
 ghost use Rattle.sc_definitions.specs.Rounds.{next_claim};
 ghost use Rattle.sc_definitions.specs.Channels.{channel, footing};
 ghost use Rattle.sc_table.specs.Strategy.{basis_of};
-ghost use Rattle.sc_transcript.specs.Shapes.{shape_of, seeded, pair_round};
+ghost use Rattle.sc_transcript.specs.Shapes.{shape_of, pair_round};
 ghost use Rattle.sc_transcript.specs.Data.{rounds_in, wire_in, witness_count};
-ghost use Rattle.sc_transcript.specs.Replayed.{Leaves, LeavesReplay, replay_of};
+ghost use Rattle.sc_transcript.specs.Replayed.{
+  Leaves,
+  LeavesCounted,
+  LeavesFrom,
+  IsMiscounted,
+  place,
+  replay_of,
+};
 
 use crate::driver::witness_at;
 use crate::error::SumcheckError;
@@ -126,10 +133,11 @@ impl<F: Field, EF: ExtensionField<F>> SumcheckData<F, EF> {
     ) -> Result<Point<EF>, SumcheckError>
         requires { pow_bits ≤ (C.rules challenger.old).max_bits }
         ensures rules { C.rules challenger.new ≡ C.rules challenger.old }
-        ensures left { LeavesReplay EF.number ((C.history challenger.new ≡ C.history challenger.old) × (claimed_sum.new ≡ claimed_sum.old))
-            (replay_of EF.ops (channel (C.rules challenger.old) EF.extension F.ops.size pow_bits) EF.DEGREE (shape_of expected_rounds pow_bits basis)
-            (wire_in F.number EF.number self.now) (footing (C.history challenger.old) (EF.number claimed_sum.old)))
-            result (footing (C.history challenger.new) (EF.number claimed_sum.new)) }
+        ensures left { LeavesFrom EF.number
+            (λ at. replay_of EF.ops (channel (C.rules challenger.old) EF.extension F.ops.size pow_bits)
+            EF.DEGREE (shape_of expected_rounds pow_bits basis) (wire_in F.number EF.number self.now) at)
+            (place (C.history challenger.old) claimed_sum.old)
+            (place (C.history challenger.new) claimed_sum.new) result }
     {
         self.check_counts(expected_rounds, pow_bits)?;
         let shape = SumcheckShape {
@@ -152,10 +160,12 @@ impl<F: Field, EF: ExtensionField<F>> SumcheckData<F, EF> {
         requires counted { vec_len self.now.polynomial_evaluations ≡ shape.num_rounds }
         requires witnessed { vec_len self.now.pow_witnesses ≡ witness_count shape.pow_bits shape.num_rounds }
         ensures rules { C.rules challenger.new ≡ C.rules challenger.old }
-        ensures leaves { ((result ≡ Err SumcheckError.NoMemory) × (C.history challenger.new ≡ C.history challenger.old) × (claimed_sum.new ≡ claimed_sum.old))
-            ⊎ Leaves EF.number (next_claim (basis_of shape.basis) EF.ops) (channel (C.rules challenger.old) EF.extension F.ops.size shape.pow_bits)
-            (seeded EF.DEGREE shape (C.history challenger.old) (EF.number claimed_sum.old))
-            (rounds_in F.number EF.number self.now) result (footing (C.history challenger.new) (EF.number claimed_sum.new)) }
+        ensures leaves { LeavesCounted EF.number
+            (replay_of EF.ops (channel (C.rules challenger.old) EF.extension F.ops.size shape.pow_bits)
+            EF.DEGREE shape (wire_in F.number EF.number self.now)
+            (footing (C.history challenger.old) (EF.number claimed_sum.old)))
+            (place (C.history challenger.old) claimed_sum.old)
+            (place (C.history challenger.new) claimed_sum.new) result }
     {
         let challenges = with_room(alloc, shape.num_rounds)?;
         shape.seed::<F, EF, C>(alloc, challenger)?;
@@ -217,10 +227,9 @@ impl<F: Field, EF: ExtensionField<F>> SumcheckData<F, EF> {
     // Whether there are as many rounds as expected, and as many witnesses as the difficulty asks for.
     fn check_counts(&self, expected_rounds: usize, pow_bits: usize) -> Result<(), SumcheckError>
         ensures ok { OnOk result ((vec_len self.now.polynomial_evaluations ≡ expected_rounds) × (vec_len self.now.pow_witnesses ≡ witness_count pow_bits expected_rounds)) }
-        ensures err { OnErr result (((result ≡ Err (SumcheckError.RoundCountMismatch expected_rounds (vec_len self.now.polynomial_evaluations)))
-            × (vec_len self.now.polynomial_evaluations ≢ expected_rounds))
-            ⊎ ((result ≡ Err (SumcheckError.PowWitnessCountMismatch (witness_count pow_bits expected_rounds) (vec_len self.now.pow_witnesses)))
-            × (vec_len self.now.polynomial_evaluations ≡ expected_rounds) × (vec_len self.now.pow_witnesses ≢ witness_count pow_bits expected_rounds))) }
+        ensures err { OnErr result (IsMiscounted result
+            (vec_len self.now.polynomial_evaluations) expected_rounds
+            (vec_len self.now.pow_witnesses) (witness_count pow_bits expected_rounds)) }
     {
         let rounds = self.polynomial_evaluations.len();
         if rounds != expected_rounds {
@@ -255,11 +264,11 @@ pub fn verify_final_sumcheck_rounds<F: Field, EF: ExtensionField<F>, C: Challeng
     ensures none { rounds ≡ 0 → IfOk result (λ point. point ≡ []) × (C.history challenger.new ≡ C.history challenger.old) × (claimed_sum.new ≡ claimed_sum.old) × IsOk result }
     ensures missing { result ≡ Err (SumcheckError.MissingSumcheckData rounds) ↔ ((0 < rounds) × IsNone final_sumcheck.entry) }
     ensures untouched { IsNone final_sumcheck.entry → (C.history challenger.new ≡ C.history challenger.old) × (claimed_sum.new ≡ claimed_sum.old) }
-    ensures left { IfSome final_sumcheck.entry (λ data_in. 0 < rounds
-        → LeavesReplay EF.number ((C.history challenger.new ≡ C.history challenger.old) × (claimed_sum.new ≡ claimed_sum.old))
-        (replay_of EF.ops (channel (C.rules challenger.old) EF.extension F.ops.size pow_bits) EF.DEGREE (shape_of rounds pow_bits basis)
-        (wire_in F.number EF.number data_in.now) (footing (C.history challenger.old) (EF.number claimed_sum.old)))
-        result (footing (C.history challenger.new) (EF.number claimed_sum.new))) }
+    ensures left { IfSome final_sumcheck.entry (λ given. 0 < rounds → LeavesFrom EF.number
+        (λ at. replay_of EF.ops (channel (C.rules challenger.old) EF.extension F.ops.size pow_bits)
+        EF.DEGREE (shape_of rounds pow_bits basis) (wire_in F.number EF.number given.now) at)
+        (place (C.history challenger.old) claimed_sum.old)
+        (place (C.history challenger.new) claimed_sum.new) result) }
 {
     if rounds == 0 {
         return Ok(Point::new(Vec::new(alloc)));

@@ -24,7 +24,7 @@ use Rattle.sc_degree.specs.Proofs.{Replay, AreWide, rounds_in, start_of, IsCount
 use Rattle.sc_degree.specs.Shapes.{shape_of}
 use Rattle.sc_small_fields.specs.ResiduesLaws.{residues_field}
 use Rattle.sc_small_fields.specs.F257x2Laws.{f257x2_field}
-use Rattle.sc_small_fields.specs.SixteenLaws.{tower_field}
+use Rattle.sc_sixteen.specs.SixteenLaws.{tower_field}
 use Rattle.sc_verdicts.specs.declared.error.ShapeFault.{ShapeFault}
 use Rattle.sumcheck_jobs.specs.declared.job.FieldName.{FieldName}
 use Rattle.sumcheck_jobs.specs.declared.job.FieldName.TheVariants.{F65537, F257x2, F16}
@@ -102,7 +102,7 @@ module _ (q : ProductCase) where
       let start = product_start q (true_sum q) in
       let given : rounds_in (replay_for claimed came) ≡ b.rounds =
       ap (λ (w : Wire). given_rounds w.messages w.witnesses) b.wire
-      ∙ given_played (honest_values q.ops q.tables) R E bits start [] q.variables b.rounds b.honest in
+      ∙ given_played (honest_values q.ops q.tables) q.channel start [] q.variables b.rounds b.honest in
       let all : take q.variables (rounds_in (replay_for claimed came)) ≡ b.rounds = ap (take q.variables) given ∙ take_whole b.rounds q.variables (sym b.count) in
       let from_claimed : IsReplayed next q.channel (start_of (replay_for claimed came)) (footing h' residual) b.rounds rs =
       subst (λ rounds. IsReplayed next q.channel (start_of (replay_for claimed came)) (footing h' residual) rounds rs) all replayed.replays in
@@ -253,7 +253,7 @@ module _ (q : ProductCase) where
       let start = product_start q (true_sum q) in
       let f = product_figures q (true_sum q) rounds in
       let matched : f.residual ≡ f.product =
-      honest_along q.ops field q.channel.rules q.channel.extension q.channel.bits q.tables some few start [] q.variables rounds built.0 built.1 in
+      honest_along q.ops field q.channel q.tables some few start [] q.variables rounds built.0 built.1 in
       let luck = product_luck q f in
       inl (ap (λ b. (finding_reply (product_finding b (f.claimed == true_sum q) luck) (product_lines f)).outcome) (eq-eqb _ _ matched)
       ∙ ap (λ b. (finding_reply (product_finding true b luck) (product_lines f)).outcome) (eq-eqb (true_sum q) (true_sum q) refl))

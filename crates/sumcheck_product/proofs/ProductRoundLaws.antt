@@ -8,9 +8,9 @@ use Rattle.std.proofs.lemmas.Option.{same_Some}
 use Rattle.sc_definitions.specs.declared.events.Event.{Event}
 use Rattle.sc_definitions.specs.Ring.{Ops, IsRing}
 use Rattle.sc_definitions.specs.Events.{Rules, NonePasses}
-use Rattle.sc_definitions.specs.Transcript.{Round, messages_of, sent, round_events, rounds_events, challenge, challenges, IsBuilt}
+use Rattle.sc_definitions.specs.Transcript.{Round, messages_of, sent, round_events, rounds_events, challenge, challenges}
 use Rattle.sc_definitions.specs.Replays.{round_passes, AllPass}
-use Rattle.sc_definitions.specs.Channels.{Channel, Wire}
+use Rattle.sc_definitions.specs.Channels.{Channel, Wire, IsBuilt}
 use Rattle.sc_definitions.specs.Interpolation.{node_values}
 use Rattle.sc_definitions.specs.Products.{values_product, product_claim, product_round, honest_values}
 use Rattle.sc_definitions.proofs.BuiltLaws.{length-challenges}
@@ -119,8 +119,8 @@ module _ (q : ProductCase) where
 
   -- what the prover sends is what an honest one does
   sent-honest : (h : List Event) (rs : List ℕ) (n : ℕ) (rounds : List Round) → length rs + n ≡ q.variables →
-      IsBuilt (honest_in q.ops prover_for) q.channel.rules q.channel.extension q.channel.bits h rs n rounds →
-      IsBuilt (honest_values q.ops q.tables) q.channel.rules q.channel.extension q.channel.bits h rs n rounds
+      IsBuilt (honest_in q.ops prover_for) q.channel h rs n rounds →
+      IsBuilt (honest_values q.ops q.tables) q.channel h rs n rounds
   unfolding honest_values
   sent-honest h rs n [] count built = tt
   sent-honest h rs zero (r ∷ rounds) count built = absurd built

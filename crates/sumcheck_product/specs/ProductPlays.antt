@@ -1,7 +1,7 @@
 -- Rounds over a product that were built, before they are replayed.
 use Rattle.std.specs.Prelude.{◌≡◌, ℕ, ◌≤◌, List, [], length, Result, Ok, Err}
-use Rattle.sc_definitions.specs.Transcript.{Round, challenges, IsBuilt}
-use Rattle.sc_definitions.specs.Channels.{Wire, empty_wire, with_rounds}
+use Rattle.sc_definitions.specs.Transcript.{Round, challenges}
+use Rattle.sc_definitions.specs.Channels.{Wire, empty_wire, with_rounds, IsBuilt}
 use Rattle.sc_definitions.specs.Products.{values_product, honest_values}
 use Rattle.sc_degree.specs.declared.error.GenericDegreeError.{GenericDegreeError}
 use Rattle.sc_degree.specs.declared.error.GenericDegreeError.TheVariants.{NoWitness, NoMemory}
@@ -19,7 +19,7 @@ pub record IsDegree (degree : ℕ) : Type 0 where
 pub record AreBuilt (q : ProductCase) (claimed : ℕ) (came : Wire) (product : ℕ) : Type 0 where
   pub rounds : List Round
   pub are : product_built q ≡ Ok rounds
-  pub honest : IsBuilt (honest_values q.ops q.tables) q.channel.rules q.channel.extension q.channel.bits (product_start q (true_sum q)) [] q.variables rounds
+  pub honest : IsBuilt (honest_values q.ops q.tables) q.channel (product_start q (true_sum q)) [] q.variables rounds
   pub count : length rounds ≡ q.variables
   pub wire : came ≡ with_rounds q.channel.bits empty_wire rounds
   pub claim : claimed ≡ true_sum q

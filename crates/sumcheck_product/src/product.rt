@@ -30,7 +30,8 @@ use sc_degree::{
 };
 use sc_field::laws::count_roots;
 use sc_field::{ExtensionField, Field, NoMemory};
-use sc_small_fields::{F257, F257x2, F65537, Tower16};
+use sc_sixteen::Tower16;
+use sc_small_fields::{F257, F257x2, F65537};
 use sc_table::Point;
 use sc_verdicts::AuditError;
 use std::alloc::Global;

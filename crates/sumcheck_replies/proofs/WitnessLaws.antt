@@ -8,9 +8,9 @@ use Rattle.std.proofs.lemmas.List.Elements.{All-head, All-tail}
 use Rattle.std.proofs.lemmas.Option.{same_Some}
 use Rattle.sc_definitions.specs.declared.events.Event.{Event}
 use Rattle.sc_definitions.specs.Events.{Rules, Extension, NonePasses}
-use Rattle.sc_definitions.specs.Transcript.{Round, round_of, sent, round_events, rounds_events, challenge, challenges, HasFirstWitness, IsBuilt}
+use Rattle.sc_definitions.specs.Transcript.{Round, round_of, sent, round_events, rounds_events, challenge, challenges, HasFirstWitness}
 use Rattle.sc_definitions.specs.Replays.{round_passes, AllPass}
-use Rattle.sc_definitions.specs.Channels.{channel}
+use Rattle.sc_definitions.specs.Channels.{channel, IsBuilt}
 use Rattle.sc_transcript.specs.Data.{witnesses_of}
 use Rattle.sumcheck_replies.specs.Witnesses.{least_below, witness_at, with_witness, round_before, honest_rounds, first_failing}
 
@@ -96,7 +96,7 @@ module _ (R : Rules) (E : Extension) (size : ℕ) where
 
     -- built rounds of which each sends what an honest prover sends, with the first witness, are the ones that it builds
     pub honest_rounds-whole : (h : List Event) (rs : List ℕ) (n : ℕ) (rounds : List Round) → length rounds ≡ n → AreLow size bits rounds →
-        IsBuilt honest R E bits h rs n rounds → honest_rounds honest (channel R E size bits) h rs n ≡ Ok rounds
+        IsBuilt honest (channel R E size bits) h rs n rounds → honest_rounds honest (channel R E size bits) h rs n ≡ Ok rounds
     honest_rounds-whole h rs zero [] count low b = refl
     honest_rounds-whole h rs (suc n) [] count low b = absurd (omega (arith, count))
     honest_rounds-whole h rs zero (r ∷ rounds) count low b = absurd b
@@ -112,7 +112,7 @@ module _ (R : Rules) (E : Extension) (size : ℕ) where
 
     -- where no element passes behind some of them, that round is the one that has none
     pub honest_rounds-none : (h : List Event) (rs : List ℕ) (n : ℕ) (rounds : List Round) (left : ℕ) → length rounds + suc left ≡ n → AreLow size bits rounds →
-        IsBuilt honest R E bits h rs n rounds →
+        IsBuilt honest (channel R E size bits) h rs n rounds →
         witness_at R size bits ((h ++ rounds_events E bits rounds) ++ sent E (honest (rs ++ challenges R E bits h rounds) left)) ≡ None →
         honest_rounds honest (channel R E size bits) h rs n ≡ Err (length rounds)
     honest_rounds-none h rs zero [] left some low b none = absurd (omega (arith, some))
@@ -147,7 +147,7 @@ module _ (R : Rules) (E : Extension) (size : ℕ) where
   module _ (honest : List ℕ → ℕ → List ℕ) (bits : ℕ) where
     -- the rounds are built, or there is a difficulty
     abbrev pub IsBuiltOr : List Event → List ℕ → ℕ → Result (List Round) ℕ → Type 0
-    IsBuiltOr h rs n (Ok rounds) = (length rounds ≡ n) × IsBuilt honest R E bits h rs n rounds
+    IsBuiltOr h rs n (Ok rounds) = (length rounds ≡ n) × IsBuilt honest (channel R E size bits) h rs n rounds
     IsBuiltOr h rs n (Err i) = 0 < bits
 
     built_before : (h : List Event) (rs : List ℕ) (n w : ℕ) → witness_at R size bits (h ++ sent E (honest rs n)) ≡ Some w →

@@ -5,7 +5,8 @@ use Rattle.std.specs.Prelude.{Result, Ok, Err}
 use Rattle.sc_definitions.specs.declared.false_claim.FalseClaim.{FalseClaim}
 use Rattle.sc_definitions.specs.Ring.{IsRing, IsField}
 use Rattle.sc_definitions.specs.Tables.{IsOffered}
-use Rattle.sc_definitions.specs.Transcript.{Round, messages_of, challenges, IsBuilt}
+use Rattle.sc_definitions.specs.Transcript.{Round, messages_of, challenges}
+use Rattle.sc_definitions.specs.Channels.{IsBuilt}
 use Rattle.sc_definitions.specs.Problem.{honest_of}
 use Rattle.sc_definitions.specs.Lucky.{luck_of}
 use Rattle.sc_definitions.proofs.BuildLaws.{built-residual, first_false_claim-all}
@@ -19,7 +20,7 @@ use Rattle.sc_audit.specs.Figures.{Reported, finding_by, false_claim_of, is_matc
 use Rattle.sc_audit.specs.Audits.{figures_from}
 use Rattle.sc_small_fields.specs.ResiduesLaws.{residues_field}
 use Rattle.sc_small_fields.specs.F257x2Laws.{f257x2_field}
-use Rattle.sc_small_fields.specs.SixteenLaws.{tower_field}
+use Rattle.sc_sixteen.specs.SixteenLaws.{tower_field}
 use Rattle.sumcheck_jobs.specs.declared.job.FieldName.{FieldName}
 use Rattle.sumcheck_jobs.specs.declared.job.FieldName.TheVariants.{F65537, F257x2, F16}
 use Rattle.sumcheck_jobs.specs.declared.job.Job.{Job}
@@ -49,7 +50,7 @@ all-true q strategy task none =
 module _ (q : Asked) (ring : IsRing q.ops) (offered : IsOffered q.case.problem.basis q.case.problem.order) (none : false_claim_of q.ops q.case.problem ≡ None) where
   -- rounds that are built on true statements hold
   pub built-finding : (rounds : List Round) → length rounds ≡ q.case.problem.variables →
-      IsBuilt (honest_of q.ops q.case.problem) q.channel.rules q.channel.extension q.channel.bits (start_of q).history [] q.case.problem.variables rounds →
+      IsBuilt (honest_of q.ops q.case.problem) q.channel (start_of q).history [] q.case.problem.variables rounds →
       (figures_from q rounds).finding ≡ holds
   unfolding honest_of figures_of
   built-finding rounds whole built =
@@ -61,7 +62,7 @@ module _ (q : Asked) (ring : IsRing q.ops) (offered : IsOffered q.case.problem.b
       let rs = challenges R E bits (start_of q).history rounds in
       let luck = luck_of o p (messages_of rounds) rs in
       let matched : is_matched o p (messages_of rounds) rs ≡ true =
-      eq-eqb _ _ (built-residual o ring p R E bits (start_of q).history rounds offered (first_false_claim-all o p.variables p.table 0 p.statements none) whole built) in
+      eq-eqb _ _ (built-residual o ring p q.channel (start_of q).history rounds offered (first_false_claim-all o p.variables p.table 0 p.statements none) whole built) in
       ap (λ b. finding_by b (false_claim_of o p) luck) matched ∙ ap (λ fault. finding_by true fault luck) none
 
   -- so that is the outcome, unless a round has no witness

@@ -3,7 +3,8 @@ use super::{BASIS, CHALLENGE_OF_TWO, Case, Figures, HEAD, TWO_ROUNDS, VALUES_OF_
 use sc_audit::laws::build_laws;
 use sc_audit::{AuditError, Strategy};
 use sc_definitions::Event::{Draw, Word};
-use sc_small_fields::{F257, F257x2, Poly16, Tower16};
+use sc_sixteen::{Poly16, Tower16};
+use sc_small_fields::{F257, F257x2};
 use sc_table::VariableOrder;
 
 // Over the field of 16 elements that is made by `w^2 = w + 1` and `y^2 = y + w`.

@@ -7,7 +7,7 @@ use sc_audit::laws::false_claim_lists;
 use sc_audit::{Mode, Verdict, audit};
 use sc_challenger::ScriptedChallenger;
 use sc_rounds::SumcheckData;
-use sc_small_fields::Tower16;
+use sc_sixteen::Tower16;
 use std::process::Abort;
 
 // A prover of the claim of a case, which is false, by its strategy: what it sends first, and then

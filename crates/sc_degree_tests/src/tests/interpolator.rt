@@ -5,7 +5,8 @@ ghost use Rattle.std.specs.Prelude.{◌≡◌, ◌+◌, ◌<◌, ◌≤◌, leng
 
 use sc_degree::{RoundPolyInterpolator, nodes_distinct};
 use sc_field::{Field, NoMemory};
-use sc_small_fields::{F257x2, F65537, Tower16};
+use sc_sixteen::Tower16;
+use sc_small_fields::{F257x2, F65537};
 use sc_tests_common::{elements, entry, have_numbers, of};
 use std::alloc::Global;
 

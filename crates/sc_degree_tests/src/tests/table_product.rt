@@ -7,7 +7,8 @@ ghost use Rattle.sc_degree.specs.Products.{tables_of, arity_of};
 
 use sc_degree::{RoundProver, TableProduct};
 use sc_field::{Field, NoMemory};
-use sc_small_fields::{F257x2, F65537, Tower16};
+use sc_sixteen::Tower16;
+use sc_small_fields::{F257x2, F65537};
 use sc_table::Poly;
 use sc_tests_common::{elements, entry, have_numbers, of, table};
 use std::alloc::Global;

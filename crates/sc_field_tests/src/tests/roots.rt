@@ -1,7 +1,8 @@
 //! Values of polynomials and their roots, against figures that another program computed.
 use sc_field::laws::{count_roots, field_laws, poly_at};
 use sc_field::{Field, NoMemory};
-use sc_small_fields::{F257x2, F65537, Poly16, Tower16};
+use sc_sixteen::{Poly16, Tower16};
+use sc_small_fields::{F257x2, F65537};
 use std::alloc::Global;
 
 // The elements of these numbers.

@@ -4,7 +4,7 @@ ghost use Rattle.std.specs.Prelude.{◌≡◌, ◌<◌};
 use super::figures::Operation::{Double, Opposite, Power};
 use super::figures::{Figures, assert_figures};
 use sc_field::{Field, FromTable, IntoTranscriptField, NoMemory};
-use sc_small_fields::{Poly16, Tower16};
+use sc_sixteen::{Poly16, Tower16};
 use std::alloc::Global;
 use std::process::Abort;
 

@@ -4,7 +4,8 @@ ghost use Rattle.std.specs.Prelude.{◌≡◌, ◌+◌, ◌*◌, ◌≤◌, leng
 
 use sc_field::laws::field_laws;
 use sc_field::{Algebra, Field, NoMemory};
-use sc_small_fields::{F257, F257x2, F65537, Tower16};
+use sc_sixteen::Tower16;
+use sc_small_fields::{F257, F257x2, F65537};
 use std::alloc::Global;
 
 // Entry i of a list: each third is the element before zero.

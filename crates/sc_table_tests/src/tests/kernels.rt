@@ -4,7 +4,8 @@ ghost use Rattle.std.specs.Prelude.{◌≡◌, ◌+◌, ◌*◌, ◌<◌, ◌≤
 
 use VariableOrder::{Prefix, Suffix};
 use sc_field::{Algebra, Field, NoMemory};
-use sc_small_fields::{F257, F257x2, F65537, Tower16};
+use sc_sixteen::Tower16;
+use sc_small_fields::{F257, F257x2, F65537};
 use sc_table::{
     Poly, RoundMessage, VariableOrder, eval_slice, fold_and_round_coefficients_prefix,
     fold_and_round_coefficients_suffix, joined_block_weights,

@@ -1,6 +1,5 @@
 use Rattle.std.proofs.Common.{refl, ◌∙◌, arith}
 use Rattle.sc_transcript.proofs.RoundWords.{sent_none, sent_more}
-use Rattle.sc_transcript.proofs.RoundRoom.{room_for_one}
 use Rattle.sc_transcript.proofs.driver.observe_values.Goals as goal
 
 pub loop-i-init : goal.loop-i-init

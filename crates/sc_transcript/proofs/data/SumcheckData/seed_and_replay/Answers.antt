@@ -14,10 +14,10 @@ replay-requires g c = record {
 }
 
 pub returns-in_err-challenges : goal.returns-in_err-challenges
-returns-in_err-challenges g c = record { rules = refl; leaves = inl (search rules, refl, refl) }
+returns-in_err-challenges g c = record { rules = refl; leaves = inl (search rules, (refl, refl)) }
 
 pub returns-in_err-seed : goal.returns-in_err-seed
-returns-in_err-seed g c = record { rules = c.in_err-seed.ensures.rules; leaves = inl (search rules, c.in_err-seed.ensures.err, refl) }
+returns-in_err-seed g c = record { rules = c.in_err-seed.ensures.rules; leaves = inl (search rules, (c.in_err-seed.ensures.err, refl)) }
 
 pub returns : goal.returns
 returns g c = record {

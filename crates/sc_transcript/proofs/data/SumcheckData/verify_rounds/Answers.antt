@@ -9,7 +9,7 @@ pub returns-clause-left : goal.returns-clause-left
 returns-clause-left g c =
     let right = c.in_ok-check_counts.ensures.ok in
     let d = c.args.self.now in
-    begun_left _ _ g.EF.Field.number _ _ _ (record { rounds = rounds_came g.EF.Field.number d ∙ right.0; witnesses = witnesses_came g.F.Field.number d ∙ right.1 }) c.seed_and_replay.ensures.leaves
+    begun_left _ g.EF.Field.number _ _ _ (record { rounds = rounds_came g.EF.Field.number d ∙ right.0; witnesses = witnesses_came g.F.Field.number d ∙ right.1 }) c.seed_and_replay.ensures.leaves
 
 pub returns-in_err-check_counts-clause-left : goal.returns-in_err-check_counts-clause-left
 returns-in_err-check_counts-clause-left g c =

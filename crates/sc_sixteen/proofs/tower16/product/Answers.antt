@@ -1,9 +1,9 @@
 use Rattle.std.proofs.Common.{◌<◌, subst, sym}
 use Rattle.sc_definitions.proofs.RingLaws.{times_below}
-use Rattle.sc_small_fields.specs.SixteenLaws.{tower_field}
+use Rattle.sc_sixteen.specs.SixteenLaws.{tower_field}
 use Rattle.sc_definitions.specs.Sixteen.{tower}
-use Rattle.sc_small_fields.proofs.TowerTables.{tower_product_entry}
-use Rattle.sc_small_fields.proofs.tower16.product.Goals as goal
+use Rattle.sc_sixteen.proofs.TowerTables.{tower_product_entry}
+use Rattle.sc_sixteen.proofs.tower16.product.Goals as goal
 
 pub returns-clause-below : goal.returns-clause-below
 returns-clause-below c =

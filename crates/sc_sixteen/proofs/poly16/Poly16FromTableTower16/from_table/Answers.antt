@@ -1,5 +1,5 @@
 use Rattle.std.proofs.lemmas.Result.{IfOk-from_err}
-use Rattle.sc_small_fields.proofs.poly16.Poly16FromTableTower16.from_table.Goals as goal
+use Rattle.sc_sixteen.proofs.poly16.Poly16FromTableTower16.from_table.Goals as goal
 
 -- a refusal tells nothing of an answer
 pub returns-in_err-push : goal.returns-in_err-push

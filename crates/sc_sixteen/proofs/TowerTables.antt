@@ -3,8 +3,8 @@ use Rattle.std.proofs.Common.{◌≡◌, ◌≢◌, ℕ, ◌+◌, ◌*◌, ◌/�
 use Rattle.std.specs.List.{range_with_len}
 use Rattle.sc_definitions.specs.Ring.{times}
 use Rattle.sc_definitions.specs.Sixteen.{tower, product_of_four, tower_product}
-use Rattle.sc_small_fields.specs.declared.tower16.TheConstants.{PRODUCTS, INVERSES}
-use Rattle.sc_small_fields.proofs.SixteenTables.{product_entry, all_inverses, inverse_entry}
+use Rattle.sc_sixteen.specs.declared.tower16.TheConstants.{PRODUCTS, INVERSES}
+use Rattle.sc_sixteen.proofs.SixteenTables.{product_entry, all_inverses, inverse_entry}
 
 products : PRODUCTS ≡ map (λ k. tower_product (k / 16) (k % 16)) (range_with_len 0 256)
 unfolding product_of_four tower_product

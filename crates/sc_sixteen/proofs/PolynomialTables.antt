@@ -3,8 +3,8 @@ use Rattle.std.proofs.Common.{◌≡◌, ◌≢◌, ℕ, ◌+◌, ◌*◌, ◌/�
 use Rattle.std.specs.List.{range_with_len}
 use Rattle.sc_definitions.specs.Ring.{times}
 use Rattle.sc_definitions.specs.Sixteen.{polynomials, times_x, product_by_bits, image_by_bits, tower_to_polynomial, polynomial_to_tower}
-use Rattle.sc_small_fields.specs.declared.poly16.TheConstants.{PRODUCTS, INVERSES, FROM_TOWER, TO_TOWER}
-use Rattle.sc_small_fields.proofs.SixteenTables.{product_entry, all_inverses, inverse_entry, image_entry}
+use Rattle.sc_sixteen.specs.declared.poly16.TheConstants.{PRODUCTS, INVERSES, FROM_TOWER, TO_TOWER}
+use Rattle.sc_sixteen.proofs.SixteenTables.{product_entry, all_inverses, inverse_entry, image_entry}
 
 products : PRODUCTS ≡ map (λ k. product_by_bits 4 (k / 16) (k % 16)) (range_with_len 0 256)
 unfolding times_x product_by_bits

@@ -4,7 +4,7 @@ ghost use Rattle.std.proofs.Common.{lit<, lit≤};
 ghost use Rattle.sc_definitions.specs.Ring.{◌*⟨◌⟩◌};
 ghost use Rattle.sc_definitions.specs.Sixteen.{tower};
 ghost use Rattle.sc_field.specs.PrimeLaws.{eqb_iff};
-ghost use Rattle.sc_small_fields.specs.SixteenLaws.{tower_field, sixteen_two};
+ghost use Rattle.sc_sixteen.specs.SixteenLaws.{tower_field, sixteen_two};
 
 use sc_field::Field;
 

@@ -1,9 +1,9 @@
 use Rattle.std.proofs.Common.{◌<◌, subst, sym}
 use Rattle.sc_definitions.proofs.RingLaws.{times_below}
-use Rattle.sc_small_fields.specs.SixteenLaws.{polynomials_field}
+use Rattle.sc_sixteen.specs.SixteenLaws.{polynomials_field}
 use Rattle.sc_definitions.specs.Sixteen.{polynomials}
-use Rattle.sc_small_fields.proofs.PolynomialTables.{polynomial_product_entry}
-use Rattle.sc_small_fields.proofs.poly16.product.Goals as goal
+use Rattle.sc_sixteen.proofs.PolynomialTables.{polynomial_product_entry}
+use Rattle.sc_sixteen.proofs.poly16.product.Goals as goal
 
 pub returns-clause-below : goal.returns-clause-below
 returns-clause-below c =

@@ -4,8 +4,8 @@ ghost use Rattle.std.proofs.Common.{lit<, lit≤};
 ghost use Rattle.sc_definitions.specs.Ring.{◌*⟨◌⟩◌};
 ghost use Rattle.sc_definitions.specs.Sixteen.{polynomials, tower_to_polynomial, polynomial_to_tower};
 ghost use Rattle.sc_field.specs.PrimeLaws.{eqb_iff};
-ghost use Rattle.sc_small_fields.specs.SixteenLaws.{polynomials_field, sixteen_two};
-ghost use Rattle.sc_small_fields.specs.SixteenLaws.{polynomials_represent_tower};
+ghost use Rattle.sc_sixteen.specs.SixteenLaws.{polynomials_field, sixteen_two};
+ghost use Rattle.sc_sixteen.specs.SixteenLaws.{polynomials_represent_tower};
 
 use crate::tower16::Tower16;
 use sc_field::{Field, FromTable, IntoTranscriptField, NoMemory};

@@ -1,0 +1,3 @@
+pub mod SixteenTables
+pub mod TowerTables
+pub mod PolynomialTables

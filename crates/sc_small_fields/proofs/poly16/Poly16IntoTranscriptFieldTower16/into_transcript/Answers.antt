@@ -1,6 +1,0 @@
-use Rattle.std.proofs.Common.{◌∙◌}
-use Rattle.sc_small_fields.proofs.PolynomialTables.{to_tower_entry}
-use Rattle.sc_small_fields.proofs.poly16.Poly16IntoTranscriptFieldTower16.into_transcript.Goals as goal
-
-pub returns : goal.returns
-returns c = c.element.ensures ∙ to_tower_entry c.args.self.value c.args.self.below
