@@ -19,13 +19,13 @@ use Rattle.sc_definitions.proofs.ReplayLaws.{messages-given_rounds}
 use Rattle.sc_definitions.proofs.LuckyLaws.{AllSend, IsPair, luck-certified}
 use Rattle.sc_table.specs.declared.strategy.RoundMessage.{RoundMessage}
 use Rattle.sc_table.specs.declared.strategy.Strategy.{Strategy}
-use Rattle.sc_statements.specs.declared.evaluated.EvaluatedConstraint.{EvaluatedConstraint}
+use Rattle.sc_claims.specs.declared.evaluated.EvaluatedConstraint.{EvaluatedConstraint}
 use Rattle.sc_statements.specs.declared.statement.Statements.{Statements}
 use Rattle.sc_statements.specs.declared.statement.Statements.TheVariants.{Eq, Next, Select}
-use Rattle.sc_statements.specs.Lists.{evaluated_all}
-use Rattle.sc_statements.specs.EqStatements.{point_kind}
-use Rattle.sc_statements.specs.NextStatements.{next_kind}
-use Rattle.sc_statements.specs.SelectStatements.{claims_of, select_kinds}
+use Rattle.sc_claims.specs.Lists.{evaluated_all}
+use Rattle.sc_claims.specs.EqStatements.{point_kind}
+use Rattle.sc_claims.specs.NextStatements.{next_kind}
+use Rattle.sc_claims.specs.SelectStatements.{claims_of, select_kinds}
 use Rattle.sc_statements.specs.Groups.{group_statements, all_statements}
 use Rattle.sc_transcript.specs.declared.data.SumcheckData.{SumcheckData}
 use Rattle.sc_transcript.specs.Data.{pair_of}

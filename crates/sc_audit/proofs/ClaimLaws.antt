@@ -14,11 +14,11 @@ use Rattle.sc_definitions.proofs.SameTables.{inner-same}
 use Rattle.sc_definitions.proofs.PartLaws.{successor-kind}
 use Rattle.sc_table.specs.Strategy.{order_of}
 use Rattle.sc_weights.specs.declared.next.NextConstraint.{NextConstraint}
-use Rattle.sc_statements.specs.declared.evaluated.EvaluatedConstraint.{EvaluatedConstraint}
+use Rattle.sc_claims.specs.declared.evaluated.EvaluatedConstraint.{EvaluatedConstraint}
 use Rattle.sc_statements.specs.declared.statement.Statements.{Statements}
-use Rattle.sc_statements.specs.Lists.{evaluated, evaluated_all}
-use Rattle.sc_statements.specs.NextStatements.{next_kind, selector_at, point_at}
-use Rattle.sc_statements.specs.SelectStatements.{claims_of}
+use Rattle.sc_claims.specs.Lists.{evaluated, evaluated_all}
+use Rattle.sc_claims.specs.NextStatements.{next_kind, selector_at, point_at}
+use Rattle.sc_claims.specs.SelectStatements.{claims_of}
 use Rattle.sc_statements.specs.Groups.{group_statements, all_statements}
 use Rattle.sc_statements.proofs.GroupSteps.{groups-more, groups-split}
 use Rattle.sc_svo.specs.declared.claims.SvoClaim.{SvoClaim}

@@ -15,9 +15,9 @@ use Rattle.sc_table.specs.Strategy.{order_of}
 use Rattle.sc_table.specs.declared.strategy.Strategy.{Strategy}
 use Rattle.sc_table.specs.declared.strategy.Strategy.TheVariants.{Plain, Represented, SmallValue}
 use Rattle.sc_statements.specs.Constraints.{constraint_arity, constraint_challenge, constraint_power}
-use Rattle.sc_statements.specs.Claimed.{all_stated_truly}
+use Rattle.sc_claims.specs.Claimed.{all_stated_truly}
 use Rattle.sc_statements.specs.FalseClaims.{capped}
-use Rattle.sc_statements.proofs.FalseSteps.{first_false-none}
+use Rattle.sc_claims.proofs.FalseSteps.{first_false-none}
 use Rattle.sc_svo.specs.Batches.{Batch, batch_in}
 use Rattle.sc_svo.specs.Grids.{most_rounds}
 use Rattle.sc_verdicts.specs.declared.error.AuditError.{AuditError}

@@ -1,5 +1,5 @@
 -- What is refused before a round is played, in the order in which it is tested.
-use Rattle.std.specs.Prelude.{ℕ, zero, suc, ◌-◌, ◌^◌, ◌==◌, ◌||◌, List, [], ◌∷◌, length, min, nat_lt, if◌then◌else◌, Option, Some, None, Result, Ok, Err}
+use Rattle.std.specs.Prelude.{ℕ, suc, ◌-◌, ◌^◌, ◌==◌, ◌||◌, List, [], ◌∷◌, length, min, nat_lt, if◌then◌else◌, Option, Some, None, Result, Ok, Err}
 use Rattle.sc_definitions.specs.declared.false_claim.FalseClaim.{FalseClaim as FalseStatement}
 use Rattle.sc_definitions.specs.Statements.{Kind, equality, successor, powers, products, Statement, first_false_claim}
 use Rattle.sc_definitions.specs.Problem.{Problem}

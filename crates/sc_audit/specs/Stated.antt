@@ -8,7 +8,7 @@ use Rattle.sc_field.specs.declared.field.Field.{Ghosts as FieldOf}
 use Rattle.sc_field.specs.declared.algebra.Algebra.{Ghosts as AlgebraOf}
 use Rattle.sc_field.specs.declared.algebra.ExtensionField.{Ghosts as ExtensionOf}
 use Rattle.sc_statements.specs.Constraints.{constraint_arity, constraint_challenge, constraint_power}
-use Rattle.sc_statements.specs.Claimed.{all_stated_truly}
+use Rattle.sc_claims.specs.Claimed.{all_stated_truly}
 use Rattle.sc_table.specs.declared.strategy.Strategy.TheVariants.{SmallValue}
 use Rattle.sc_svo.specs.Batches.{batch_in}
 use Rattle.sc_verdicts.specs.declared.error.AuditError.{AuditError}

@@ -12,8 +12,8 @@ ghost use Rattle.sc_statements.specs.Constraints.{
   constraint_challenge,
   constraint_power,
 };
-ghost use Rattle.sc_statements.specs.EqStatements.{eq_arity, eq_statements};
-ghost use Rattle.sc_statements.specs.NextStatements.{next_arity, next_statements};
+ghost use Rattle.sc_claims.specs.EqStatements.{eq_arity, eq_statements};
+ghost use Rattle.sc_claims.specs.NextStatements.{next_arity, next_statements};
 ghost use Rattle.sc_statements.specs.Groups.{group_arity, group_statements};
 ghost use Rattle.sc_svo.specs.Claims.{AreOn, claims_in};
 ghost use Rattle.sc_audit.specs.SmallRounds.{AreTaken, AppendsBy, IsNextFactor, claims_from, listed_in};

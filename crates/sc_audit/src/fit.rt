@@ -2,7 +2,7 @@
 ghost use Rattle.std.specs.Prelude.{◌≡◌};
 ghost use Rattle.sc_statements.specs.Constraints.{constraint_arity, constraint_statements};
 ghost use Rattle.sc_statements.specs.Groups.{group_statements};
-ghost use Rattle.sc_statements.specs.NextStatements.{next_statements};
+ghost use Rattle.sc_claims.specs.NextStatements.{next_statements};
 ghost use Rattle.sc_audit.specs.Fitting.{stated_in};
 ghost use Rattle.sc_audit.specs.Refusals.{first_unfit, small_refusal, strategy_refusal, refusal_in};
 

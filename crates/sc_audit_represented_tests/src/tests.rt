@@ -1,6 +1,6 @@
 //! Builds on representations, and over fields that differ from those of the tables, with figures from a script that is no part of this.
 ghost use Rattle.std.specs.Prelude.{◌≡◌};
-ghost use Rattle.sc_statements.specs.EqStatements.{eq_arity};
+ghost use Rattle.sc_claims.specs.EqStatements.{eq_arity};
 
 mod representations;
 mod traced;

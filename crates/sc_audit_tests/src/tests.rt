@@ -1,9 +1,9 @@
 //! Whole audits, with figures from a script that is no part of this.
 ghost use Rattle.std.specs.Prelude.{◌≡◌};
-ghost use Rattle.sc_statements.specs.EqStatements.{eq_arity};
+ghost use Rattle.sc_claims.specs.EqStatements.{eq_arity};
 ghost use Rattle.sc_statements.specs.Groups.{group_arity};
-ghost use Rattle.sc_statements.specs.NextStatements.{next_arity};
-ghost use Rattle.sc_statements.specs.SelectStatements.{select_arity};
+ghost use Rattle.sc_claims.specs.NextStatements.{next_arity};
+ghost use Rattle.sc_claims.specs.SelectStatements.{select_arity};
 
 mod lucky;
 mod refusals;

@@ -8,7 +8,7 @@ use Rattle.sc_definitions.specs.Tables.{entries, rows_of, inner}
 use Rattle.sc_definitions.proofs.StandingLaws.{entries-is}
 use Rattle.sc_table.specs.Polys.{variables_of, table_of}
 use Rattle.sc_table.specs.declared.poly.Poly.{Poly}
-use Rattle.sc_statements.specs.Batches.{gathered, AddsBatch}
+use Rattle.sc_claims.specs.Batches.{gathered, AddsBatch}
 use Rattle.sc_rounds.specs.declared.product_polynomial.ProductPolynomial.{ProductPolynomial}
 use Rattle.sc_rounds.specs.Products.{numbers_of, variables_in, order_in, evals_in, weights_in, sum_in}
 use Rattle.sc_rounds.specs.Provers.{Stated, shown_of, sum_with, IsTrueClaim, with_added, with_scaled, weight_of, claim_of}

@@ -8,7 +8,7 @@ use Rattle.sc_definitions.specs.Statements.{Statement, batched_weight, batched_c
 use Rattle.sc_definitions.proofs.RingLaws.{plus_comm, plus_cancel, times-plus}
 use Rattle.sc_definitions.proofs.Sums.{sum-same, sum-plus, element-sum}
 use Rattle.sc_definitions.proofs.StatementLaws.{element-powers_sum}
-use Rattle.sc_statements.specs.Batches.{gathered, AddsBatch}
+use Rattle.sc_claims.specs.Batches.{gathered, AddsBatch}
 use Rattle.sc_rounds.specs.Provers.{Stated, claim_with}
 
 -- a claim that is known, with a constraint taken in

@@ -5,7 +5,7 @@ ghost use Rattle.sc_definitions.specs.Tables.{entries, value, sum_below, inner};
 ghost use Rattle.sc_table.specs.Polys.{variables_of, table_of};
 ghost use Rattle.sc_table.specs.Strategy.{order_of};
 ghost use Rattle.sc_statements.specs.Constraints.{constraint_arity, constraint_challenge, constraint_power, constraint_statements};
-ghost use Rattle.sc_statements.specs.Batches.{gathered, AddsBatch};
+ghost use Rattle.sc_claims.specs.Batches.{gathered, AddsBatch};
 
 use sc_challenger::Challenger;
 use sc_field::{ExtensionField, Field, IntoTranscriptField, NoMemory};

@@ -8,9 +8,9 @@ use Rattle.std.proofs.Math.Seq.{take-add}
 use Rattle.std.proofs.lemmas.List.Elements.{All-set}
 use Rattle.sc_definitions.specs.Ring.{Ops}
 use Rattle.sc_definitions.specs.Statements.{Statement}
-use Rattle.sc_statements.specs.Claimed.{with_values, stated_truly, all_stated_truly}
+use Rattle.sc_claims.specs.Claimed.{with_values, stated_truly, all_stated_truly}
 use Rattle.sc_statements.proofs.GroupSteps.{groups-more}
-use Rattle.sc_statements.proofs.ClaimLaws.{with_values-append}
+use Rattle.sc_claims.proofs.ClaimLaws.{with_values-append}
 
 drop_later : {X : Type 0} (xs : List X) (i : ℕ) → drop (suc i) xs ≡ drop 1 (drop i xs)
 drop_later [] zero = refl

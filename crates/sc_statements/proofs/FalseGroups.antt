@@ -7,7 +7,7 @@ use Rattle.sc_definitions.specs.declared.false_claim.FalseClaim.{FalseClaim}
 use Rattle.sc_definitions.specs.Ring.{Ops}
 use Rattle.sc_definitions.specs.Statements.{Statement, true_value, is_true_of, first_false_claim}
 use Rattle.sc_statements.specs.FalseClaims.{capped}
-use Rattle.sc_statements.proofs.FalseSteps.{first_false-end}
+use Rattle.sc_claims.proofs.FalseSteps.{first_false-end}
 use Rattle.sc_statements.proofs.GroupSteps.{groups-more, groups-split, arity-of}
 
 -- with a number that is p larger

@@ -8,8 +8,8 @@ use Rattle.sc_definitions.specs.Ring.{Ops, IsRing, plus, times, power}
 use Rattle.sc_definitions.specs.Statements.{Statement, powers_sum, weight_of, batched_weight, batched_claim}
 use Rattle.sc_definitions.proofs.RingLaws.{plus-zero, plus_assoc, plus_comm}
 use Rattle.sc_definitions.proofs.StatementLaws.{element-powers_sum}
-use Rattle.sc_statements.specs.Batches.{gathered, AddsBatch}
-use Rattle.sc_statements.proofs.BatchSteps.{IsSummed, AddsBatch-none}
+use Rattle.sc_claims.specs.Batches.{gathered, AddsBatch}
+use Rattle.sc_claims.proofs.BatchSteps.{IsSummed, AddsBatch-none}
 
 module _ (o : Ops) (ring : IsRing o) where
   -- the powers go on behind the first list

@@ -1,12 +1,5 @@
-pub mod Places
-pub mod Evaluations
-pub mod FalseSteps
-pub mod BatchSteps
 pub mod GroupSteps
+pub mod GroupValues
 pub mod FalseGroups
-pub mod BatchValues
-pub mod Selecting
-pub mod RowLaws
-pub mod ClaimLaws
 pub mod ClaimGroups
-pub mod ExcessLaws
+pub mod ExcessGroups

@@ -4,9 +4,9 @@ use Rattle.std.specs.List.{flat_map}
 use Rattle.sc_definitions.specs.Statements.{Statement}
 use Rattle.sc_statements.specs.declared.statement.Statements.{Statements}
 use Rattle.sc_statements.specs.declared.statement.Statements.TheVariants.{Eq, Next, Select}
-use Rattle.sc_statements.specs.EqStatements.{eq_arity, eq_statements}
-use Rattle.sc_statements.specs.NextStatements.{next_arity, next_statements}
-use Rattle.sc_statements.specs.SelectStatements.{select_arity, select_statements}
+use Rattle.sc_claims.specs.EqStatements.{eq_arity, eq_statements}
+use Rattle.sc_claims.specs.NextStatements.{next_arity, next_statements}
+use Rattle.sc_claims.specs.SelectStatements.{select_arity, select_statements}
 
 -- how many variables its tables have
 abbrev pub group_arity : {F EF : Type 0} → Statements F EF → ℕ

@@ -1,13 +1,3 @@
-pub mod Lists
-pub mod Weights
-pub mod EqStatements
-pub mod EqIterators
-pub mod NextStatements
-pub mod SelectStatements
-pub mod SelectIterators
 pub mod Groups
 pub mod Constraints
-pub mod Batches
-pub mod Claimed
 pub mod FalseClaims
-pub mod Rows

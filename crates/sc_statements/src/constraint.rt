@@ -8,8 +8,8 @@ ghost use Rattle.sc_definitions.specs.Lucky.{behind_zeros, excess};
 ghost use Rattle.sc_field.specs.Powers.{base_of, start_of};
 ghost use Rattle.sc_table.specs.Polys.{most_table_variables, variables_of, table_of};
 ghost use Rattle.sc_statements.specs.Groups.{group_arity, group_statements};
-ghost use Rattle.sc_statements.specs.Batches.{gathered, AddsBatch};
-ghost use Rattle.sc_statements.specs.Claimed.{with_values, all_stated_truly};
+ghost use Rattle.sc_claims.specs.Batches.{gathered, AddsBatch};
+ghost use Rattle.sc_claims.specs.Claimed.{with_values, all_stated_truly};
 ghost use Rattle.sc_statements.specs.FalseClaims.{capped};
 
 use crate::statement::Statements;

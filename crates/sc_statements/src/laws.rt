@@ -1,5 +1,5 @@
 //! Laws of weights, as contracts: a caller calls the function and has them.
-ghost use Rattle.sc_statements.specs.Rows.{DigitsAreRows, TablesAtRows, WeightsAtRows, BatchesAtRows};
+ghost use Rattle.sc_claims.specs.Rows.{DigitsAreRows, TablesAtRows, WeightsAtRows, BatchesAtRows};
 
 use sc_field::Field;
 

@@ -1,4 +1,4 @@
-//! The kinds of statements, and groups of one kind.
+//! Groups of statements, each of one kind.
 
 ghost use Rattle.std.specs.Prelude.{◌≡◌, ℕ, ◌+◌, ◌++◌, ◌^◌, ◌↔◌, [], length, map, IsTrue, IsOk, IfOk, OnOk};
 ghost use Rattle.sc_definitions.specs.Ring.{power, ◌+⟨◌⟩◌};
@@ -6,20 +6,13 @@ ghost use Rattle.sc_definitions.specs.Tables.{entries, value};
 ghost use Rattle.sc_definitions.specs.Statements.{first_false_claim, batched_weight, batched_claim};
 ghost use Rattle.sc_definitions.specs.Lucky.{excess};
 ghost use Rattle.sc_table.specs.Polys.{variables_of, table_of};
-ghost use Rattle.sc_statements.specs.Batches.{gathered, AddsBatch};
-ghost use Rattle.sc_statements.specs.Claimed.{with_values, all_stated_truly};
+ghost use Rattle.sc_claims.specs.Batches.{gathered, AddsBatch};
+ghost use Rattle.sc_claims.specs.Claimed.{with_values, all_stated_truly};
 
-mod eq;
-mod next;
-mod select;
-
-use crate::list;
-pub use eq::{EqIter, EqStatement, EqWeights};
-pub use next::{NextStatement, NextWeights};
+use sc_claims::{EqStatement, NextStatement, SelectStatement, list};
 use sc_definitions::FalseClaim;
 use sc_field::{ExtensionField, Field, NoMemory};
 use sc_table::{Point, Poly};
-pub use select::{SelectIter, SelectStatement, SelectWeights};
 use std::alloc::Global;
 
 /// A group of statements of one kind, in order.

@@ -3,8 +3,8 @@
 ghost use Rattle.std.specs.Prelude.{◌≡◌, ◌^◌, ◌↔◌, length, map, IsTrue};
 ghost use Rattle.sc_definitions.specs.Statements.{AllTrueOf, powers_sum};
 ghost use Rattle.sc_table.specs.Polys.{variables_of, table_of};
-ghost use Rattle.sc_statements.specs.EqStatements.{eq_arity, eq_statements};
-ghost use Rattle.sc_statements.specs.Weights.{weight_values};
+ghost use Rattle.sc_claims.specs.EqStatements.{eq_arity, eq_statements};
+ghost use Rattle.sc_claims.specs.Weights.{weight_values};
 
 mod batches;
 mod claimed;

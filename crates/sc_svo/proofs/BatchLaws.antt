@@ -15,14 +15,14 @@ use Rattle.sc_definitions.specs.Combined.{Scaled, combined_weight}
 use Rattle.sc_definitions.proofs.RingLaws.{plus_comm}
 use Rattle.sc_definitions.proofs.Identity.{atom, ◌⊕◌, Agree, identity}
 use Rattle.sc_definitions.proofs.GridLaws.{rows-grid_list, grid_entry-sum, IsGrid, grid_of-is, length-grids_of, grids_of-at, grids_of-is, grids_of-honest}
+use Rattle.sc_partials.specs.declared.sums.Sums.{Sums}
+use Rattle.sc_partials.specs.Sums.{sum_shown, sums_shown, AreSumsSized, AddsWeights}
+use Rattle.sc_partials.specs.Partials.{opened}
+use Rattle.sc_partials.proofs.SumLaws.{numbers-rows}
 use Rattle.sc_svo.specs.declared.grid.Grids.{Grids}
 use Rattle.sc_svo.specs.Grids.{grid_shown, grids_shown, AreSized}
-use Rattle.sc_svo.specs.declared.sums.Sums.{Sums}
 use Rattle.sc_svo.specs.declared.claims.SvoClaim.{SvoClaim}
-use Rattle.sc_svo.specs.Sums.{sum_shown, sums_shown, AreSumsSized, AddsWeights}
-use Rattle.sc_svo.specs.Partials.{opened}
 use Rattle.sc_svo.specs.Claims.{kind_by, scaled_in, scaled_weight, claims_in, true_values_of, AreOn, AddsClaim}
-use Rattle.sc_svo.proofs.SumLaws.{numbers-rows}
 use Rattle.sc_svo.proofs.ClaimLaws.{grid_entry-times}
 
 module _ (o : Ops) (ring : IsRing o) where

@@ -14,8 +14,8 @@ use Rattle.sc_definitions.proofs.PlacedLaws.{placed_entry-bound_by}
 use Rattle.sc_definitions.proofs.PlacedSums.{bound_by-summed_first, bound_by-summed_last, bound_by-sum_element, bound_by-combined_none, element-bound_by}
 use Rattle.sc_table.specs.declared.poly.Poly.{Poly}
 use Rattle.sc_table.specs.Polys.{variables_of, table_of}
+use Rattle.sc_partials.specs.Partials.{joined}
 use Rattle.sc_svo.specs.declared.claims.SvoClaim.{SvoClaim}
-use Rattle.sc_svo.specs.Partials.{joined}
 use Rattle.sc_svo.specs.Claims.{scaled_in, scaled_value, claims_in, AddsRows}
 use Rattle.sc_svo.specs.Bound.{IsBoundTable}
 use Rattle.sc_svo.proofs.BatchLaws.{combined-append, claims-next}

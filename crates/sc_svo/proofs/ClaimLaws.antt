@@ -23,17 +23,17 @@ use Rattle.sc_definitions.proofs.PartLaws.{three, three-same, part-equal, succes
 use Rattle.sc_definitions.proofs.NextPartialLaws.{grid_entry-next}
 use Rattle.sc_table.specs.declared.poly.Poly.{Poly}
 use Rattle.sc_table.specs.Polys.{variables_of, table_of}
-use Rattle.sc_svo.specs.declared.sums.Sums.{Sums}
+use Rattle.sc_partials.specs.declared.sums.Sums.{Sums}
+use Rattle.sc_partials.specs.declared.next_partials.NextPartials.{NextPartials}
+use Rattle.sc_partials.specs.declared.partials.EqSvoPartials.{EqSvoPartials}
+use Rattle.sc_partials.specs.Partials.{joined, Opening, opened, PartialSums, partial_sums_in, partial_sums_of}
+use Rattle.sc_partials.specs.NextPartials.{poly_numbers, parts_in, HasRows, HaveRows, rows_by}
+use Rattle.sc_partials.specs.Sums.{AddsGrid, AddsParts, AddsWeights}
+use Rattle.sc_partials.proofs.PartialTables.{entries-of_numbers, length-numbers}
+use Rattle.sc_partials.proofs.SumLaws.{one-product}
 use Rattle.sc_svo.specs.declared.claims.SvoClaim.{SvoClaim}
-use Rattle.sc_svo.specs.declared.next_partials.NextPartials.{NextPartials}
-use Rattle.sc_svo.specs.declared.partials.EqSvoPartials.{EqSvoPartials}
-use Rattle.sc_svo.specs.Partials.{joined, Opening, opened, PartialSums, partial_sums_in, partial_sums_of}
-use Rattle.sc_svo.specs.NextPartials.{poly_numbers, parts_in, HasRows, HaveRows, rows_by}
-use Rattle.sc_svo.specs.Sums.{AddsGrid, AddsParts, AddsWeights}
 use Rattle.sc_svo.specs.Claims.{kind_by, scaled_in, scaled_weight, scaled_value, AddsClaim, AddsRows}
-use Rattle.sc_svo.proofs.PartialTables.{entries-of_numbers, length-numbers}
 use Rattle.sc_svo.proofs.PointParts.{length-joined}
-use Rattle.sc_svo.proofs.SumLaws.{one-product}
 
 -- ---- the coordinates that are kept
 

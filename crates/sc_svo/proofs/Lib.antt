@@ -1,8 +1,3 @@
-pub mod StagedLaws
-pub mod PartialTables
-pub mod NextTables
-pub mod SumLaws
-pub mod ProductLaws
 pub mod PointParts
 pub mod NextPointLaws
 pub mod ClaimLaws

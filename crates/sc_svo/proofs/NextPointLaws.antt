@@ -20,10 +20,10 @@ use Rattle.sc_definitions.proofs.NextPartialLaws.{summed_behind-same, summed_beh
 use Rattle.sc_definitions.proofs.NextPartialSteps.{done-equal_suffix}
 use Rattle.sc_table.specs.declared.poly.Poly.{Poly}
 use Rattle.sc_table.specs.Polys.{variables_of, table_of}
-use Rattle.sc_svo.specs.Partials.{joined, IsPartial}
-use Rattle.sc_svo.specs.NextPartials.{HasRows}
+use Rattle.sc_partials.specs.Partials.{joined, IsPartial}
+use Rattle.sc_partials.specs.NextPartials.{HasRows}
+use Rattle.sc_partials.proofs.NextTables.{rows-as}
 use Rattle.sc_svo.proofs.PointParts.{length-joined}
-use Rattle.sc_svo.proofs.NextTables.{rows-as}
 
 -- the coordinates of the variables that are bound last are the other part of the point
 behind-joined : (order : Order) (near far : List ℕ) → behind_of order (length near) (joined order near far) ≡ far

@@ -14,7 +14,7 @@ use Rattle.sc_definitions.proofs.BlockLaws.{weight-append, value-product}
 use Rattle.sc_definitions.proofs.SuccessorLaws.{element-weight}
 use Rattle.sc_table.specs.declared.poly.Poly.{Poly}
 use Rattle.sc_table.specs.Polys.{variables_of, table_of}
-use Rattle.sc_svo.specs.Partials.{joined, IsPartial}
+use Rattle.sc_partials.specs.Partials.{joined, IsPartial}
 
 pub length-joined : (order : Order) (near far : List ℕ) → length (joined order near far) ≡ length near + length far
 length-joined prefix near far = length-append near far

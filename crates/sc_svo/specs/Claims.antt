@@ -4,10 +4,10 @@ use Rattle.sc_definitions.specs.Ring.{Ops, ◌+⟨◌⟩◌, ◌*⟨◌⟩◌}
 use Rattle.sc_definitions.specs.Tables.{Order, prefix, entries, value}
 use Rattle.sc_definitions.specs.Statements.{Kind, equality, successor, weight_of, true_value}
 use Rattle.sc_definitions.specs.Combined.{Scaled}
+use Rattle.sc_partials.specs.declared.sums.Sums.{Sums}
+use Rattle.sc_partials.specs.Partials.{opened}
+use Rattle.sc_partials.specs.Sums.{AddsWeights}
 use Rattle.sc_svo.specs.declared.claims.SvoClaim.{SvoClaim}
-use Rattle.sc_svo.specs.declared.sums.Sums.{Sums}
-use Rattle.sc_svo.specs.Partials.{opened}
-use Rattle.sc_svo.specs.Sums.{AddsWeights}
 
 -- what a claim is on: the value at a point, or the one through the successor map there
 abbrev pub kind_by : Bool → List ℕ → Kind

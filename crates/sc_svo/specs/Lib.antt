@@ -1,10 +1,5 @@
-pub mod Staged
-pub mod Partials
-pub mod NextPartials
 pub mod Points
 pub mod Grids
-pub mod Sums
-pub mod Products
 pub mod Claims
 pub mod Bound
 pub mod Batches

@@ -6,8 +6,8 @@ use Rattle.sc_field.specs.declared.field.Field.{Ghosts as FieldOf}
 use Rattle.sc_field.specs.declared.algebra.Algebra.{Ghosts as AlgebraOf}
 use Rattle.sc_field.specs.declared.algebra.ExtensionField.{Ghosts as ExtensionOf}
 use Rattle.sc_table.specs.Strategy.{order_of}
+use Rattle.sc_partials.specs.Partials.{joined}
 use Rattle.sc_svo.specs.declared.point.SvoPoint.{SvoPoint}
-use Rattle.sc_svo.specs.Partials.{joined}
 
 module _ {F EF : Type 0} {f : FieldOf F} {p : PartialEqOf F} {x : ExtensionOf EF F} {a : AlgebraOf EF F} {e : FieldOf EF} {q : PartialEqOf EF} where
   -- in which order the variables are bound

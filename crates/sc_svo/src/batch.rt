@@ -5,15 +5,15 @@ ghost use Rattle.sc_definitions.specs.Tables.{entries, point_of};
 ghost use Rattle.sc_definitions.specs.Grids.{grids_of, read_message};
 ghost use Rattle.sc_definitions.specs.Combined.{combined_weight};
 ghost use Rattle.sc_table.specs.Strategy.{order_of};
+ghost use Rattle.sc_partials.specs.Sums.{sums_shown};
 ghost use Rattle.sc_svo.specs.Claims.{AreOn, FitsTable, claims_in, true_values_of};
 ghost use Rattle.sc_svo.specs.Grids.{AreSized, most_rounds, grids_shown};
-ghost use Rattle.sc_svo.specs.Sums.{sums_shown};
 ghost use Rattle.sc_svo.specs.Bound.{IsBoundTable};
 
 use crate::claims::{SvoClaim, add_bound, add_claim};
-use crate::grid::Grids;
-use crate::sums::{Sums, empty_sums, into_grids};
+use crate::grid::{Grids, into_grids};
 use sc_field::{ExtensionField, Field, NoMemory, with_room};
+use sc_partials::{Sums, empty_sums};
 use sc_table::{
     Point, Poly, RoundMessage, SplitEq, VariableOrder, dot_slices, lagrange_weights_01inf_multi,
 };

@@ -9,17 +9,17 @@ ghost use Rattle.sc_definitions.specs.Parts.{Equal, part_weight, beside};
 ghost use Rattle.sc_definitions.specs.Partials.{kept_of as coordinates_of};
 ghost use Rattle.sc_table.specs.Polys.{variables_of};
 ghost use Rattle.sc_table.specs.Strategy.{order_of};
+ghost use Rattle.sc_partials.specs.Partials.{joined, opened};
+ghost use Rattle.sc_partials.specs.NextPartials.{HasRows, AreOf, HaveRows, rows_by};
+ghost use Rattle.sc_partials.specs.Sums.{IsSumSized, AreSumsSized};
+ghost use Rattle.sc_partials.specs.Sums.{AddsGrid, AddsParts, AddsWeights};
 ghost use Rattle.sc_svo.specs.Points.{point_in, near_in, order_in};
-ghost use Rattle.sc_svo.specs.Partials.{joined, opened};
-ghost use Rattle.sc_svo.specs.NextPartials.{HasRows, AreOf, HaveRows, rows_by};
 ghost use Rattle.sc_svo.specs.Grids.{most_rounds};
-ghost use Rattle.sc_svo.specs.Sums.{IsSumSized, AreSumsSized, AddsGrid, AddsParts, AddsWeights};
 ghost use Rattle.sc_svo.specs.Claims.{kind_by, scaled_in, scaled_value, AddsClaim, AddsRows};
 
-use crate::next_partials::NextPartials;
 use crate::point::SvoPoint;
-use crate::sums::{Sums, add_products};
 use sc_field::{ExtensionField, Field, NoMemory};
+use sc_partials::{NextPartials, Sums, add_products};
 use sc_table::{Point, Poly, VariableOrder};
 use std::alloc::Global;
 

@@ -9,17 +9,11 @@
 mod batch;
 mod claims;
 mod grid;
-mod next_partials;
 mod next_point;
-mod partials;
 mod point;
-mod products;
-mod staged;
-mod sums;
 
 pub use batch::{MOST_ROUNDS, SvoBatch};
 pub use claims::SvoClaim;
 pub use grid::{Grid, Grids};
-pub use next_partials::{NextPartials, NextSvoPartials};
-pub use partials::{EqPartials, EqSvoPartials};
 pub use point::SvoPoint;
+pub use sc_partials::{EqPartials, EqSvoPartials, NextPartials, NextSvoPartials};

@@ -6,19 +6,19 @@ ghost use Rattle.sc_definitions.specs.Tables.{prefix, suffix, entries, value, di
 ghost use Rattle.sc_definitions.specs.Shifts.{only_at};
 ghost use Rattle.sc_definitions.specs.Statements.{successor_weight};
 ghost use Rattle.sc_table.specs.Polys.{variables_of, table_of};
-ghost use Rattle.sc_svo.specs.Partials.{joined};
-ghost use Rattle.sc_svo.specs.NextPartials.{HasRows, AreOf};
+ghost use Rattle.sc_partials.specs.Partials.{joined};
+ghost use Rattle.sc_partials.specs.NextPartials.{HasRows, AreOf};
 
-use crate::next_partials::{NextPartials, NextSvoPartials, push_next_partials};
 use crate::point::SvoPoint;
 use sc_field::{ExtensionField, Field, NoMemory, with_room};
+use sc_partials::{NextPartials, NextSvoPartials, push_next_partials};
 use sc_table::{Point, Poly, VariableOrder};
 use std::alloc::Global;
 
 impl<F: Field, EF: ExtensionField<F>> SvoPoint<F, EF> {
+    ghost use Rattle.sc_partials.specs.Partials.{IsPartial};
+    ghost use Rattle.sc_partials.specs.NextPartials.{AreNextPartials, next_sums_in, next_sums_of};
     ghost use Rattle.sc_svo.specs.Points.{point_in, near_in, far_in, order_in};
-    ghost use Rattle.sc_svo.specs.Partials.{IsPartial};
-    ghost use Rattle.sc_svo.specs.NextPartials.{AreNextPartials, next_sums_in, next_sums_of};
 
     /// In prefix order, the value of a table through the successor map at the point, and its three
     /// tables for each small-value round. The table has as many variables as the point.

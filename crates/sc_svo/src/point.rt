@@ -6,10 +6,10 @@ ghost use Rattle.sc_definitions.specs.Tables.{entries, weight, value, digits};
 ghost use Rattle.sc_table.specs.Polys.{variables_of, table_of};
 ghost use Rattle.sc_table.specs.Strategy.{order_of};
 ghost use Rattle.sc_table.specs.SplitEqs.{split_variables, split_weight};
-ghost use Rattle.sc_svo.specs.Partials.{joined};
+ghost use Rattle.sc_partials.specs.Partials.{joined};
 
-use crate::partials::{EqSvoPartials, push_partials};
 use sc_field::{ExtensionField, Field, NoMemory, with_room};
+use sc_partials::{EqSvoPartials, push_partials};
 use sc_table::{Point, Poly, SplitEq, VariableOrder};
 use std::alloc::Global;
 
@@ -29,8 +29,8 @@ pub struct SvoPoint<F: Field, EF: ExtensionField<F>> {
 }
 
 impl<F: Field, EF: ExtensionField<F>> SvoPoint<F, EF> {
+    ghost use Rattle.sc_partials.specs.Partials.{IsPartial, partial_sums_in, partial_sums_of};
     ghost use Rattle.sc_svo.specs.Points.{point_in, near_in, far_in, order_in};
-    ghost use Rattle.sc_svo.specs.Partials.{IsPartial, partial_sums_in, partial_sums_of};
 
     /// The point, with as many coordinates for the small-value rounds as `l0` says, at most all of
     /// them, which are at most 40; `NoMemory` where there is none for a copy and for the weights.

@@ -1,5 +1,5 @@
 -- The members of a job that stand behind its table.
-use Rattle.std.specs.Prelude.{ℕ, ◌<◌, ◌≤◌, All, Result, Ok, Err}
+use Rattle.std.specs.Prelude.{◌<◌, ◌≤◌, All, Result, Ok}
 use Rattle.serde_json.specs.Data.{Data}
 use Rattle.sc_forms.specs.Forms.{at_most_form}
 use Rattle.sumcheck_jobs.specs.Members.{needed, unless_misfit}

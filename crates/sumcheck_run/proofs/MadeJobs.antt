@@ -18,10 +18,10 @@ use Rattle.sc_table.specs.declared.strategy.Strategy.{Strategy}
 use Rattle.sc_table.specs.declared.strategy.Strategy.TheVariants.{Plain, Represented, SmallValue}
 use Rattle.sc_statements.specs.declared.statement.Statements.{Statements}
 use Rattle.sc_statements.specs.declared.statement.Statements.TheVariants.{Eq, Next}
-use Rattle.sc_statements.specs.declared.statement.eq.EqStatement.{EqStatement}
-use Rattle.sc_statements.specs.declared.statement.next.NextStatement.{NextStatement}
-use Rattle.sc_statements.specs.EqStatements.{eq_statements}
-use Rattle.sc_statements.specs.NextStatements.{next_statements}
+use Rattle.sc_claims.specs.declared.statement.eq.EqStatement.{EqStatement}
+use Rattle.sc_claims.specs.declared.statement.next.NextStatement.{NextStatement}
+use Rattle.sc_claims.specs.EqStatements.{eq_statements}
+use Rattle.sc_claims.specs.NextStatements.{next_statements}
 use Rattle.sc_statements.specs.Groups.{all_statements}
 use Rattle.sc_statements.specs.FalseClaims.{capped}
 use Rattle.sc_svo.specs.Grids.{most_rounds}

@@ -1,10 +1,10 @@
 //! The statements that the claims of a job make.
 ghost use Rattle.std.specs.Prelude.{◌≡◌, All, IfOk, map};
 ghost use Rattle.sc_statements.specs.Constraints.{constraint_arity, constraint_challenge, constraint_power, constraint_statements};
-ghost use Rattle.sc_statements.specs.EqStatements.{eq_arity, eq_statements};
+ghost use Rattle.sc_claims.specs.EqStatements.{eq_arity, eq_statements};
 ghost use Rattle.sc_statements.specs.Groups.{group_arity, group_statements};
-ghost use Rattle.sc_statements.specs.NextStatements.{next_arity, next_statements};
-ghost use Rattle.sc_statements.specs.SelectStatements.{select_arity, select_statements};
+ghost use Rattle.sc_claims.specs.NextStatements.{next_arity, next_statements};
+ghost use Rattle.sc_claims.specs.SelectStatements.{select_arity, select_statements};
 ghost use Rattle.sumcheck_jobs.specs.Statements.{EqualityFits, GroupFits, ProductFits, ScalarFits, SuccessorFits, all_claims, equality_statement, group_claims, product_statement, scalar_statement, successor_statement};
 
 use sc_field::{ExtensionField, Field, NoMemory};

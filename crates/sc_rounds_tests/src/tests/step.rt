@@ -1,6 +1,6 @@
 //! Provers with their verifiers, by figures by hand and from a script that is no part of this.
 ghost use Rattle.std.specs.Prelude.{◌≡◌, IfOk, IsTrue, length};
-ghost use Rattle.sc_statements.specs.EqStatements.{eq_arity};
+ghost use Rattle.sc_claims.specs.EqStatements.{eq_arity};
 ghost use Rattle.sc_statements.specs.Constraints.{constraint_arity};
 ghost use Rattle.sc_rounds.specs.ProverViews.{shown_by, IsNoneOrTrueOf};
 

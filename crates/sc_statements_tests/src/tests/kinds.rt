@@ -1,8 +1,8 @@
 //! Successor and selecting statements, and batches of all kinds: figures by hand over the integers modulo 65537.
 
 ghost use Rattle.std.specs.Prelude.{◌≡◌, ◌≤◌, [], All};
-ghost use Rattle.sc_statements.specs.NextStatements.{next_arity};
-ghost use Rattle.sc_statements.specs.SelectStatements.{select_arity, points_of};
+ghost use Rattle.sc_claims.specs.NextStatements.{next_arity};
+ghost use Rattle.sc_claims.specs.SelectStatements.{select_arity, points_of};
 ghost use Rattle.sc_statements.specs.Groups.{group_arity};
 ghost use Rattle.sc_statements.specs.Constraints.{constraint_arity};
 ghost use Rattle.sc_table.specs.Polys.{variables_of};

@@ -7,8 +7,8 @@
 ghost use Rattle.std.specs.Prelude.{◌≡◌, ◌≤◌, length, IfOk};
 ghost use Rattle.sc_definitions.specs.Tables.{suffix};
 ghost use Rattle.sc_table.specs.Polys.{variables_of, table_of};
+ghost use Rattle.sc_partials.specs.Partials.{IsPartial};
 ghost use Rattle.sc_svo.specs.Points.{point_in, near_in, order_in};
-ghost use Rattle.sc_svo.specs.Partials.{IsPartial};
 
 use super::{are_grids, claim, four, point_in_parts};
 use VariableOrder::{Prefix, Suffix};

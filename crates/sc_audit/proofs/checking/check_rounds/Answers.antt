@@ -5,7 +5,7 @@ use Rattle.sc_definitions.specs.Rounds.{next_claim}
 use Rattle.sc_definitions.specs.Replays.{given_rounds}
 use Rattle.sc_definitions.specs.Channels.{footing, IsReplayed}
 use Rattle.sc_definitions.specs.Problem.{claim_of}
-use Rattle.sc_statements.proofs.BatchSteps.{claim-alone}
+use Rattle.sc_claims.proofs.BatchSteps.{claim-alone}
 use Rattle.sc_transcript.specs.Data.{witness_count}
 use Rattle.sc_audit.specs.Cases.{asked_of, with_task, check, problem_in, given_in}
 use Rattle.sc_audit.proofs.CauseLaws.{unrefused, caused_err, refused_err}

@@ -1,5 +1,5 @@
 use Rattle.std.proofs.Common.{◌≡◌, ◌+◌, ◌<◌, suc, true, false, length, drop, sym, ◌∙◌, ap, arith}
-use Rattle.sc_statements.specs.NextStatements.{next_statements}
+use Rattle.sc_claims.specs.NextStatements.{next_statements}
 use Rattle.sc_verdicts.specs.declared.error.AuditError.TheVariants.{StrategyUnfit}
 use Rattle.sc_verdicts.specs.declared.error.FitFault.TheVariants.{Selector}
 use Rattle.std.proofs.Common.{Some}

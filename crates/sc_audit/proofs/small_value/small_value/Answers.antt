@@ -4,7 +4,7 @@ use Rattle.sc_definitions.specs.Channels.{Wire}
 use Rattle.sc_definitions.specs.Problem.{claim_of}
 use Rattle.sc_definitions.proofs.LoopLaws.{entry-read}
 use Rattle.sc_table.specs.declared.strategy.Strategy.TheVariants.{SmallValue}
-use Rattle.sc_statements.proofs.BatchSteps.{claim-alone}
+use Rattle.sc_claims.proofs.BatchSteps.{claim-alone}
 use Rattle.sc_transcript.specs.Data.{wire_in}
 use Rattle.sc_rounds.specs.Products.{variables_in}
 use Rattle.sc_rounds.specs.Standings.{standing_in}

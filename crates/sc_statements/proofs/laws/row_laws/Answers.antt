@@ -1,4 +1,4 @@
-use Rattle.sc_statements.proofs.RowLaws.{digits-are_rows, value-row, weight-row, batch-row}
+use Rattle.sc_claims.proofs.RowLaws.{digits-are_rows, value-row, weight-row, batch-row}
 use Rattle.sc_statements.proofs.laws.row_laws.Goals as goal
 
 pub returns-clause-digits : goal.returns-clause-digits

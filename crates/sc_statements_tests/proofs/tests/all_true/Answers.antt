@@ -7,9 +7,9 @@ use Rattle.sc_definitions.specs.Tables.{value}
 use Rattle.sc_definitions.specs.Statements.{Statement, equality, arity_of, true_value, IsTrueOf, AllTrueOf}
 use Rattle.sc_definitions.proofs.StatementLaws.{true_value-equality}
 use Rattle.sc_table.specs.Polys.{table_of}
-use Rattle.sc_statements.specs.EqIterators.{pair_statement, pairs_left}
-use Rattle.sc_statements.specs.EqStatements.{eq_statements}
-use Rattle.sc_statements.proofs.FalseSteps.{other_from_ne, same_from_ne}
+use Rattle.sc_claims.specs.EqIterators.{pair_statement, pairs_left}
+use Rattle.sc_claims.specs.EqStatements.{eq_statements}
+use Rattle.sc_claims.proofs.FalseSteps.{other_from_ne, same_from_ne}
 use Rattle.sc_statements_tests.proofs.tests.all_true.Goals as goal
 
 -- the true value of an equality statement, by the table's value at its point

@@ -1,8 +1,8 @@
 use Rattle.std.proofs.Common.{map}
 use Rattle.sc_definitions.specs.Statements.{AllTrueOf}
 use Rattle.sc_table.specs.Polys.{table_of}
-use Rattle.sc_statements.specs.EqIterators.{pair_statement}
-use Rattle.sc_statements.specs.EqStatements.{eq_arity}
+use Rattle.sc_claims.specs.EqIterators.{pair_statement}
+use Rattle.sc_claims.specs.EqStatements.{eq_arity}
 use Rattle.sc_statements_tests.proofs.tests.all_true.Given as goal
 
 abbrev pub invariant-loop-point : goal.invariant-loop-point

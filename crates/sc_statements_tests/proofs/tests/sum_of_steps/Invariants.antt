@@ -1,6 +1,6 @@
 use Rattle.std.proofs.Common.{◌≡◌}
 use Rattle.sc_table.specs.Polys.{variables_of}
-use Rattle.sc_statements.specs.EqStatements.{eq_arity}
+use Rattle.sc_claims.specs.EqStatements.{eq_arity}
 use Rattle.sc_statements_tests.proofs.tests.sum_of_steps.Given as goal
 
 abbrev pub invariant-loop-step : goal.invariant-loop-step

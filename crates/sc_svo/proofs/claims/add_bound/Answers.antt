@@ -3,8 +3,8 @@ use Rattle.std.proofs.lemmas.List.{length-map}
 use Rattle.sc_definitions.specs.Tables.{Order, prefix, suffix, weight, digits}
 use Rattle.sc_definitions.specs.Statements.{successor_weight}
 use Rattle.sc_table.specs.Strategy.{order_of}
+use Rattle.sc_partials.specs.Partials.{joined}
 use Rattle.sc_svo.specs.Points.{order_in, near_in, far_in, point_in}
-use Rattle.sc_svo.specs.Partials.{joined}
 use Rattle.sc_svo.specs.Claims.{scaled_in, scaled_value, AddsRows}
 use Rattle.sc_svo.proofs.PointParts.{length-joined}
 use Rattle.sc_svo.proofs.ClaimLaws.{kind-equality, kind-successor, bound-added}

@@ -3,10 +3,10 @@ use Rattle.sc_definitions.specs.Ring.{times}
 use Rattle.sc_definitions.specs.Tables.{entries, weight}
 use Rattle.sc_definitions.specs.Partials.{partial}
 use Rattle.sc_table.specs.Strategy.{order_of}
+use Rattle.sc_partials.specs.Partials.{opened}
+use Rattle.sc_partials.specs.Sums.{IsSumSized}
+use Rattle.sc_partials.proofs.PartialTables.{count-rounds, round-table, entries-of_numbers, length-numbers}
 use Rattle.sc_svo.specs.Points.{order_in, near_in, far_in, point_in}
-use Rattle.sc_svo.specs.Partials.{opened}
-use Rattle.sc_svo.specs.Sums.{IsSumSized}
-use Rattle.sc_svo.proofs.PartialTables.{count-rounds, round-table, entries-of_numbers, length-numbers}
 use Rattle.sc_svo.proofs.ClaimLaws.{round-gained, sums-value, added-none, added-more, added-all}
 use Rattle.sc_svo.proofs.claims.add_equality.Goals as goal
 

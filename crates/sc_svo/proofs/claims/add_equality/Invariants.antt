@@ -1,7 +1,7 @@
 use Rattle.sc_definitions.specs.Ring.{times}
 use Rattle.sc_definitions.specs.Tables.{entries, weight}
+use Rattle.sc_partials.specs.Partials.{opened}
 use Rattle.sc_svo.specs.Points.{order_in, point_in}
-use Rattle.sc_svo.specs.Partials.{opened}
 use Rattle.sc_svo.proofs.ClaimLaws.{HasAdded}
 use Rattle.sc_svo.proofs.claims.add_equality.Given as goal
 

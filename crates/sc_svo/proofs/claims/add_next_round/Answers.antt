@@ -5,7 +5,7 @@ use Rattle.sc_definitions.specs.Grids.{grid_of}
 use Rattle.sc_definitions.specs.Parts.{Part, Done, Carry, Omega, part_weight, beside}
 use Rattle.sc_definitions.specs.Partials.{kept_of}
 use Rattle.sc_table.specs.Strategy.{order_of}
-use Rattle.sc_svo.specs.NextPartials.{rows_by}
+use Rattle.sc_partials.specs.NextPartials.{rows_by}
 use Rattle.sc_svo.proofs.ClaimLaws.{poly-length, beside-has, part-added, parts-added}
 use Rattle.sc_svo.proofs.claims.add_next_round.Goals as goal
 

@@ -4,10 +4,10 @@ use Rattle.sc_definitions.specs.Tables.{entries}
 use Rattle.sc_definitions.specs.Statements.{successor_weight}
 use Rattle.sc_definitions.specs.Parts.{Part, next_partial}
 use Rattle.sc_table.specs.Strategy.{order_of}
+use Rattle.sc_partials.specs.Partials.{opened}
+use Rattle.sc_partials.specs.Sums.{IsSumSized}
+use Rattle.sc_partials.proofs.NextTables.{have-of, next-value, count-next_rounds, next-round_tables}
 use Rattle.sc_svo.specs.Points.{order_in, near_in, far_in, point_in}
-use Rattle.sc_svo.specs.Partials.{opened}
-use Rattle.sc_svo.specs.Sums.{IsSumSized}
-use Rattle.sc_svo.proofs.NextTables.{have-of, next-value, count-next_rounds, next-round_tables}
 use Rattle.sc_svo.proofs.ClaimLaws.{parts-have, next-gained, added-none, added-more, added-all}
 use Rattle.sc_svo.proofs.claims.add_successor.Goals as goal
 

@@ -3,7 +3,7 @@ use Rattle.sc_definitions.specs.Ring.{times}
 use Rattle.sc_definitions.specs.Parts.{part_weight, beside}
 use Rattle.sc_table.specs.declared.strategy.VariableOrder.{VariableOrder}
 use Rattle.sc_table.specs.Strategy.{order_of}
-use Rattle.sc_svo.specs.NextPartials.{HaveRows}
+use Rattle.sc_partials.specs.NextPartials.{HaveRows}
 use Rattle.sc_svo.proofs.claims.beside.Goals as goal
 
 pub returns-in-Prefix : goal.returns-in-Prefix

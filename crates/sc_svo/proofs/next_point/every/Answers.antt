@@ -2,7 +2,7 @@ use Rattle.std.proofs.Common.{ℕ, ◌+◌, ◌*◌, ◌<◌, length, ◌∙◌,
 use Rattle.sc_definitions.specs.Ring.{times}
 use Rattle.sc_table.proofs.EntryLaws.{entry-read, entry-embedded}
 use Rattle.sc_table.proofs.SliceLaws.{pushed-none, pushed-more}
-use Rattle.sc_svo.proofs.NextTables.{pushed-has}
+use Rattle.sc_partials.proofs.NextTables.{pushed-has}
 use Rattle.sc_svo.proofs.next_point.every.Goals as goal
 
 pub loop-a-init : goal.loop-a-init

@@ -1,7 +1,7 @@
 use Rattle.std.proofs.Common.{◌≡◌, All, ap, sym, subst, ◌∙◌}
 use Rattle.sc_definitions.specs.Tables.{entries}
 use Rattle.sc_statements.specs.Groups.{group_arity, group_statements}
-use Rattle.sc_statements.proofs.ExcessLaws.{batch-none, batch-more}
+use Rattle.sc_statements.proofs.ExcessGroups.{batch-none, batch-more}
 use Rattle.sc_statements.proofs.constraint.Constraint.batch_polynomial.Goals as goal
 
 pub loop-group-init : goal.loop-group-init

@@ -1,7 +1,7 @@
 use Rattle.std.proofs.Common.{take}
 use Rattle.sc_definitions.specs.Tables.{entries}
 use Rattle.sc_statements.specs.Groups.{group_arity, group_statements, all_statements}
-use Rattle.sc_statements.specs.Claimed.{all_stated_truly}
+use Rattle.sc_claims.specs.Claimed.{all_stated_truly}
 use Rattle.sc_statements.proofs.ClaimGroups.{IsUnderWay}
 use Rattle.sc_statements.proofs.constraint.Constraint.claim_truth.Given as goal
 

@@ -1,7 +1,7 @@
 use Rattle.std.proofs.Common.{refl, sym, subst, ◌∙◌}
 use Rattle.std.proofs.lemmas.List.{take_all}
 use Rattle.sc_statements.specs.Groups.{group_arity, group_statements, all_statements}
-use Rattle.sc_statements.specs.Batches.{gathered, AddsBatch}
+use Rattle.sc_claims.specs.Batches.{gathered, AddsBatch}
 use Rattle.sc_table.specs.Polys.{table_of}
 use Rattle.sc_table.proofs.EntryLaws.{entry-below}
 use Rattle.sc_statements.proofs.GroupSteps.{arity-of, IsCombined-none, IsCombined-more}

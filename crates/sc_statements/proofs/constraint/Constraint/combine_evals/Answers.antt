@@ -3,7 +3,7 @@ use Rattle.std.proofs.lemmas.List.{take_all}
 use Rattle.sc_definitions.specs.Ring.{plus}
 use Rattle.sc_definitions.specs.Statements.{batched_claim}
 use Rattle.sc_statements.specs.Groups.{group_statements, all_statements}
-use Rattle.sc_statements.proofs.BatchSteps.{IsSummed-none}
+use Rattle.sc_claims.proofs.BatchSteps.{IsSummed-none}
 use Rattle.sc_statements.proofs.GroupSteps.{sum-group}
 use Rattle.sc_statements.proofs.constraint.Constraint.combine_evals.Goals as goal
 

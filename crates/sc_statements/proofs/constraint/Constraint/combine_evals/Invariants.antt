@@ -1,6 +1,6 @@
 use Rattle.std.proofs.Common.{take}
 use Rattle.sc_statements.specs.Groups.{all_statements}
-use Rattle.sc_statements.proofs.BatchSteps.{IsSummed}
+use Rattle.sc_claims.proofs.BatchSteps.{IsSummed}
 use Rattle.sc_statements.proofs.constraint.Constraint.combine_evals.Given as goal
 
 abbrev pub invariant-loop-group : goal.invariant-loop-group

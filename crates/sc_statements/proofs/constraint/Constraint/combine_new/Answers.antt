@@ -1,7 +1,7 @@
 use Rattle.std.proofs.Common.{◌∙◌, ap}
 use Rattle.std.proofs.lemmas.Result.{IfOk-from_err}
 use Rattle.sc_table.specs.Polys.{table_of}
-use Rattle.sc_statements.proofs.BatchSteps.{WritesBatch-cleared, claim-alone}
+use Rattle.sc_claims.proofs.BatchSteps.{WritesBatch-cleared, claim-alone}
 use Rattle.sc_statements.proofs.constraint.Constraint.combine_new.Goals as goal
 
 pub returns-clause-weights : goal.returns-clause-weights

@@ -1,7 +1,7 @@
 use Rattle.std.proofs.Common.{refl, ap, ◌∙◌, arith}
 use Rattle.sc_statements.specs.Groups.{group_statements}
-use Rattle.sc_statements.proofs.BatchSteps.{IsSummed-none}
-use Rattle.sc_statements.proofs.BatchValues.{value-group, value-groups}
+use Rattle.sc_claims.proofs.BatchSteps.{IsSummed-none}
+use Rattle.sc_statements.proofs.GroupValues.{value-group, value-groups}
 use Rattle.sc_statements.proofs.constraint.Constraint.eval_at.Goals as goal
 
 pub loop-group-init : goal.loop-group-init

@@ -1,8 +1,8 @@
 use Rattle.std.proofs.Common.{map, take}
 use Rattle.std.specs.List.{flat_map}
 use Rattle.sc_statements.specs.Groups.{group_statements}
-use Rattle.sc_statements.proofs.BatchSteps.{IsSummed}
-use Rattle.sc_statements.proofs.BatchValues.{valued}
+use Rattle.sc_claims.proofs.BatchSteps.{IsSummed}
+use Rattle.sc_claims.proofs.BatchValues.{valued}
 use Rattle.sc_statements.proofs.constraint.Constraint.eval_at.Given as goal
 
 abbrev pub invariant-loop-group : goal.invariant-loop-group

@@ -1,5 +1,5 @@
 use Rattle.std.proofs.Common.{◌≡◌}
-use Rattle.sc_statements.specs.NextStatements.{next_arity}
+use Rattle.sc_claims.specs.NextStatements.{next_arity}
 use Rattle.sc_statements_tests.proofs.tests.kinds.successors.Given as goal
 
 abbrev pub invariant-loop-value : goal.invariant-loop-value

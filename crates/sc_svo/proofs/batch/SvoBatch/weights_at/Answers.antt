@@ -4,8 +4,8 @@ use Rattle.sc_definitions.specs.Tables.{digits}
 use Rattle.sc_definitions.proofs.Lengths.{pow-same}
 use Rattle.sc_definitions.proofs.PlacedSums.{length-point_of}
 use Rattle.sc_table.specs.Strategy.{order_of}
+use Rattle.sc_partials.specs.Partials.{joined}
 use Rattle.sc_svo.specs.Grids.{grid_shown}
-use Rattle.sc_svo.specs.Partials.{joined}
 use Rattle.sc_svo.specs.Claims.{scaled_in, scaled_value, AddsRows}
 use Rattle.sc_svo.proofs.BatchLaws.{read_on}
 use Rattle.sc_svo.proofs.BoundLaws.{AreBound, bound-none, bound-more, bound-all}

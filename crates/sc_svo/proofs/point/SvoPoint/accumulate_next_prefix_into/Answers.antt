@@ -8,8 +8,8 @@ use Rattle.sc_definitions.specs.Statements.{successor_weight}
 use Rattle.sc_definitions.specs.Parts.{Equal, Done, Omega, part_at}
 use Rattle.sc_definitions.proofs.PartLaws.{equal-at}
 use Rattle.sc_table.specs.SplitEqs.{split_variables, split_weight}
+use Rattle.sc_partials.specs.Partials.{joined}
 use Rattle.sc_svo.specs.Points.{near_in, far_in}
-use Rattle.sc_svo.specs.Partials.{joined}
 use Rattle.sc_svo.proofs.NextPointLaws.{only-carried, only-last, moved-done, gained-prefix}
 use Rattle.sc_svo.proofs.point.SvoPoint.accumulate_next_prefix_into.Goals as goal
 

@@ -7,8 +7,8 @@ use Rattle.sc_definitions.specs.Shifts.{shifted, only_at}
 use Rattle.sc_definitions.specs.Statements.{successor_weight}
 use Rattle.sc_definitions.specs.Parts.{Carry, Done, Omega, part_at}
 use Rattle.sc_table.specs.SplitEqs.{split_variables, split_weight}
+use Rattle.sc_partials.specs.Partials.{joined}
 use Rattle.sc_svo.specs.Points.{near_in, far_in}
-use Rattle.sc_svo.specs.Partials.{joined}
 use Rattle.sc_svo.proofs.NextPointLaws.{own-done, only-last, moved-done, gained-suffix}
 use Rattle.sc_svo.proofs.point.SvoPoint.accumulate_next_suffix_into.Goals as goal
 

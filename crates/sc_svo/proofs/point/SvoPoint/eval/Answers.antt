@@ -4,8 +4,8 @@ use Rattle.std.proofs.lemmas.Result.{IfOk-weaker}
 use Rattle.sc_definitions.specs.Tables.{entries}
 use Rattle.sc_table.specs.Polys.{table_of}
 use Rattle.sc_table.proofs.EntryLaws.{entry-embedded}
+use Rattle.sc_partials.specs.Partials.{partial_sums_of}
 use Rattle.sc_svo.specs.Points.{order_in, near_in, point_in}
-use Rattle.sc_svo.specs.Partials.{partial_sums_of}
 use Rattle.sc_svo.proofs.point.SvoPoint.eval.Goals as goal
 
 pub returns : goal.returns

@@ -4,9 +4,9 @@ use Rattle.std.proofs.lemmas.Result.{IfOk-weaker}
 use Rattle.sc_definitions.specs.Tables.{prefix, entries}
 use Rattle.sc_table.specs.Polys.{table_of}
 use Rattle.sc_table.proofs.EntryLaws.{entry-embedded}
+use Rattle.sc_partials.specs.NextPartials.{next_sums_of, AreNextPartials}
+use Rattle.sc_partials.proofs.NextTables.{have-of}
 use Rattle.sc_svo.specs.Points.{near_in, point_in}
-use Rattle.sc_svo.specs.NextPartials.{next_sums_of, AreNextPartials}
-use Rattle.sc_svo.proofs.NextTables.{have-of}
 use Rattle.sc_svo.proofs.point.SvoPoint.eval_next_prefix.Goals as goal
 
 pub summed-requires : goal.summed-requires

@@ -1,10 +1,10 @@
 use Rattle.std.proofs.Common.{length, ap, sym, subst}
 use Rattle.sc_definitions.specs.Tables.{entries}
 use Rattle.sc_table.specs.Strategy.{order_of}
+use Rattle.sc_partials.specs.Partials.{IsPartial}
+use Rattle.sc_partials.specs.NextPartials.{AreNextPartials}
+use Rattle.sc_partials.proofs.NextTables.{have-of}
 use Rattle.sc_svo.specs.Points.{near_in, point_in}
-use Rattle.sc_svo.specs.Partials.{IsPartial}
-use Rattle.sc_svo.specs.NextPartials.{AreNextPartials}
-use Rattle.sc_svo.proofs.NextTables.{have-of}
 use Rattle.sc_svo.proofs.point.SvoPoint.eval_next_slice.Goals as goal
 
 pub summed-requires-in-Suffix : goal.summed-requires-in-Suffix

@@ -4,10 +4,10 @@ use Rattle.std.proofs.lemmas.Result.{IfOk-weaker}
 use Rattle.sc_definitions.specs.Tables.{suffix, entries}
 use Rattle.sc_table.specs.Polys.{table_of}
 use Rattle.sc_table.proofs.EntryLaws.{entry-embedded}
+use Rattle.sc_partials.specs.Partials.{IsPartial}
+use Rattle.sc_partials.specs.NextPartials.{next_sums_of, AreNextPartials}
+use Rattle.sc_partials.proofs.NextTables.{have-of}
 use Rattle.sc_svo.specs.Points.{order_in, near_in, point_in}
-use Rattle.sc_svo.specs.Partials.{IsPartial}
-use Rattle.sc_svo.specs.NextPartials.{next_sums_of, AreNextPartials}
-use Rattle.sc_svo.proofs.NextTables.{have-of}
 use Rattle.sc_svo.proofs.NextPointLaws.{given-as}
 use Rattle.sc_svo.proofs.point.SvoPoint.eval_next_suffix.Goals as goal
 

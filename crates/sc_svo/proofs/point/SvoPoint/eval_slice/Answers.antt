@@ -1,9 +1,9 @@
 use Rattle.std.proofs.Common.{◌≡◌, length, map, refl, ◌∙◌, ap, sym, subst}
 use Rattle.std.proofs.lemmas.List.{length-map}
 use Rattle.sc_definitions.specs.Tables.{entries}
+use Rattle.sc_partials.specs.Partials.{IsPartial}
+use Rattle.sc_partials.proofs.PartialTables.{sums-are}
 use Rattle.sc_svo.specs.Points.{order_in, near_in, point_in}
-use Rattle.sc_svo.specs.Partials.{IsPartial}
-use Rattle.sc_svo.proofs.PartialTables.{sums-are}
 use Rattle.sc_svo.proofs.point.SvoPoint.eval_slice.Goals as goal
 
 pub returns : goal.returns

@@ -1,7 +1,7 @@
 use Rattle.std.proofs.Common.{IfSome, subst}
 use Rattle.sc_definitions.specs.Tables.{entries}
+use Rattle.sc_partials.specs.Partials.{IsPartial}
 use Rattle.sc_svo.specs.Points.{order_in, near_in, point_in}
-use Rattle.sc_svo.specs.Partials.{IsPartial}
 use Rattle.sc_svo.proofs.NextPointLaws.{copied-partial}
 use Rattle.sc_svo.proofs.point.SvoPoint.given_or_made.Goals as goal
 

@@ -1,8 +1,8 @@
 use Rattle.std.proofs.Common.{◌≡◌, length, map, refl, ◌∙◌, ap, sym, subst}
 use Rattle.std.proofs.lemmas.List.{length-map}
+use Rattle.sc_partials.specs.NextPartials.{AreOf, AreNextPartials}
+use Rattle.sc_partials.proofs.NextTables.{next-sums_are}
 use Rattle.sc_svo.specs.Points.{order_in, near_in, point_in}
-use Rattle.sc_svo.specs.NextPartials.{AreOf, AreNextPartials}
-use Rattle.sc_svo.proofs.NextTables.{next-sums_are}
 use Rattle.sc_svo.proofs.point.SvoPoint.summed.Goals as goal
 
 pub push_next_partials-requires : goal.push_next_partials-requires

@@ -6,9 +6,9 @@ use Rattle.sc_definitions.specs.Tables.{prefix, entries, weight}
 use Rattle.sc_definitions.specs.Shifts.{shifted}
 use Rattle.sc_table.specs.SplitEqs.{split_variables, split_weight}
 use Rattle.sc_table.proofs.PowerLaws.{one-shifted}
+use Rattle.sc_partials.specs.Partials.{joined}
+use Rattle.sc_partials.specs.NextPartials.{AreNextPartials}
 use Rattle.sc_svo.specs.Points.{order_in, near_in, far_in}
-use Rattle.sc_svo.specs.Partials.{joined}
-use Rattle.sc_svo.specs.NextPartials.{AreNextPartials}
 use Rattle.sc_svo.proofs.PointParts.{length-joined}
 use Rattle.sc_svo.proofs.NextPointLaws.{moved-rows, carried-rows, last-rows, row-within, compressed-prefix}
 use Rattle.sc_svo.proofs.point.SvoPoint.tables_prefix.Goals as goal

@@ -6,9 +6,9 @@ use Rattle.sc_definitions.specs.Tables.{suffix, entries, weight}
 use Rattle.sc_definitions.specs.Shifts.{shifted}
 use Rattle.sc_table.specs.SplitEqs.{split_variables, split_weight}
 use Rattle.sc_table.proofs.PowerLaws.{one-shifted}
+use Rattle.sc_partials.specs.Partials.{joined, IsPartial}
+use Rattle.sc_partials.specs.NextPartials.{AreNextPartials}
 use Rattle.sc_svo.specs.Points.{order_in, near_in, far_in}
-use Rattle.sc_svo.specs.Partials.{joined, IsPartial}
-use Rattle.sc_svo.specs.NextPartials.{AreNextPartials}
 use Rattle.sc_svo.proofs.PointParts.{length-joined}
 use Rattle.sc_svo.proofs.NextPointLaws.{moved-rows, last-rows, given-rows, kept-within, last-at, compressed-suffix}
 use Rattle.sc_svo.proofs.point.SvoPoint.tables_suffix.Goals as goal

@@ -4,8 +4,8 @@ use Rattle.sc_definitions.specs.Tables.{suffix, entries}
 use Rattle.sc_table.specs.SplitEqs.{split_variables, split_weight}
 use Rattle.sc_table.specs.Polys.{table_of}
 use Rattle.sc_table.proofs.EntryLaws.{entry-embedded}
+use Rattle.sc_partials.specs.Partials.{IsPartial}
 use Rattle.sc_svo.specs.Points.{order_in, near_in, far_in, point_in}
-use Rattle.sc_svo.specs.Partials.{IsPartial}
 use Rattle.sc_svo.proofs.PointParts.{length-joined, partial-suffix, partial-in, if_ok_both}
 use Rattle.sc_svo_tests.proofs.tests.successors.compressed.Goals as goal
 

@@ -1,0 +1,10 @@
+pub mod Lists
+pub mod Weights
+pub mod EqStatements
+pub mod EqIterators
+pub mod NextStatements
+pub mod SelectStatements
+pub mod SelectIterators
+pub mod Batches
+pub mod Claimed
+pub mod Rows

@@ -1,0 +1,5 @@
+pub mod StagedLaws
+pub mod PartialTables
+pub mod NextTables
+pub mod SumLaws
+pub mod ProductLaws

@@ -1,7 +1,0 @@
-use Rattle.sc_table.specs.Polys.{variables_of}
-use Rattle.sc_svo.proofs.PartialTables.{slice-numbers}
-use Rattle.sc_svo.proofs.partials.EqPartials.table.Goals as goal
-
-pub returns : goal.returns
-returns g c =
-    slice-numbers g.EF.Field.number c.as_slice.result.now (variables_of c.args.self.now.table) _ c.as_slice.ensures.size c.as_slice.ensures.numbers
