@@ -14,13 +14,13 @@ use Rattle.sc_definitions.proofs.StandingLaws.{IsSized, entries-is, rows-entries
 use Rattle.sc_transcript.specs.declared.error.SumcheckError.{SumcheckError}
 use Rattle.sc_transcript.specs.declared.error.SumcheckError.TheVariants.{NoMemory}
 use Rattle.sc_transcript.specs.Drivers.{Driver, HasRoundLeft, IsRefused}
-use Rattle.sc_rounds.specs.Provers.{setting_at, standing_at}
-use Rattle.sc_rounds.specs.BaseProducts.{StopsFrom}
-use Rattle.sc_rounds.proofs.PairRounds.{halts}
-use Rattle.sc_rounds.proofs.BatchLaws.{stops}
+use Rattle.sc_definitions.specs.Shown.{setting_at, standing_at}
+use Rattle.sc_transcript.specs.Batches.{StopsFrom}
+use Rattle.sc_transcript.proofs.BatchLaws.{halts, stops}
 use Rattle.sc_svo.specs.Batches.{Batch, honest_of}
-use Rattle.sc_audit.specs.Built.{prover_for}
-use Rattle.sc_audit.specs.SmallRounds.{IsBatchOf, with_drawn, LeavesDrawn}
+use Rattle.sc_jobs.specs.BuiltCases.{prover_for}
+use Rattle.sc_audit.specs.SmallRounds.{with_drawn, LeavesDrawn}
+use Rattle.sc_jobs.specs.Taken.{IsBatchOf}
 
 -- the numbers of a list of none
 pub no_items : {X : Type 0} (number : X → ℕ) (xs : List X) → length xs ≡ 0 → map number xs ≡ []

@@ -20,16 +20,17 @@ use Rattle.sc_transcript.specs.declared.error.SumcheckError.{SumcheckError}
 use Rattle.sc_transcript.specs.Drivers.{Driver, HasRoundLeft, IsDone}
 use Rattle.sc_rounds.specs.declared.product_polynomial.ProductPolynomial.{ProductPolynomial}
 use Rattle.sc_rounds.specs.Products.{numbers_of, variables_in, order_in, evals_in, weights_in, sum_in}
-use Rattle.sc_rounds.specs.Provers.{shown_of, setting_at, standing_at}
-use Rattle.sc_rounds.specs.BaseProducts.{PlaysFrom, StopsFrom, BreaksOffAt}
-use Rattle.sc_rounds.specs.Standings.{IsStopped, Batch as Rounds}
+use Rattle.sc_rounds.specs.Provers.{shown_of}
+use Rattle.sc_definitions.specs.Shown.{setting_at, standing_at}
+use Rattle.sc_transcript.specs.Batches.{PlaysFrom, StopsFrom, BreaksOffAt, IsStopped, Batch as Rounds}
 use Rattle.sc_rounds.proofs.PairRounds.{pair_rows}
-use Rattle.sc_rounds.proofs.BatchLaws.{same_setting, played_at}
+use Rattle.sc_transcript.proofs.BatchLaws.{same_setting, played_at}
 use Rattle.sc_svo.specs.Batches.{Batch, IsBoundBy}
-use Rattle.sc_audit.specs.Figures.{false_claim_of}
-use Rattle.sc_audit.specs.Built.{prover_for}
-use Rattle.sc_audit.specs.SmallRounds.{IsBatchOf, with_drawn, LeavesPlayed, LeavesRounds}
-use Rattle.sc_audit.proofs.SameGrids.{grids_of-same}
+use Rattle.sc_jobs.specs.Figures.{false_claim_of}
+use Rattle.sc_jobs.specs.BuiltCases.{prover_for}
+use Rattle.sc_audit.specs.SmallRounds.{with_drawn, LeavesPlayed, LeavesRounds}
+use Rattle.sc_jobs.specs.Taken.{IsBatchOf}
+use Rattle.sc_jobs.proofs.SameGrids.{grids_of-same}
 
 -- a standing's claim is the sum over all rows of evaluation times weight
 abbrev pub IsTrueAt : Ops → Standing → Type 0

@@ -9,10 +9,10 @@ use Rattle.sc_definitions.specs.Lucky.{Turn, batch_polynomial, true_claim_of, co
 use Rattle.sc_rounds.specs.declared.product_polynomial.ProductPolynomial.{ProductPolynomial}
 use Rattle.sc_rounds.specs.Products.{variables_in, sum_in, evals_in, weights_in}
 use Rattle.sc_rounds.specs.Turns.{IsPairOf}
-use Rattle.sc_rounds.proofs.FindLaws.{finds-begin}
+use Rattle.sc_definitions.proofs.FindLaws.{finds-begin}
 use Rattle.sc_statements.specs.FalseClaims.{capped}
 use Rattle.sc_verdicts.specs.Findings.{holds, named}
-use Rattle.sc_audit.specs.Figures.{finding_by}
+use Rattle.sc_jobs.specs.Figures.{finding_by}
 
 -- the sum over a pair is the true claim of its problem
 pub pair-truth : {F EF : Type 0} (o : Ops) → IsRing o → (number : EF → ℕ) (p : Problem) (pair : ProductPolynomial F EF) (t : ℕ) → IsPairOf o number p pair → t ≡ sum_in o number pair →

@@ -1,12 +1,3 @@
-pub mod Over
-pub mod Cases
-pub mod Fitting
-pub mod Refusals
-pub mod Figures
-pub mod Audits
 pub mod Built
 pub mod SmallRounds
-pub mod Stated
-pub mod Checked
-pub mod Certified
-pub mod Laws
+pub mod Ways

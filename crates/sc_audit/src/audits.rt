@@ -1,21 +1,20 @@
 //! The calls.
 ghost use Rattle.std.specs.Prelude.{◌≡◌, IfOk, IfErr, IfSome};
-ghost use Rattle.sc_audit.specs.Cases.{asked_of, problem_in, task_in};
-ghost use Rattle.sc_audit.specs.Refusals.{refusal_of, shape_refusal};
-ghost use Rattle.sc_audit.specs.Figures.{report_in};
-ghost use Rattle.sc_audit.specs.Audits.{Answers, IsAnswer, IsRefusedBy, HoldsIfBuilt, IsValid, MayMeet};
-ghost use Rattle.sc_audit.specs.Certified.{CertifiesLuck};
-ghost use Rattle.sc_audit.specs.Stated.{IsRestated, IsWayOf, LeavesStated};
+ghost use Rattle.sc_jobs.specs.Cases.{asked_of, problem_in, task_in};
+ghost use Rattle.sc_jobs.specs.Refusals.{refusal_of, shape_refusal};
+ghost use Rattle.sc_jobs.specs.Figures.{report_in};
+ghost use Rattle.sc_jobs.specs.Audits.{Answers, IsAnswer, IsRefusedBy, HoldsIfBuilt, IsValid, MayMeet};
+ghost use Rattle.sc_jobs.specs.Certified.{CertifiesLuck};
+ghost use Rattle.sc_jobs.specs.Stated.{IsRestated, LeavesStated};
+ghost use Rattle.sc_audit.specs.Ways.{IsWayOf};
 
 use crate::building::{build, play};
 use crate::checking::check;
-use crate::job::{Job, Mode};
-use crate::report::Report;
-use crate::shape::FittingJob;
 use crate::stating::state_truth;
 use crate::ways::Way;
 use sc_challenger::Challenger;
 use sc_field::{ExtensionField, Field, IntoTranscriptField};
+use sc_jobs::{FittingJob, Job, Mode, Report};
 use sc_verdicts::AuditError;
 use std::alloc::Global;
 

@@ -1,21 +1,19 @@
 //! Rounds that are built.
-ghost use Rattle.std.specs.Prelude.{◌≡◌, ◌≤◌, IfOk, None};
-ghost use Rattle.sc_audit.specs.Cases.{asked_to, build};
-ghost use Rattle.sc_audit.specs.Fitting.{job_in, stated_in};
-ghost use Rattle.sc_audit.specs.Figures.{false_claim_of};
-ghost use Rattle.sc_audit.specs.Audits.{Answers, AnswersTask};
-ghost use Rattle.sc_audit.specs.Built.{IsBuiltCase, LeavesBuild, kept_in};
+ghost use Rattle.std.specs.Prelude.{◌≡◌, IfOk, None};
+ghost use Rattle.sc_jobs.specs.Cases.{asked_to, build};
+ghost use Rattle.sc_jobs.specs.Fitting.{job_in, stated_in, AllTrue, IsAllowed};
+ghost use Rattle.sc_jobs.specs.Audits.{Answers, AnswersTask};
+ghost use Rattle.sc_audit.specs.Built.{LeavesBuild, kept_in};
+ghost use Rattle.sc_jobs.specs.BuiltCases.{IsBuiltCase};
 ghost use Rattle.sc_audit.specs.SmallRounds.{strategy_by, IsReady};
 
 use crate::common::refusal;
-use crate::fit::check_strategy;
-use crate::report::{Report, Verdict};
-use crate::shape::FittingJob;
 use crate::small_value::small_value;
 use crate::strategies::{Built, plain, represented};
 use crate::ways::{Way, way_of};
 use sc_challenger::Challenger;
 use sc_field::{ExtensionField, Field, IntoTranscriptField};
+use sc_jobs::{FittingJob, Report, Verdict, check_strategy};
 use sc_table::{Basis, Strategy};
 use sc_verdicts::AuditError;
 use std::alloc::Global;
@@ -28,7 +26,7 @@ pub(crate) fn build<F: Field, EF: ExtensionField<F>, R: IntoTranscriptField<EF>,
     strategy: Strategy,
     challenger: &mut C,
 ) -> Result<Report<F, EF>, AuditError>
-    requires { (job_in fitting.now).pow_bits ≤ (C.rules challenger.old).max_bits }
+    requires { IsAllowed fitting.now (C.rules challenger.old) }
     ensures rules { C.rules challenger.new ≡ C.rules challenger.old }
     ensures task { AnswersTask F.number EF.number
         (asked_to (job_in fitting.now) (build strategy) (C.rules challenger.old)
@@ -48,8 +46,8 @@ pub(crate) fn play<F: Field, EF: ExtensionField<F>, R: IntoTranscriptField<EF>, 
     way: Way<F, EF>,
     challenger: &mut C,
 ) -> Result<Report<F, EF>, AuditError>
-    requires difficulty { (job_in fitting.now).pow_bits ≤ (C.rules challenger.old).max_bits }
-    requires all_true { false_claim_of EF.ops (stated_in fitting.now) ≡ None }
+    requires difficulty { IsAllowed fitting.now (C.rules challenger.old) }
+    requires all_true { AllTrue fitting.now }
     requires ready { IsReady EF.ops (stated_in fitting.now) way }
     ensures rules { C.rules challenger.new ≡ C.rules challenger.old }
     ensures answers { Answers F.number EF.number None
@@ -69,8 +67,8 @@ fn rounds_by<F: Field, EF: ExtensionField<F>, R: IntoTranscriptField<EF>, C: Cha
     way: Way<F, EF>,
     challenger: &C,
 ) -> Result<Built<F, EF>, AuditError>
-    requires difficulty { (job_in fitting.now).pow_bits ≤ (C.rules challenger.now).max_bits }
-    requires all_true { false_claim_of EF.ops (stated_in fitting.now) ≡ None }
+    requires difficulty { IsAllowed fitting.now (C.rules challenger.now) }
+    requires all_true { AllTrue fitting.now }
     requires ready { IsReady EF.ops (stated_in fitting.now) way }
     ensures { LeavesBuild F.number EF.number
         (asked_to (job_in fitting.now) (build (strategy_by way)) (C.rules challenger.now)
@@ -91,8 +89,8 @@ fn replay<F: Field, EF: ExtensionField<F>, C: Challenger<F>>(
     built: Built<F, EF>,
     challenger: &mut C,
 ) -> Result<Report<F, EF>, AuditError>
-    requires difficulty { (job_in fitting.now).pow_bits ≤ (C.rules challenger.old).max_bits }
-    requires all_true { false_claim_of EF.ops (stated_in fitting.now) ≡ None }
+    requires difficulty { IsAllowed fitting.now (C.rules challenger.old) }
+    requires all_true { AllTrue fitting.now }
     ensures rules { C.rules challenger.new ≡ C.rules challenger.old }
     ensures answers { (s : Strategy) → IsBuiltCase
         (asked_to (job_in fitting.now) (build s) (C.rules challenger.old)

@@ -1,22 +1,21 @@
 //! Rounds of a proof that are checked.
-ghost use Rattle.std.specs.Prelude.{◌≡◌, ◌≤◌, IfOk, OnErr, Err, Some, None, [], length, map};
+ghost use Rattle.std.specs.Prelude.{◌≡◌, IfOk, Err, Some, None, length, map};
 ghost use Rattle.std.specs.Option.{option_map};
 ghost use Rattle.sc_definitions.specs.Tables.{point_of};
 ghost use Rattle.sc_definitions.specs.Problem.{claim_of, residual_of};
 ghost use Rattle.sc_table.specs.Strategy.{order_of};
 ghost use Rattle.sc_transcript.specs.Data.{messages_in, witnesses_in};
-ghost use Rattle.sc_audit.specs.Cases.{asked_to, given_in, check};
-ghost use Rattle.sc_audit.specs.Fitting.{job_in, stated_in};
-ghost use Rattle.sc_audit.specs.Figures.{report_in, figures_of};
-ghost use Rattle.sc_audit.specs.Audits.{AnswersTask};
-ghost use Rattle.sc_audit.specs.Checked.{LeavesReport};
+ghost use Rattle.sc_jobs.specs.Cases.{asked_to, given_in, check};
+ghost use Rattle.sc_jobs.specs.Fitting.{job_in, stated_in, IsAllowed};
+ghost use Rattle.sc_jobs.specs.Figures.{figures_of};
+ghost use Rattle.sc_jobs.specs.Audits.{AnswersTask};
+ghost use Rattle.sc_jobs.specs.Checked.{LeavesReport};
 
 use crate::common::refusal;
-use crate::report::Report;
-use crate::shape::FittingJob;
 use crate::verdict::verdict_on;
 use sc_challenger::Challenger;
 use sc_field::{ExtensionField, Field, NoMemory};
+use sc_jobs::{FittingJob, Report};
 use sc_rounds::SumcheckData;
 use sc_svo::Grids;
 use sc_table::{Basis, Point, VariableOrder, eval_slice};
@@ -30,7 +29,7 @@ pub(crate) fn check<F: Field, EF: ExtensionField<F>, C: Challenger<F>>(
     proof: &Option<SumcheckData<F, EF>>,
     challenger: &mut C,
 ) -> Result<Report<F, EF>, AuditError>
-    requires { (job_in fitting.now).pow_bits ≤ (C.rules challenger.old).max_bits }
+    requires { IsAllowed fitting.now (C.rules challenger.old) }
     ensures rules { C.rules challenger.new ≡ C.rules challenger.old }
     ensures task { AnswersTask F.number EF.number
         (asked_to (job_in fitting.now) (check (option_map (given_in F.number EF.number) proof.now))
@@ -48,7 +47,7 @@ fn check_none<F: Field, EF: ExtensionField<F>, C: Challenger<F>>(
     fitting: &FittingJob<'_, F, EF>,
     challenger: &mut C,
 ) -> Result<Report<F, EF>, AuditError>
-    requires { (job_in fitting.now).pow_bits ≤ (C.rules challenger.old).max_bits }
+    requires { IsAllowed fitting.now (C.rules challenger.old) }
     ensures rules { C.rules challenger.new ≡ C.rules challenger.old }
     ensures task { AnswersTask F.number EF.number
         (asked_to (job_in fitting.now) (check None)
@@ -70,7 +69,7 @@ fn check_rounds<F: Field, EF: ExtensionField<F>, C: Challenger<F>>(
     proof: &SumcheckData<F, EF>,
     challenger: &mut C,
 ) -> Result<Report<F, EF>, AuditError>
-    requires { (job_in fitting.now).pow_bits ≤ (C.rules challenger.old).max_bits }
+    requires { IsAllowed fitting.now (C.rules challenger.old) }
     ensures rules { C.rules challenger.new ≡ C.rules challenger.old }
     ensures task { AnswersTask F.number EF.number
         (asked_to (job_in fitting.now) (check (Some (given_in F.number EF.number proof.now)))

@@ -1,6 +1,6 @@
 //! What building and checking share.
 ghost use Rattle.std.specs.Prelude.{◌≡◌};
-ghost use Rattle.sc_audit.specs.Audits.{refusal_by};
+ghost use Rattle.sc_jobs.specs.Audits.{refusal_by};
 
 use sc_rounds::SumcheckError;
 use sc_verdicts::AuditError;

@@ -1,6 +1,6 @@
 //! Laws of audits, as contracts: a caller calls the function and has them.
 ghost use Rattle.sc_definitions.specs.Strategies.{FewLetThrough};
-ghost use Rattle.sc_audit.specs.Laws.{BuildsAgree, PassingLetsThrough};
+ghost use Rattle.sc_jobs.specs.Laws.{BuildsAgree, PassingLetsThrough};
 
 use sc_field::Field;
 
@@ -16,7 +16,7 @@ pub fn build_laws()
 /// A strategy is a list of pairs of values, each held for the challenges drawn so far; where it
 /// holds none it sends zeros. The challenges of a checked proof whose rounds are not refuted are
 /// one of those lists, for each strategy that sends the proof's messages.
-#[tactic(auto, using(sc_definitions::proofs::StrategyBound::few_let_through, crate::proofs::Passing::passing_lets_through))]
+#[tactic(auto, using(sc_definitions::proofs::StrategyBound::few_let_through, sc_jobs::proofs::Passing::passing_lets_through))]
 pub fn false_claim_lists<EF: Field>()
     ensures few { FewLetThrough EF.ops }
     ensures passing { PassingLetsThrough EF.ops }

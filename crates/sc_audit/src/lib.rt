@@ -6,13 +6,8 @@
 mod audits;
 mod building;
 mod checking;
-mod claims;
 mod common;
-mod fit;
-mod job;
 pub mod laws;
-mod report;
-mod shape;
 mod small_value;
 mod stating;
 mod strategies;
@@ -20,8 +15,7 @@ mod verdict;
 mod ways;
 
 pub use audits::{audit, audit_true};
-pub use job::{Job, Mode};
-pub use report::{Report, Verdict};
+pub use sc_jobs::{Job, Mode, Report, Verdict};
 pub use sc_svo::{Grid, Grids};
 pub use sc_table::Strategy;
 pub use sc_verdicts::{AuditError, FitFault, ShapeFault};

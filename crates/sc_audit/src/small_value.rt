@@ -1,21 +1,20 @@
 //! How rounds are built that begin on small values: the first ones are read off the grids of the
 //! job's own table, and the others are played on what these leave of it.
-ghost use Rattle.std.specs.Prelude.{◌≡◌, ◌+◌, ◌≤◌, None, OnOk, length, map, vec_capacity};
+ghost use Rattle.std.specs.Prelude.{◌≡◌, ◌+◌, ◌≤◌, OnOk, length, map, vec_capacity};
 ghost use Rattle.sc_definitions.specs.Problem.{Problem, claim_of};
 ghost use Rattle.sc_table.specs.declared.strategy.Strategy.TheVariants.{SmallValue};
 ghost use Rattle.sc_transcript.specs.Data.{wire_in};
 ghost use Rattle.sc_transcript.specs.Drivers.{driver_in, Continues};
 ghost use Rattle.sc_rounds.specs.Products.{variables_in, sum_in};
 ghost use Rattle.sc_rounds.specs.Provers.{shown_of};
-ghost use Rattle.sc_rounds.specs.HeldProducts.{course_over, GoesOn};
+ghost use Rattle.sc_rounds.specs.HeldProducts.{course_over};
+ghost use Rattle.sc_transcript.specs.Batches.{GoesOn};
 ghost use Rattle.sc_rounds.specs.Standings.{standing_in, standing_on};
 ghost use Rattle.sc_svo.specs.Batches.{batch_in};
-ghost use Rattle.sc_audit.specs.Cases.{asked_to, build};
-ghost use Rattle.sc_audit.specs.Fitting.{job_in, stated_in};
-ghost use Rattle.sc_audit.specs.Figures.{false_claim_of};
+ghost use Rattle.sc_jobs.specs.Cases.{asked_to, build};
+ghost use Rattle.sc_jobs.specs.Fitting.{job_in, stated_in, AllTrue, IsAllowed};
 ghost use Rattle.sc_audit.specs.Built.{LeavesBuild};
 ghost use Rattle.sc_audit.specs.SmallRounds.{
-  IsBatchOf,
   play_for,
   HasPlayed,
   LeavesDrawn,
@@ -23,12 +22,13 @@ ghost use Rattle.sc_audit.specs.SmallRounds.{
   rounds_for,
   LeavesRounds,
 };
+ghost use Rattle.sc_jobs.specs.Taken.{IsBatchOf};
 
 use crate::common::refusal;
-use crate::shape::FittingJob;
 use crate::strategies::Built;
 use sc_challenger::Challenger;
 use sc_field::{ExtensionField, Field, with_room};
+use sc_jobs::FittingJob;
 use sc_rounds::{ProductPolynomial, ProverTranscript, SumcheckData, SumcheckError, SumcheckShape};
 use sc_svo::SvoBatch;
 use sc_table::{Basis, Point};
@@ -43,8 +43,8 @@ pub(crate) fn small_value<F: Field, EF: ExtensionField<F>, C: Challenger<F>>(
     batch: SvoBatch<F, EF>,
     challenger: &C,
 ) -> Result<Built<F, EF>, AuditError>
-    requires difficulty { (job_in fitting.now).pow_bits ≤ (C.rules challenger.now).max_bits }
-    requires all_true { false_claim_of EF.ops (stated_in fitting.now) ≡ None }
+    requires difficulty { IsAllowed fitting.now (C.rules challenger.now) }
+    requires all_true { AllTrue fitting.now }
     requires batch { IsBatchOf EF.ops (stated_in fitting.now) (batch_in batch) }
     ensures { LeavesBuild F.number EF.number
         (asked_to (job_in fitting.now) (build (SmallValue (length (batch_in batch).grids)))
@@ -90,8 +90,8 @@ fn play_all<F: Field, EF: ExtensionField<F>, C: Challenger<F>>(
 ) -> Result<(ProductPolynomial<F, EF>, Point<EF>), SumcheckError>
     requires batch { IsBatchOf EF.ops (stated_in fitting.now) (batch_in batch.now) }
     requires claim { EF.number sum.old ≡ claim_of EF.ops (stated_in fitting.now) }
-    requires all_true { false_claim_of EF.ops (stated_in fitting.now) ≡ None }
-    requires difficulty { (job_in fitting.now).pow_bits ≤ (C.rules challenger.old).max_bits }
+    requires all_true { AllTrue fitting.now }
+    requires difficulty { IsAllowed fitting.now (C.rules challenger.old) }
     ensures { LeavesRounds
         (rounds_for (job_in fitting.now) (wire_in F.number EF.number sumcheck_data.old)
         (C.rules challenger.old) (C.history challenger.old))
@@ -137,7 +137,7 @@ fn play<F: Field, EF: ExtensionField<F>, C: Challenger<F>>(
 ) -> Result<ProductPolynomial<F, EF>, SumcheckError>
     requires batch { IsBatchOf EF.ops (stated_in fitting.now) (batch_in batch.now) }
     requires claim { EF.number sum.old ≡ claim_of EF.ops (stated_in fitting.now) }
-    requires all_true { false_claim_of EF.ops (stated_in fitting.now) ≡ None }
+    requires all_true { AllTrue fitting.now }
     requires rounds { (driver_in transcript.old).shape.num_rounds
         ≡ (stated_in fitting.now).variables }
     requires fresh { HasPlayed 0 (driver_in transcript.old) challenges.old.items

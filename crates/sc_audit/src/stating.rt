@@ -1,22 +1,14 @@
 //! Jobs whose statements claim their true values, which are put in place of what they claim.
 ghost use Rattle.std.specs.Prelude.{◌≡◌, None, IfOk, IfErr, IfSome, OnOk, OnErr};
-ghost use Rattle.sc_audit.specs.Cases.{problem_in};
-ghost use Rattle.sc_audit.specs.Fitting.{job_in};
+ghost use Rattle.sc_jobs.specs.Cases.{problem_in};
+ghost use Rattle.sc_jobs.specs.Fitting.{job_in};
 ghost use Rattle.sc_audit.specs.SmallRounds.{IsSimpleWay};
-ghost use Rattle.sc_audit.specs.Stated.{
-  IsRestated,
-  truly_stated,
-  shape_of,
-  RefusesShape,
-  IsWayOf,
-  IsBatchedFor,
-};
+ghost use Rattle.sc_jobs.specs.Stated.{IsRestated, truly_stated, shape_of, RefusesShape};
+ghost use Rattle.sc_audit.specs.Ways.{IsWayOf, IsBatchedFor};
 
-use crate::fit::check_strategy;
-use crate::job::{Job, Mode};
-use crate::shape::FittingJob;
 use crate::ways::{Batched, Way, batch_of};
 use sc_field::{ExtensionField, Field, NoMemory};
+use sc_jobs::{FittingJob, Job, Mode, check_strategy};
 use sc_table::Strategy;
 use sc_verdicts::AuditError;
 use std::alloc::Global;

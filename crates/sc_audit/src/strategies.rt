@@ -1,19 +1,19 @@
 //! How the rounds of a job are built.
-ghost use Rattle.std.specs.Prelude.{◌≡◌, ◌≤◌, ◌∷◌, [], List, IfOk, None, map};
+ghost use Rattle.std.specs.Prelude.{◌≡◌, ◌∷◌, [], List, IfOk, map};
 ghost use Rattle.sc_definitions.specs.declared.events.Event.{Event};
 ghost use Rattle.sc_definitions.specs.Events.{Rules};
 ghost use Rattle.sc_rounds.specs.ProverViews.{shown_by, image_shown_by};
 ghost use Rattle.sc_rounds.specs.BaseViews.{base_shown};
 ghost use Rattle.sc_table.specs.declared.strategy.Strategy.TheVariants.{Plain, Represented};
-ghost use Rattle.sc_audit.specs.Cases.{asked_to, build};
-ghost use Rattle.sc_audit.specs.Fitting.{job_in, stated_in};
-ghost use Rattle.sc_audit.specs.Figures.{false_claim_of};
-ghost use Rattle.sc_audit.specs.Built.{LeavesBuild, prover_for};
+ghost use Rattle.sc_jobs.specs.Cases.{asked_to, build};
+ghost use Rattle.sc_jobs.specs.Fitting.{job_in, stated_in, AllTrue, IsAllowed};
+ghost use Rattle.sc_audit.specs.Built.{LeavesBuild};
+ghost use Rattle.sc_jobs.specs.BuiltCases.{prover_for};
 
 use crate::common::refusal;
-use crate::shape::FittingJob;
 use sc_challenger::Challenger;
 use sc_field::{ExtensionField, Field, IntoTranscriptField, NoMemory};
+use sc_jobs::FittingJob;
 use sc_rounds::{BaseProduct, ProductPolynomial, ReprSumcheckProver, SumcheckData, SumcheckProver};
 use sc_svo::Grids;
 use sc_table::{Point, Poly};
@@ -40,8 +40,8 @@ pub(crate) fn plain<F: Field, EF: ExtensionField<F>, C: Challenger<F>>(
     fitting: &FittingJob<'_, F, EF>,
     challenger: &C,
 ) -> Result<Built<F, EF>, AuditError>
-    requires difficulty { (job_in fitting.now).pow_bits ≤ (C.rules challenger.now).max_bits }
-    requires all_true { false_claim_of EF.ops (stated_in fitting.now) ≡ None }
+    requires difficulty { IsAllowed fitting.now (C.rules challenger.now) }
+    requires all_true { AllTrue fitting.now }
     ensures { LeavesBuild F.number EF.number (asked_to (job_in fitting.now) (build Plain)
         (C.rules challenger.now) (C.history challenger.now)) result }
 {
@@ -110,8 +110,8 @@ pub(crate) fn represented<
     fitting: &FittingJob<'_, F, EF>,
     challenger: &C,
 ) -> Result<Built<F, EF>, AuditError>
-    requires difficulty { (job_in fitting.now).pow_bits ≤ (C.rules challenger.now).max_bits }
-    requires all_true { false_claim_of EF.ops (stated_in fitting.now) ≡ None }
+    requires difficulty { IsAllowed fitting.now (C.rules challenger.now) }
+    requires all_true { AllTrue fitting.now }
     ensures { LeavesBuild F.number EF.number (asked_to (job_in fitting.now) (build Represented)
         (C.rules challenger.now) (C.history challenger.now)) result }
 {
@@ -163,7 +163,7 @@ fn base_of<'a, F: Field, EF: ExtensionField<F>>(
     alloc: Global,
     fitting: &FittingJob<'a, F, EF>,
 ) -> Result<BaseProduct<'a, F, EF>, NoMemory>
-    requires { false_claim_of EF.ops (stated_in fitting.now) ≡ None }
+    requires { AllTrue fitting.now }
     ensures { IfOk result
         (λ p. base_shown p ≡ prover_for EF.ops (stated_in fitting.now)) }
 {
@@ -177,7 +177,7 @@ fn prover_of<F: Field, EF: ExtensionField<F>>(
     alloc: Global,
     fitting: &FittingJob<'_, F, EF>,
 ) -> Result<SumcheckProver<F, EF>, NoMemory>
-    requires { false_claim_of EF.ops (stated_in fitting.now) ≡ None }
+    requires { AllTrue fitting.now }
     ensures { IfOk result (λ p. shown_by p ≡ prover_for EF.ops (stated_in fitting.now)) }
 {
     let job = fitting.job;

@@ -6,15 +6,14 @@ ghost use Rattle.sc_definitions.specs.Lucky.{batch_polynomial, luck_of, in_batch
 ghost use Rattle.sc_definitions.specs.Roots.{root_count};
 ghost use Rattle.sc_rounds.specs.Turns.{IsPairOf};
 ghost use Rattle.sc_transcript.specs.Data.{messages_in};
-ghost use Rattle.sc_audit.specs.Fitting.{stated_in};
+ghost use Rattle.sc_jobs.specs.Fitting.{stated_in};
 ghost use Rattle.sc_verdicts.specs.Findings.{lucky, named};
-ghost use Rattle.sc_audit.specs.Figures.{finding_in, finding_by, false_claim_of};
+ghost use Rattle.sc_jobs.specs.Figures.{finding_in, finding_by, false_claim_of};
 
-use crate::report::Verdict;
-use crate::shape::FittingJob;
 use crate::strategies::embedded;
 use sc_field::laws::count_roots;
 use sc_field::{ExtensionField, Field, NoMemory};
+use sc_jobs::{FittingJob, Verdict};
 use sc_rounds::{ProductPolynomial, SumcheckData, find_turn};
 use sc_table::{Point, Poly};
 use std::alloc::Global;

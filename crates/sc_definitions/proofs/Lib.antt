@@ -43,3 +43,7 @@ pub mod LuckyLaws
 pub mod StrategyBound
 pub mod WorkedLucky
 pub mod TurnLaws
+pub mod MappedRounds
+pub mod FindLaws
+pub mod PairMoves
+pub mod ImagedRounds

@@ -1,10 +1,11 @@
 -- The batch of several statements, one statement after the other.
-use Rattle.std.proofs.Common.{◌≡◌, ◌≢◌, ℕ, suc, ◌+◌, Some, None, List, [], ◌∷◌, ◌++◌, length, map, if◌then◌else◌, sym, ◌∙◌, ap, refl, arith, eq-eqb, ne_eqb}
+use Rattle.std.proofs.Common.{◌≡◌, ◌≢◌, ℕ, suc, ◌^◌, ◌<◌, ◌+◌, Some, None, List, [], ◌∷◌, ◌++◌, length, map, if◌then◌else◌, sym, ◌∙◌, ap, refl, arith, eq-eqb, ne_eqb}
 use Rattle.std.proofs.lemmas.List.{length-map, map-append}
 use Rattle.sc_definitions.specs.Ring.{Ops, IsRing, element, plus, times, power}
 use Rattle.sc_definitions.specs.Tables.{value, inner}
 use Rattle.sc_definitions.specs.Statements.{equality, Statement, weight_of, true_value, is_true_of, first_false_claim, powers_sum, batched_weight, batched_claim}
-use Rattle.sc_definitions.proofs.RingLaws.{element-plus, element-times, element-zero, plus_assoc, plus_comm, plus-zero}
+use Rattle.sc_definitions.proofs.RingLaws.{element-plus, element-times, element-zero, plus_assoc, plus_comm, plus-zero, times-plus}
+use Rattle.sc_definitions.proofs.Sums.{sum-same, sum-plus}
 
 module _ (o : Ops) (ring : IsRing o) where
   pub element-powers_sum : (c p : ℕ) (xs : List ℕ) → element o (powers_sum o c p xs) ≡ powers_sum o c p xs
@@ -79,3 +80,13 @@ batched_claim-append o ring c p ss s =
 pub batched-none : (o : Ops) (c p b : ℕ) → (batched_weight o c p [] b ≡ 0) × (batched_claim o c p [] ≡ 0)
 unfolding batched_weight batched_claim powers_sum
 batched-none o c p b = (refl, refl)
+
+-- ---- weights in two parts
+
+module _ (o : Ops) (ring : IsRing o) where
+  -- the sum over the rows with weights in two parts
+  pub inner-parts_of : (n : ℕ) (f w v w' : ℕ → ℕ) → ((b : ℕ) → b < 2 ^ n → w' b ≡ plus o (w b) (v b)) → inner o n f w' ≡ plus o (inner o n f w) (inner o n f v)
+  unfolding inner
+  inner-parts_of n f w v w' more =
+      sum-same o (2 ^ n) _ _ (λ b low. ap (times o (f b)) (more b low) ∙ times-plus o ring (f b) (w b) (v b))
+      ∙ sym (sum-plus o ring (2 ^ n) (λ b. times o (f b) (w b)) (λ b. times o (f b) (v b)))

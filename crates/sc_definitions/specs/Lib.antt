@@ -25,3 +25,4 @@ pub mod Partials
 pub mod Parts
 pub mod Combined
 pub mod Products
+pub mod Shown

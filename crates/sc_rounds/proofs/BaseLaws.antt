@@ -23,12 +23,14 @@ use Rattle.sc_transcript.specs.declared.transcript.SumcheckShape.{SumcheckShape}
 use Rattle.sc_transcript.specs.Drivers.{Driver, HasRoundLeft, IsDone}
 use Rattle.sc_rounds.specs.declared.product_polynomial.ProductPolynomial.{ProductPolynomial}
 use Rattle.sc_rounds.specs.Products.{numbers_of, variables_in, order_in, evals_in, weights_in}
-use Rattle.sc_rounds.specs.Provers.{Shown, shown_of, message_shown, with_bound, setting_at, standing_at}
-use Rattle.sc_rounds.specs.BaseProducts.{based, BaseAgrees, PlaysFrom, StopsFrom, BreaksOffAt}
-use Rattle.sc_rounds.specs.Standings.{Batch, PlaysWhole, BreaksOff, IsHalted, IsStopped}
-use Rattle.sc_rounds.proofs.PairRounds.{moves, pair_rows, sized}
+use Rattle.sc_rounds.specs.Provers.{shown_of}
+use Rattle.sc_definitions.specs.Shown.{Shown, message_shown, with_bound, setting_at, standing_at}
+use Rattle.sc_rounds.specs.BaseProducts.{based, BaseAgrees}
+use Rattle.sc_transcript.specs.Batches.{PlaysFrom, StopsFrom, BreaksOffAt, Batch, PlaysWhole, BreaksOff, IsHalted, IsStopped}
+use Rattle.sc_rounds.proofs.PairRounds.{pair_rows}
+use Rattle.sc_definitions.proofs.PairMoves.{moves, sized}
 use Rattle.sc_rounds.proofs.HeldLaws.{bound_list}
-use Rattle.sc_rounds.proofs.BatchLaws.{played_at, one_round_more, stops}
+use Rattle.sc_transcript.proofs.BatchLaws.{played_at, one_round_more, stops}
 
 -- a table of images
 pub image_entries : {F : Type 0} (h : ℕ → ℕ) (number : F → ℕ) (xs : List F) → h 0 ≡ 0 → rows_of (map (λ x. h (number x)) xs) ≡ (λ b. h (entries number xs b))

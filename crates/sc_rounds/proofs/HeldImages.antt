@@ -8,10 +8,10 @@ use Rattle.sc_definitions.proofs.RingLaws.{size_pos, plus_below}
 use Rattle.sc_definitions.proofs.StandingLaws.{length-entries_of, rows-entries_of, entries-is}
 use Rattle.sc_rounds.specs.declared.product_polynomial.ProductPolynomial.{ProductPolynomial}
 use Rattle.sc_rounds.specs.Products.{numbers_of, variables_in, order_in}
-use Rattle.sc_rounds.specs.Provers.{Shown, number_if_some, IsLeftFor, left_of, bound_now, held_shown, imaged, IsTrueClaim}
-use Rattle.sc_rounds.proofs.MappedRounds.{image_rows, image_bound, below_entries}
-use Rattle.sc_rounds.proofs.RepresentedLaws.{represented_sum}
-use Rattle.sc_rounds.proofs.HeldRounds.{IsBelow}
+use Rattle.sc_rounds.specs.Provers.{number_if_some, IsLeftFor, left_of, bound_now, held_shown}
+use Rattle.sc_definitions.specs.Shown.{Shown, imaged, IsTrueClaim}
+use Rattle.sc_definitions.proofs.MappedRounds.{image_rows, image_bound, below_entries, represented_sum}
+use Rattle.sc_definitions.proofs.ImagedRounds.{IsBelow}
 
 -- the rows of a list of numbers below a size
 rows_below : (size : ℕ) → 0 < size → (xs : List ℕ) → ((k : ℕ) → k < length xs → rows_of xs k < size) → (k : ℕ) → rows_of xs k < size

@@ -8,13 +8,15 @@ use Rattle.sc_definitions.specs.Standings.{half_rows, entries_of}
 use Rattle.sc_definitions.proofs.StandingLaws.{length-entries_of, rows-entries_of, entries-is}
 use Rattle.sc_rounds.specs.declared.product_polynomial.ProductPolynomial.{ProductPolynomial}
 use Rattle.sc_rounds.specs.Products.{numbers_of, variables_in, order_in, pair_message, BindsPair}
-use Rattle.sc_rounds.specs.Provers.{Shown, shown_of, IsLeftFor, left_of, held_shown, message_shown, with_bound, sum_with, IsTrueClaim, with_added, with_scaled, honest_shown, imaged, number_if_some}
+use Rattle.sc_rounds.specs.Provers.{shown_of, IsLeftFor, left_of, held_shown, number_if_some}
+use Rattle.sc_definitions.specs.Shown.{Shown, message_shown, with_bound, sum_with, IsTrueClaim, with_added, with_scaled, honest_shown, imaged}
 use Rattle.sc_table.proofs.HonestLaws.{honest_pair-first}
 use mathlib.Core.List.{map-id}
 use Rattle.sc_definitions.proofs.Sums.{sum-same, times-sum}
 use Rattle.sc_definitions.proofs.Identity.{atom, ◌⊗◌, Agree, identity}
-use Rattle.sc_rounds.proofs.PairRounds.{pair_rows, sum_after}
-use Rattle.sc_rounds.proofs.TakenLaws.{inner-parts_of}
+use Rattle.sc_rounds.proofs.PairRounds.{pair_rows}
+use Rattle.sc_definitions.proofs.PairMoves.{sum_after}
+use Rattle.sc_definitions.proofs.StatementLaws.{inner-parts_of}
 
 pub bound_list : (o : Ops) (order : Order) (n m r : ℕ) (xs ys : List ℕ) → n ≡ m + 1 → length ys ≡ 2 ^ m →
     ((b : ℕ) → b < 2 ^ m → rows_of ys b ≡ bound_in evaluation order o m r (rows_of xs) b) →

@@ -1,14 +1,8 @@
 pub mod PairRounds
 pub mod HeldLaws
-pub mod MappedRounds
-pub mod HeldRounds
 pub mod HeldImages
 pub mod RepresentedLaws
-pub mod BatchLaws
 pub mod BaseLaws
 pub mod TakenLaws
 pub mod ShownLaws
-pub mod ConstraintPoints
-pub mod InStep
 pub mod MovedEntries
-pub mod FindLaws

@@ -11,8 +11,10 @@ use Rattle.sc_table.specs.declared.poly.Poly.{Poly}
 use Rattle.sc_claims.specs.Batches.{gathered, AddsBatch}
 use Rattle.sc_rounds.specs.declared.product_polynomial.ProductPolynomial.{ProductPolynomial}
 use Rattle.sc_rounds.specs.Products.{numbers_of, variables_in, order_in, evals_in, weights_in, sum_in}
-use Rattle.sc_rounds.specs.Provers.{Stated, shown_of, sum_with, IsTrueClaim, with_added, with_scaled, weight_of, claim_of}
-use Rattle.sc_rounds.proofs.PairRounds.{pair_rows, sized, same_lists}
+use Rattle.sc_rounds.specs.Provers.{Stated, shown_of, weight_of, claim_of}
+use Rattle.sc_definitions.specs.Shown.{sum_with, IsTrueClaim, with_added, with_scaled}
+use Rattle.sc_rounds.proofs.PairRounds.{pair_rows}
+use Rattle.sc_definitions.proofs.PairMoves.{sized, same_lists}
 
 -- a table by the list of its numbers
 pub rows-numbers : {X : Type 0} (number : X → ℕ) (xs : List X) → rows_of (map number xs) ≡ entries number xs

@@ -1,13 +1,13 @@
 -- A constraint that is taken in.
-use Rattle.std.proofs.Common.{◌≡◌, ℕ, ◌^◌, ◌<◌, List, Option, ap, sym, ◌∙◌}
+use Rattle.std.proofs.Common.{◌≡◌, ℕ, ◌^◌, List, Option, ap, sym, ◌∙◌}
 use Rattle.sc_definitions.specs.declared.events.Event.{Event}
 use Rattle.sc_definitions.specs.Channels.{footing}
-use Rattle.sc_definitions.specs.Ring.{Ops, IsRing, plus, times}
+use Rattle.sc_definitions.specs.Ring.{Ops, IsRing, plus}
 use Rattle.sc_definitions.specs.Tables.{inner}
 use Rattle.sc_definitions.specs.Statements.{Statement, batched_weight, batched_claim}
-use Rattle.sc_definitions.proofs.RingLaws.{plus_comm, plus_cancel, times-plus}
-use Rattle.sc_definitions.proofs.Sums.{sum-same, sum-plus, element-sum}
-use Rattle.sc_definitions.proofs.StatementLaws.{element-powers_sum}
+use Rattle.sc_definitions.proofs.RingLaws.{plus_comm, plus_cancel}
+use Rattle.sc_definitions.proofs.Sums.{element-sum}
+use Rattle.sc_definitions.proofs.StatementLaws.{element-powers_sum, inner-parts_of}
 use Rattle.sc_claims.specs.Batches.{gathered, AddsBatch}
 use Rattle.sc_rounds.specs.Provers.{Stated, claim_with}
 
@@ -20,19 +20,12 @@ pub same_footing : {h h' : List Event} {claim claim' : ℕ} → h ≡ h' → cla
 same_footing eh ec = λ i. record { history = eh i; claim = ec i }
 
 module _ (o : Ops) (ring : IsRing o) where
-  -- the sum over the rows with weights in two parts
-  pub inner-parts_of : (n : ℕ) (f w v w' : ℕ → ℕ) → ((b : ℕ) → b < 2 ^ n → w' b ≡ plus o (w b) (v b)) → inner o n f w' ≡ plus o (inner o n f w) (inner o n f v)
-  unfolding inner
-  inner-parts_of n f w v w' more =
-      sum-same o (2 ^ n) _ _ (λ b low. ap (times o (f b)) (more b low) ∙ times-plus o ring (f b) (w b) (v b))
-      ∙ sym (sum-plus o ring (2 ^ n) (λ b. times o (f b) (w b)) (λ b. times o (f b) (v b)))
-
   -- the claim with a true constraint stays the sum
   pub sum_taken : (n c p : ℕ) (ss : List Statement) (f w w' : ℕ → ℕ) (s s' : ℕ) → s ≡ inner o n f w → inner o n f (batched_weight o c p ss) ≡ batched_claim o c p ss →
       AddsBatch o n c p ss (gathered w s) (gathered w' s') → s' ≡ inner o n f w'
   sum_taken n c p ss f w w' s s' true_sum claim added =
       added.sum ∙ ap (λ x. plus o x (batched_claim o c p ss)) true_sum ∙ ap (plus o (inner o n f w)) (sym claim)
-      ∙ sym (inner-parts_of n f w (batched_weight o c p ss) w' added.weights)
+      ∙ sym (inner-parts_of o ring n f w (batched_weight o c p ss) w' added.weights)
 
   -- and only with a true one
   pub claim_taken : (n c p : ℕ) (ss : List Statement) (f w w' : ℕ → ℕ) (s s' : ℕ) → s ≡ inner o n f w → s' ≡ inner o n f w' →
@@ -41,7 +34,7 @@ module _ (o : Ops) (ring : IsRing o) where
   claim_taken n c p ss f w w' s s' true_sum after added =
       let v = batched_weight o c p ss in
       let whole : plus o (inner o n f w) (inner o n f v) ≡ plus o (inner o n f w) (batched_claim o c p ss) =
-      sym (inner-parts_of n f w v w' added.weights) ∙ sym after ∙ added.sum ∙ ap (λ x. plus o x (batched_claim o c p ss)) true_sum in
+      sym (inner-parts_of o ring n f w v w' added.weights) ∙ sym after ∙ added.sum ∙ ap (λ x. plus o x (batched_claim o c p ss)) true_sum in
       sym (element-sum o ring (2 ^ n) _)
       ∙ plus_cancel o ring (inner o n f v) (batched_claim o c p ss) (inner o n f w)
       (plus_comm o ring (inner o n f v) (inner o n f w) ∙ whole ∙ plus_comm o ring (inner o n f w) (batched_claim o c p ss))

@@ -11,9 +11,9 @@ use Rattle.sc_transcript.specs.declared.transcript.SumcheckShape.{SumcheckShape}
 use Rattle.sc_transcript.specs.declared.data.SumcheckData.{SumcheckData}
 use Rattle.sc_transcript.specs.Data.{wire_in}
 use Rattle.sc_rounds.specs.declared.strategy.base.BaseProduct.{BaseProduct}
-use Rattle.sc_rounds.specs.Provers.{Shown, setting_at, standing_at}
+use Rattle.sc_definitions.specs.Shown.{Shown, setting_at, standing_at}
 use Rattle.sc_rounds.specs.BaseProducts.{based}
-use Rattle.sc_rounds.specs.Standings.{Batch, batch_at}
+use Rattle.sc_transcript.specs.Batches.{Batch, batch_at}
 
 module _ {F EF : Type 0} {f : FieldOf F} {p : PartialEqOf F} {x : ExtensionOf EF F} {a : AlgebraOf EF F} {e : FieldOf EF} {q : PartialEqOf EF} where
   -- what a prover of the images would show

@@ -1,23 +1,23 @@
 -- What clauses see of a pair under a claim, of which a challenge may be held.
-use Rattle.std.specs.Prelude.{◌≡◌, ◌⊎◌, ℕ, List, map, Option, Some, Result}
+use Rattle.std.specs.Prelude.{◌≡◌, ℕ, List, map, Option, Some}
 use Rattle.std.specs.declared.cmp.PartialEq.{Ghosts as PartialEqOf}
 use Rattle.sc_definitions.specs.Ring.{Ops}
 use Rattle.sc_definitions.specs.declared.events.Event.{Event}
 use Rattle.sc_definitions.specs.Events.{Extension}
 use Rattle.sc_definitions.specs.Channels.{Channel, Wire}
-use Rattle.sc_definitions.specs.Standings.{Setting, Standing, IsPlayed}
+use Rattle.sc_definitions.specs.Standings.{Setting, Standing}
 use Rattle.sc_field.specs.declared.field.Field.{Ghosts as FieldOf}
 use Rattle.sc_challenger.specs.declared.challenger.Challenger.{Ghosts as ChallengerOf}
 use Rattle.sc_transcript.specs.declared.transcript.ProverTranscript.{ProverTranscript}
 use Rattle.sc_transcript.specs.declared.transcript.SumcheckShape.{SumcheckShape}
 use Rattle.sc_transcript.specs.declared.data.SumcheckData.{SumcheckData}
-use Rattle.sc_transcript.specs.declared.error.SumcheckError.{SumcheckError}
-use Rattle.sc_transcript.specs.Drivers.{Driver, driver_in, channel_of}
+use Rattle.sc_transcript.specs.Drivers.{driver_in, channel_of}
 use Rattle.sc_transcript.specs.Data.{wire_in}
 use Rattle.sc_rounds.specs.declared.held_product.HeldProduct.{HeldProduct}
 use Rattle.sc_rounds.specs.declared.product_polynomial.ProductPolynomial.{ProductPolynomial}
-use Rattle.sc_rounds.specs.Standings.{Batch, batch_at, PlaysAll}
-use Rattle.sc_rounds.specs.Provers.{Shown, Stored, held_shown, stored_of, imaged, HoldsLast, HoldsIfAny, setting_at, standing_at}
+use Rattle.sc_transcript.specs.Batches.{Batch, batch_at, Course}
+use Rattle.sc_rounds.specs.Provers.{held_shown, stored_of}
+use Rattle.sc_definitions.specs.Shown.{Shown, Stored, imaged, setting_at, standing_at}
 
 module _ {F EF : Type 0} {e : FieldOf EF} {q : PartialEqOf EF} where
   -- its pair, and the challenge that this is not bound at yet
@@ -43,12 +43,6 @@ module _ {F EF : Type 0} {e : FieldOf EF} {q : PartialEqOf EF} where
 abbrev pub batch_asked : Channel → Ops → Shown → List Event → Wire → ℕ → SumcheckShape → Batch
 batch_asked c o s h sent degree shape = batch_at (setting_at c o s) (standing_at s h sent) degree shape
 
--- Rounds under way: what stays, where they stand, and the challenges that they have drawn.
-pub record Course : Type 0 where
-  pub setting : Setting
-  pub now : Standing
-  pub drawn : List ℕ
-
 module _ {C F EG : Type 0} {c : ChallengerOf C F} {f : FieldOf F} {q : PartialEqOf F} where
   -- what stays where it is played in a transcript
   abbrev pub setting_over : Extension → Ops → Shown → ProverTranscript C F EG c f q → Setting
@@ -67,17 +61,3 @@ pub record Holds (before : Shown) (r : ℕ) (stored : Stored) : Type 0 where
   pub evals : stored.evals ≡ before.evals
   pub weights : stored.weights ≡ before.weights
   pub held : stored.held ≡ Some r
-
--- What is kept after a batch was played whole with the challenges rs: the last one is held, if there is one.
-abbrev pub HoldsBatch : Batch → List ℕ → Stored → Type 0
-HoldsBatch b rs stored = HoldsIfAny b.setting b.start rs stored
-
--- What rounds leave together with those before them, from wherever these began.
-abbrev pub GoesOn : {X : Type 0} → Course → Course → Driver → Result X SumcheckError → Type 0
-GoesOn before after d result =
-    (start : Standing) → IsPlayed before.setting start before.now before.drawn → PlaysAll before.setting start after.now after.drawn d result
-
--- Where a round was played among them, the last challenge of all is held.
-abbrev pub HoldsIfMore : Course → List ℕ → Stored → Type 0
-HoldsIfMore before all stored =
-    (start : Standing) → IsPlayed before.setting start before.now before.drawn → (all ≡ before.drawn) ⊎ HoldsLast before.setting start all stored

@@ -6,6 +6,4 @@ pub mod BaseProducts
 pub mod BaseViews
 pub mod ProverViews
 pub mod Represented
-pub mod ConstraintValues
-pub mod Laws
 pub mod Turns

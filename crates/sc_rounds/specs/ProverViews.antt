@@ -15,8 +15,9 @@ use Rattle.sc_transcript.specs.declared.transcript.SumcheckShape.{SumcheckShape}
 use Rattle.sc_transcript.specs.declared.data.SumcheckData.{SumcheckData}
 use Rattle.sc_rounds.specs.declared.strategy.SumcheckProver.{SumcheckProver}
 use Rattle.sc_rounds.specs.declared.strategy.repr.ReprSumcheckProver.{ReprSumcheckProver}
-use Rattle.sc_rounds.specs.Provers.{Shown, Stored, Stated, held_shown, stored_of, imaged, setting_at, standing_at, stated, stated_if_some, IsTrueConstraint, IsTrueIfSome, with_taken}
-use Rattle.sc_rounds.specs.Standings.{Batch, batch_at}
+use Rattle.sc_rounds.specs.Provers.{Stated, held_shown, stored_of, stated, stated_if_some, IsTrueConstraint, IsTrueIfSome, with_taken}
+use Rattle.sc_definitions.specs.Shown.{Shown, Stored, imaged, setting_at, standing_at}
+use Rattle.sc_transcript.specs.Batches.{Batch, batch_at}
 
 module _ {F EF : Type 0} {f : FieldOf F} {p : PartialEqOf F} {x : ExtensionOf EF F} {a : AlgebraOf EF F} {e : FieldOf EF} {q : PartialEqOf EF} where
   -- what a prover shows

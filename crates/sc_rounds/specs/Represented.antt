@@ -7,7 +7,7 @@ use Rattle.sc_table.specs.Strategy.{order_of}
 use Rattle.sc_table.specs.declared.poly.Poly.{Poly}
 use Rattle.sc_table.specs.declared.strategy.VariableOrder.{VariableOrder}
 use Rattle.sc_rounds.specs.Products.{numbers_of}
-use Rattle.sc_rounds.specs.Provers.{Shown}
+use Rattle.sc_definitions.specs.Shown.{Shown}
 
 -- They have as many variables, and the sum over all rows of the products of what they hold, by two numberings, is `sum`.
 pub record TablesAgree {A B : Type 0} (o : Ops) (number : A → ℕ) (represented : B → ℕ) (evals : Poly A) (weights : Poly B) (sum : ℕ) : Type 0 where

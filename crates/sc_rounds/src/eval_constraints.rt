@@ -3,7 +3,7 @@ ghost use Rattle.std.specs.Prelude.{◌≡◌, ◌≤◌, All, IfOk, length, map
 ghost use Rattle.sc_definitions.specs.Tables.{Order, point_of};
 ghost use Rattle.sc_statements.specs.Constraints.{constraint_arity};
 ghost use Rattle.sc_table.specs.Strategy.{order_of};
-ghost use Rattle.sc_rounds.specs.ConstraintValues.{last_of, constraints_value};
+ghost use Rattle.sc_statements.specs.ConstraintValues.{last_of, constraints_value};
 
 use sc_field::{ExtensionField, Field, NoMemory};
 use sc_statements::Constraint;

@@ -20,14 +20,8 @@ ghost use Rattle.std.specs.Prelude.{
 };
 ghost use Rattle.sc_definitions.specs.Tables.{entries};
 ghost use Rattle.sc_rounds.specs.Products.{variables_in, sum_in};
-ghost use Rattle.sc_rounds.specs.Provers.{
-  IsLeftFor,
-  shown_of,
-  held_shown,
-  sum_with,
-  IsTrueClaim,
-  with_added,
-};
+ghost use Rattle.sc_rounds.specs.Provers.{IsLeftFor, shown_of, held_shown};
+ghost use Rattle.sc_definitions.specs.Shown.{sum_with, IsTrueClaim, with_added};
 
 use crate::product_polynomial::ProductPolynomial;
 use sc_challenger::Challenger;
@@ -55,14 +49,19 @@ impl<F: Field, EF: ExtensionField<F>> HeldProduct<F, EF> {
     ghost use Rattle.sc_definitions.specs.Channels.{channel};
     ghost use Rattle.sc_transcript.specs.Data.{wire_in};
     ghost use Rattle.sc_transcript.specs.Drivers.{driver_in, Continues, HasRoundLeft};
-    ghost use Rattle.sc_rounds.specs.Standings.{Moves, Counts, LeavesBatch};
-    ghost use Rattle.sc_rounds.specs.Provers.{
-      stated,
-      IsTrueConstraint,
+    ghost use Rattle.sc_transcript.specs.Batches.{
+      Moves,
+      Counts,
+      LeavesBatch,
+      HoldsBatch,
+      GoesOn,
+      HoldsIfMore,
+    };
+    ghost use Rattle.sc_rounds.specs.Provers.{stated, IsTrueConstraint, with_taken};
+    ghost use Rattle.sc_definitions.specs.Shown.{
       message_shown,
       with_bound,
       with_scaled,
-      with_taken,
       setting_at,
       standing_at,
     };
@@ -77,9 +76,6 @@ impl<F: Field, EF: ExtensionField<F>> HeldProduct<F, EF> {
       course_over,
       batch_asked,
       Holds,
-      HoldsBatch,
-      GoesOn,
-      HoldsIfMore,
     };
 
     // No challenge is held yet.

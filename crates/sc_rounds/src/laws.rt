@@ -5,7 +5,7 @@ ghost use Rattle.sc_transcript.specs.Data.{wire_in};
 ghost use Rattle.sc_transcript.specs.Shapes.{shape_of};
 ghost use Rattle.sc_rounds.specs.Provers.{claim_with, stated_if_some};
 ghost use Rattle.sc_rounds.specs.ProverViews.{shown_by, IsNoneOrTrueOf, standing_of, batch_of};
-ghost use Rattle.sc_rounds.specs.Laws.{BatchesReplay, ReplaysAgree, NoneIsInvalid, LeavesStep};
+ghost use Rattle.sc_transcript.specs.Steps.{BatchesReplay, ReplaysAgree, NoneIsInvalid, LeavesStep};
 
 use crate::strategy::SumcheckProver;
 use sc_challenger::Challenger;

@@ -37,7 +37,8 @@ impl<F: Field, EF: ExtensionField<F>> ProductPolynomial<F, EF> {
       pair_message,
       BindsPair,
     };
-    ghost use Rattle.sc_rounds.specs.Standings.{setting_on, standing_on, Moves, MovesHonestly, Counts, TakesItsRoom};
+    ghost use Rattle.sc_rounds.specs.Standings.{setting_on, standing_on};
+    ghost use Rattle.sc_transcript.specs.Batches.{Moves, MovesHonestly, Counts, TakesItsRoom};
 
     /// The pair of these tables, which have as many variables.
     pub fn new_unpacked(order: VariableOrder, evals: Poly<EF>, weights: Poly<EF>) -> Self

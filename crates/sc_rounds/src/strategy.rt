@@ -24,10 +24,8 @@ ghost use Rattle.sc_definitions.specs.Tables.{entries, rows_of, value};
 ghost use Rattle.sc_table.specs.Polys.{variables_of};
 ghost use Rattle.sc_table.specs.Strategy.{order_of};
 ghost use Rattle.sc_rounds.specs.Products.{sum_in, numbers_of};
-ghost use Rattle.sc_rounds.specs.Provers.{
-  shown_of,
-  held_shown,
-  number_if_some,
+ghost use Rattle.sc_rounds.specs.Provers.{shown_of, held_shown, number_if_some};
+ghost use Rattle.sc_definitions.specs.Shown.{
   honest_shown,
   with_bound,
   with_scaled,
@@ -65,8 +63,8 @@ pub struct SumcheckProver<F: Field, EF: ExtensionField<F>> {
 
 impl<F: Field, EF: ExtensionField<F>> SumcheckProver<F, EF> {
     ghost use Rattle.sc_transcript.specs.Shapes.{shape_of};
-    ghost use Rattle.sc_rounds.specs.Standings.{LeavesBatch};
-    ghost use Rattle.sc_rounds.specs.HeldProducts.{Holds, HoldsBatch};
+    ghost use Rattle.sc_transcript.specs.Batches.{LeavesBatch, HoldsBatch};
+    ghost use Rattle.sc_rounds.specs.HeldProducts.{Holds};
     ghost use Rattle.sc_rounds.specs.ProverViews.{
       shown_by,
       stored_by,

@@ -3,3 +3,4 @@ pub mod GroupValues
 pub mod FalseGroups
 pub mod ClaimGroups
 pub mod ExcessGroups
+pub mod ConstraintPoints

@@ -6,3 +6,5 @@ pub mod ReplayedLaws
 pub mod RoundRoom
 pub mod Lent
 pub mod GivenRounds
+pub mod BatchLaws
+pub mod InStep

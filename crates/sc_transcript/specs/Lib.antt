@@ -4,3 +4,5 @@ pub mod Drivers
 pub mod Data
 pub mod Laws
 pub mod Replayed
+pub mod Batches
+pub mod Steps

@@ -13,11 +13,11 @@ use Rattle.sc_definitions.proofs.BuildLaws.{built-residual, first_false_claim-al
 use Rattle.sc_statements.specs.FalseClaims.{capped}
 use Rattle.sc_table.specs.declared.strategy.Strategy.{Strategy}
 use Rattle.sc_verdicts.specs.declared.error.AuditError.{AuditError}
-use Rattle.sc_audit.specs.Cases.{build, Asked, start_of}
-use Rattle.sc_audit.specs.Refusals.{or_later, strategy_refusal, shape_refusal, refusal_for, false_refusal, refusal_of}
+use Rattle.sc_jobs.specs.Cases.{build, Asked, start_of}
+use Rattle.sc_jobs.specs.Refusals.{or_later, strategy_refusal, shape_refusal, refusal_for, false_refusal, refusal_of}
 use Rattle.sc_verdicts.specs.Findings.{holds}
-use Rattle.sc_audit.specs.Figures.{Reported, finding_by, false_claim_of, is_matched, figures_of}
-use Rattle.sc_audit.specs.Audits.{figures_from}
+use Rattle.sc_jobs.specs.Figures.{Reported, finding_by, false_claim_of, is_matched, figures_of}
+use Rattle.sc_jobs.specs.Audits.{figures_from}
 use Rattle.sc_small_fields.specs.ResiduesLaws.{residues_field}
 use Rattle.sc_small_fields.specs.F257x2Laws.{f257x2_field}
 use Rattle.sc_sixteen.specs.SixteenLaws.{tower_field}

@@ -12,12 +12,12 @@ use Rattle.sc_definitions.specs.Problem.{honest_of}
 use Rattle.sc_definitions.proofs.BuiltLaws.{length-messages, length-challenges}
 use Rattle.sc_definitions.proofs.ReplayLaws.{length-given_rounds, messages-given_rounds}
 use Rattle.sc_definitions.proofs.LuckyLaws.{AllSend, IsPair}
-use Rattle.sc_audit.specs.Cases.{Given, Task, build, check, Asked, start_of}
-use Rattle.sc_audit.specs.Refusals.{missing_refusal, count_refusal, shape_refusal, refusal_for, refusal_of}
-use Rattle.sc_audit.specs.Audits.{figures_from}
-use Rattle.sc_audit.specs.Certified.{CertifiesLuck}
-use Rattle.sc_audit.proofs.CountLaws.{count-rounds}
-use Rattle.sc_audit.proofs.Certified.{SendsPairs, certified_pairs, certified_held}
+use Rattle.sc_jobs.specs.Cases.{Given, Task, build, check, Asked, start_of}
+use Rattle.sc_jobs.specs.Refusals.{missing_refusal, count_refusal, shape_refusal, refusal_for, refusal_of}
+use Rattle.sc_jobs.specs.Audits.{figures_from}
+use Rattle.sc_jobs.specs.Certified.{CertifiesLuck}
+use Rattle.sc_jobs.proofs.CountLaws.{count-rounds}
+use Rattle.sc_jobs.proofs.Certified.{SendsPairs, certified_pairs, certified_held}
 use Rattle.sumcheck_jobs.specs.declared.job.FieldName.{FieldName}
 use Rattle.sumcheck_jobs.specs.declared.job.FieldName.TheVariants.{F65537, F257x2, F16}
 use Rattle.sumcheck_jobs.specs.declared.job.Group.{Group}

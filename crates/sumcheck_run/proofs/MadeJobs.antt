@@ -27,10 +27,10 @@ use Rattle.sc_statements.specs.FalseClaims.{capped}
 use Rattle.sc_svo.specs.Grids.{most_rounds}
 use Rattle.sc_verdicts.specs.declared.error.AuditError.TheVariants.{StrategyUnfit}
 use Rattle.sc_verdicts.specs.declared.error.FitFault.TheVariants.{Variables}
-use Rattle.sc_audit.specs.Cases.{build, Asked}
+use Rattle.sc_jobs.specs.Cases.{build, Asked}
 use Rattle.sc_verdicts.specs.Arities.{exponent_from, arity_of}
-use Rattle.sc_audit.specs.Refusals.{or_later, variables_refusal, first_unfit, strategy_refusal, shape_by, false_refusal, shape_refusal, refusal_of}
-use Rattle.sc_audit.specs.Stated.{asked_truly}
+use Rattle.sc_jobs.specs.Refusals.{or_later, variables_refusal, first_unfit, strategy_refusal, shape_by, false_refusal, shape_refusal, refusal_of}
+use Rattle.sc_jobs.specs.Stated.{asked_truly}
 use Rattle.sc_verdicts.proofs.ArityLaws.{exponent-next, exponent-found}
 use Rattle.sumcheck_run.specs.declared.command.Recipe.{Recipe}
 use Rattle.sumcheck_replies.specs.declared.reply.Outcome.TheVariants.{Holds}

@@ -15,16 +15,16 @@ use Rattle.sumcheck_jobs.specs.ProductJob.{product_job_of}
 use Rattle.sumcheck_jobs.specs.declared.member.Member.{Member}
 use Rattle.sc_verdicts.specs.declared.error.AuditError.{AuditError}
 use Rattle.sc_verdicts.specs.declared.error.AuditError.TheVariants.{JobShape, StrategyUnfit, FalseClaim, MissingSumcheckData, RoundCountMismatch, PowWitnessCountMismatch, InvalidPowWitness, NoWitness, NoMemory}
-use Rattle.sc_audit.specs.Refusals.{refusal_of}
+use Rattle.sc_jobs.specs.Refusals.{refusal_of}
 use Rattle.sc_verdicts.specs.Findings.{Finding, holds, refuted, lucky}
-use Rattle.sc_audit.specs.Figures.{Reported}
+use Rattle.sc_jobs.specs.Figures.{Reported}
 use Rattle.sc_definitions.specs.declared.events.Event.{Event}
 use Rattle.sc_definitions.specs.Events.{Rules}
 use Rattle.sc_definitions.specs.Transcript.{Round}
 use Rattle.sc_degree.specs.declared.error.GenericDegreeError.{GenericDegreeError}
 use Rattle.sc_degree.specs.declared.error.GenericDegreeError.TheVariants as degree
 use Rattle.sc_verdicts.specs.declared.error.ShapeFault.{ShapeFault}
-use Rattle.sc_audit.specs.Cases.{Asked}
+use Rattle.sc_jobs.specs.Cases.{Asked}
 use Rattle.sumcheck_replies.specs.Fields.{Fields, fields_of}
 use Rattle.sumcheck_replies.specs.Refusals.{refusal_reply, finding_reply}
 use Rattle.sumcheck_run.specs.Report.{asked_by, report_lines, rounds_of, report_from, rounds_reply, reply_by, case_reply, judge_over}

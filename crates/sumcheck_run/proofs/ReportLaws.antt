@@ -13,10 +13,10 @@ use Rattle.sc_definitions.specs.Problem.{honest_of}
 use Rattle.sc_table.specs.Strategy.{order_of}
 use Rattle.sc_verdicts.specs.declared.error.AuditError.{AuditError}
 use Rattle.sc_verdicts.specs.declared.error.AuditError.TheVariants.{InvalidPowWitness, NoWitness, NoMemory}
-use Rattle.sc_audit.specs.Cases.{Task, build, check, Asked, start_of}
-use Rattle.sc_audit.specs.Refusals.{refusal_of}
-use Rattle.sc_audit.specs.Figures.{Figures, Reported, figures_of}
-use Rattle.sc_audit.specs.Audits.{AreRounds, IsPlayed, IsAudited, WitnessFails, FindsNoWitness, IsCaused, IsRefusedBy, figures_from, grids_for}
+use Rattle.sc_jobs.specs.Cases.{Task, build, check, Asked, start_of}
+use Rattle.sc_jobs.specs.Refusals.{refusal_of}
+use Rattle.sc_jobs.specs.Figures.{Figures, Reported, figures_of}
+use Rattle.sc_jobs.specs.Audits.{AreRounds, IsPlayed, IsAudited, WitnessFails, FindsNoWitness, IsCaused, IsRefusedBy, figures_from, grids_for}
 use Rattle.sumcheck_jobs.specs.declared.job.Job.{Job}
 use Rattle.sumcheck_jobs.specs.Statements.{all_claims}
 use Rattle.sumcheck_replies.specs.Fields.{Fields}

@@ -1,10 +1,10 @@
 -- What is certified of the reply to a job.
 use Rattle.std.specs.Prelude.{◌≡◌, List, None, Ok}
 use Rattle.sc_definitions.specs.Transcript.{Round}
-use Rattle.sc_audit.specs.Cases.{Asked}
-use Rattle.sc_audit.specs.Refusals.{refusal_of}
-use Rattle.sc_audit.specs.Audits.{figures_from}
-use Rattle.sc_audit.specs.Certified.{CertifiesLuck}
+use Rattle.sc_jobs.specs.Cases.{Asked}
+use Rattle.sc_jobs.specs.Refusals.{refusal_of}
+use Rattle.sc_jobs.specs.Audits.{figures_from}
+use Rattle.sc_jobs.specs.Certified.{CertifiesLuck}
 use Rattle.sumcheck_jobs.specs.declared.job.Job.{Job}
 use Rattle.sumcheck_replies.specs.Fields.{fields_of}
 use Rattle.sumcheck_run.specs.Report.{asked_by, rounds_of}

@@ -10,8 +10,8 @@ use Rattle.sc_definitions.specs.Scripted.{scripted_rules}
 use Rattle.sc_definitions.specs.Channels.{channel}
 use Rattle.sc_definitions.specs.Problem.{Problem}
 use Rattle.sc_table.specs.declared.strategy.Strategy.{Strategy}
-use Rattle.sc_audit.specs.Cases.{build, Asked}
-use Rattle.sc_audit.specs.Figures.{Reported}
+use Rattle.sc_jobs.specs.Cases.{build, Asked}
+use Rattle.sc_jobs.specs.Figures.{Reported}
 use Rattle.sumcheck_run.specs.declared.command.Recipe.{Recipe}
 use Rattle.sumcheck_run.specs.declared.made.Parts.{Parts as PartsOf}
 use Rattle.sumcheck_replies.specs.Reply.{Reply}

@@ -11,10 +11,10 @@ use Rattle.sc_definitions.specs.Problem.{Problem, honest_of}
 use Rattle.sc_table.specs.Strategy.{order_of}
 use Rattle.sc_verdicts.specs.declared.error.AuditError.{AuditError}
 use Rattle.sc_verdicts.specs.declared.error.AuditError.TheVariants.{InvalidPowWitness, NoWitness}
-use Rattle.sc_audit.specs.Cases.{Case, Given, Task, build, check, Asked, start_of}
-use Rattle.sc_audit.specs.Refusals.{refusal_of}
-use Rattle.sc_audit.specs.Figures.{Figures, Reported}
-use Rattle.sc_audit.specs.Audits.{figures_from, grids_for}
+use Rattle.sc_jobs.specs.Cases.{Case, Given, Task, build, check, Asked, start_of}
+use Rattle.sc_jobs.specs.Refusals.{refusal_of}
+use Rattle.sc_jobs.specs.Figures.{Figures, Reported}
+use Rattle.sc_jobs.specs.Audits.{figures_from, grids_for}
 use Rattle.sumcheck_jobs.specs.declared.job.Job.{Job}
 use Rattle.sumcheck_jobs.specs.declared.job.Proof.{Proof}
 use Rattle.sumcheck_jobs.specs.declared.job.Mode.{Mode}

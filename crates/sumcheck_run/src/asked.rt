@@ -2,7 +2,7 @@
 ghost use Rattle.std.specs.Prelude.{◌≡◌, ◌<◌, List, All, IfOk, map};
 ghost use Rattle.sc_definitions.specs.declared.events.Event.{Event};
 ghost use Rattle.sc_definitions.specs.Events.{Rules};
-ghost use Rattle.sc_audit.specs.Cases.{asked_of, given_in, task_in};
+ghost use Rattle.sc_jobs.specs.Cases.{asked_of, given_in, task_in};
 ghost use Rattle.sumcheck_jobs.specs.Job.{JobFits, ModeFits, ProofFits};
 ghost use Rattle.sc_transcript.specs.Data.{pair_of};
 ghost use Rattle.sumcheck_run.specs.Report.{asked_with, given_of, task_of, values_of};

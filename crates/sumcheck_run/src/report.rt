@@ -1,9 +1,9 @@
 //! The answer to a job.
 ghost use Rattle.std.specs.Prelude.{◌≡◌, ◌⊎◌, ◌<◌, ◌++◌, IfOk, OnOk, None, [], map, string_bytes};
 ghost use Rattle.sc_transcript.specs.Data.{pair_of};
-ghost use Rattle.sc_audit.specs.Cases.{asked_of};
-ghost use Rattle.sc_audit.specs.Figures.{report_in, finding_in};
-ghost use Rattle.sc_audit.specs.Refusals.{refusal_of};
+ghost use Rattle.sc_jobs.specs.Cases.{asked_of};
+ghost use Rattle.sc_jobs.specs.Figures.{report_in, finding_in};
+ghost use Rattle.sc_jobs.specs.Refusals.{refusal_of};
 ghost use Rattle.sumcheck_jobs.specs.Elements.{sizes_of};
 ghost use Rattle.sumcheck_jobs.specs.Job.{JobFits};
 ghost use Rattle.sumcheck_replies.specs.Lines.{round_lines};

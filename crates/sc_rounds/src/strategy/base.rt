@@ -18,7 +18,7 @@ ghost use Rattle.std.specs.Prelude.{
 ghost use Rattle.sc_definitions.specs.Ring.{◌*⟨◌⟩◌};
 ghost use Rattle.sc_definitions.specs.Tables.{entries, sum_below};
 ghost use Rattle.sc_table.specs.Polys.{variables_of};
-ghost use Rattle.sc_rounds.specs.Provers.{IsTrueClaim};
+ghost use Rattle.sc_definitions.specs.Shown.{IsTrueClaim};
 ghost use Rattle.sc_rounds.specs.BaseProducts.{based, BaseAgrees};
 
 use crate::held_product::HeldProduct;
@@ -52,11 +52,17 @@ impl<'a, F: Field, EF: ExtensionField<F>> BaseProduct<'a, F, EF> {
     ghost use Rattle.sc_transcript.specs.Data.{wire_in};
     ghost use Rattle.sc_transcript.specs.Drivers.{driver_in, Continues, HasRoundLeft, IsDone};
     ghost use Rattle.sc_transcript.specs.Shapes.{shape_of};
-    ghost use Rattle.sc_rounds.specs.Standings.{IsHalted, Counts, PlaysWhole};
-    ghost use Rattle.sc_rounds.specs.Provers.{message_shown, with_bound};
+    ghost use Rattle.sc_transcript.specs.Batches.{
+      IsHalted,
+      Counts,
+      PlaysWhole,
+      PlaysFrom,
+      StopsFrom,
+      BreaksOffAt,
+    };
+    ghost use Rattle.sc_definitions.specs.Shown.{message_shown, with_bound};
     ghost use Rattle.sc_rounds.specs.ProverViews.{shown_by, standing_of};
     ghost use Rattle.sc_rounds.specs.HeldProducts.{shown_in, setting_over, standing_over};
-    ghost use Rattle.sc_rounds.specs.BaseProducts.{PlaysFrom, StopsFrom, BreaksOffAt};
     ghost use Rattle.sc_rounds.specs.BaseViews.{base_shown, base_batch_of};
 
     /// The table, which has as many rows as the weights, with a claim that is true, as

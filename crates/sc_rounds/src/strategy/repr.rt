@@ -2,7 +2,8 @@
 ghost use Rattle.std.specs.Prelude.{◌≡◌, ◌↔◌, ℕ, ◌≤◌, None, Err, IfOk, IfErr, OnErr, IsTrue, map};
 ghost use Rattle.sc_table.specs.Polys.{variables_of, table_of};
 ghost use Rattle.sc_rounds.specs.Products.{numbers_of};
-ghost use Rattle.sc_rounds.specs.Provers.{held_shown, number_if_some, IsTrueClaim};
+ghost use Rattle.sc_rounds.specs.Provers.{held_shown, number_if_some};
+ghost use Rattle.sc_definitions.specs.Shown.{IsTrueClaim};
 
 use crate::held_product::HeldProduct;
 use crate::product_polynomial::{ProductPolynomial, dot};
@@ -29,8 +30,7 @@ pub struct ReprSumcheckProver<F: Field, EF: ExtensionField<F>, R: IntoTranscript
 
 impl<F: Field, EF: ExtensionField<F>, R: IntoTranscriptField<EF>> ReprSumcheckProver<F, EF, R> {
     ghost use Rattle.sc_transcript.specs.Shapes.{shape_of};
-    ghost use Rattle.sc_rounds.specs.Standings.{LeavesBatch};
-    ghost use Rattle.sc_rounds.specs.HeldProducts.{HoldsBatch};
+    ghost use Rattle.sc_transcript.specs.Batches.{LeavesBatch, HoldsBatch};
     ghost use Rattle.sc_rounds.specs.ProverViews.{
       shown_by,
       stored_by,

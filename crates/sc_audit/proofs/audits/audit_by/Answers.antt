@@ -1,12 +1,12 @@
 use Rattle.std.proofs.Common.{◌≡◌, None, sym, ◌∙◌, ap}
 use Rattle.std.specs.Option.{option_map}
-use Rattle.sc_audit.specs.Cases.{build, check, given_in, task_in, asked_of, asked_to}
-use Rattle.sc_audit.specs.Fitting.{job_in}
-use Rattle.sc_audit.specs.Refusals.{task_refusal}
+use Rattle.sc_jobs.specs.Cases.{build, check, given_in, task_in, asked_of, asked_to}
+use Rattle.sc_jobs.specs.Fitting.{job_in}
+use Rattle.sc_jobs.specs.Refusals.{task_refusal}
 use Rattle.sc_audit.specs.SmallRounds.{strategy_by}
-use Rattle.sc_audit.proofs.StatedLaws.{given-way, way-unrefused}
-use Rattle.sc_audit.proofs.CauseLaws.{unrefused, answers_as, refused_by_name, no_earlier, shape_as, valid_answered}
-use Rattle.sc_audit.proofs.Certified.{claimed-low, proof_pairs, certified_answer, held_figures, held-as, unheld}
+use Rattle.sc_audit.proofs.WayLaws.{given-way, way-unrefused}
+use Rattle.sc_jobs.proofs.CauseLaws.{unrefused, answers_as, refused_by_name, no_earlier, shape_as, valid_answered}
+use Rattle.sc_jobs.proofs.Certified.{claimed-low, proof_pairs, certified_answer, held_figures, held-as, unheld}
 use Rattle.sc_audit.proofs.audits.audit_by.Goals as goal
 
 -- a way that is given is that of the job's build, of which nothing is refused

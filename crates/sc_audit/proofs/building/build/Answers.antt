@@ -1,10 +1,10 @@
 use Rattle.std.proofs.Common.{◌≡◌, None, refl, sym, ◌∙◌, ap}
 use Rattle.sc_statements.specs.FalseClaims.{capped}
-use Rattle.sc_audit.specs.Cases.{asked_to, build, problem_in}
-use Rattle.sc_audit.specs.Refusals.{or_later, false_refusal, task_refusal}
-use Rattle.sc_audit.specs.Figures.{false_claim_of}
-use Rattle.sc_audit.proofs.CauseLaws.{answers_as, answers_err, unfit_caused, unrefused, refused_as}
-use Rattle.sc_audit.proofs.ClaimTests.{refused_passed, claims_caused, claims_refused}
+use Rattle.sc_jobs.specs.Cases.{asked_to, build, problem_in}
+use Rattle.sc_jobs.specs.Refusals.{or_later, false_refusal, task_refusal}
+use Rattle.sc_jobs.specs.Figures.{false_claim_of}
+use Rattle.sc_jobs.proofs.CauseLaws.{answers_as, answers_err, unfit_caused, unrefused, refused_as}
+use Rattle.sc_jobs.proofs.ClaimTests.{refused_passed, claims_caused, claims_refused}
 use Rattle.sc_audit.proofs.building.build.Goals as goal
 
 -- the strategy does not fit

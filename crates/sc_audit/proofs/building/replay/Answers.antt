@@ -3,11 +3,11 @@ use Rattle.sc_definitions.specs.Tables.{evaluation}
 use Rattle.sc_definitions.specs.Rounds.{next_claim}
 use Rattle.sc_definitions.specs.Replays.{given_rounds}
 use Rattle.sc_definitions.specs.Channels.{footing, IsReplayed}
-use Rattle.sc_audit.specs.Cases.{asked_to, build}
+use Rattle.sc_jobs.specs.Cases.{asked_to, build}
 use Rattle.sc_audit.specs.Built.{kept_in}
-use Rattle.sc_audit.proofs.CauseLaws.{caused_err}
-use Rattle.sc_audit.proofs.FigureLaws.{start_is}
-use Rattle.sc_audit.proofs.BuiltReports.{report_built, replay_broken}
+use Rattle.sc_jobs.proofs.CauseLaws.{caused_err}
+use Rattle.sc_jobs.proofs.FigureLaws.{start_is}
+use Rattle.sc_jobs.proofs.BuiltReports.{report_built, replay_broken}
 use Rattle.sc_audit.proofs.building.replay.Goals as goal
 
 -- what was built is reported on

@@ -1,17 +1,13 @@
-use Rattle.std.proofs.Common.{◌≡◌, Some, sym, ◌∙◌, ap, map, subst}
+use Rattle.std.proofs.Common.{◌≡◌, Some, sym, ◌∙◌, ap, map}
 use Rattle.std.proofs.lemmas.List.{length-map}
-use Rattle.sc_definitions.specs.Tables.{evaluation}
-use Rattle.sc_definitions.specs.Rounds.{next_claim}
-use Rattle.sc_definitions.specs.Replays.{given_rounds}
-use Rattle.sc_definitions.specs.Channels.{footing, IsReplayed}
+use Rattle.sc_definitions.specs.Channels.{footing}
 use Rattle.sc_definitions.specs.Problem.{claim_of}
 use Rattle.sc_claims.proofs.BatchSteps.{claim-alone}
-use Rattle.sc_transcript.specs.Data.{witness_count}
-use Rattle.sc_audit.specs.Cases.{asked_of, with_task, check, problem_in, given_in}
-use Rattle.sc_audit.proofs.CauseLaws.{unrefused, caused_err, refused_err}
-use Rattle.sc_audit.proofs.CountLaws.{count-none}
-use Rattle.sc_audit.proofs.FigureLaws.{claim-batched, start_is}
-use Rattle.sc_audit.proofs.CheckedReports.{residual_checked, challenges_checked, report_checked, proof_refused, counts_refused}
+use Rattle.sc_jobs.specs.Cases.{asked_of, with_task, check, problem_in, given_in}
+use Rattle.sc_jobs.proofs.CauseLaws.{unrefused, caused_err, refused_err}
+use Rattle.sc_jobs.proofs.CountLaws.{count-none}
+use Rattle.sc_jobs.proofs.FigureLaws.{claim-batched, start_is}
+use Rattle.sc_jobs.proofs.CheckedReports.{checked_whole, residual_checked, challenges_checked, report_checked, proof_refused, counts_refused}
 use Rattle.sc_audit.proofs.checking.check_rounds.Goals as goal
 
 -- the claim that the replay begins with
@@ -28,13 +24,10 @@ report_on-requires-clause-count g c =
     let claim : N c.combine_evals.new.eval ≡ claim_of g.EF.Field.ops (problem_in job) =
     claim-batched g.EF.Field.ops _ _ (claim-alone g.EF.Field.ops g.met.EF.Field.is_field.ring _ _ _ _ _ (ap N c.ZERO-claim.ensures ∙ g.met.EF.Field.zero_is) c.combine_evals.ensures) in
     let start = start_is q _ _ _ (sym g.met.EF.ExtensionField.degree_is) c.num_variables.ensures claim in
-    let counts = c.in-Ok.ensures.left.0 in
-    let messages = counts.rounds ∙ c.num_variables.ensures in
-    let witnesses = counts.witnesses ∙ ap (witness_count job.pow_bits) c.num_variables.ensures in
     let end = footing (g.C.Challenger.history c.verify_rounds.new.challenger) (N c.verify_rounds.new.claimed_sum) in
     let out = map N c.in-Ok.challenges in
-    let replayed = subst (λ f. IsReplayed (next_claim evaluation g.EF.Field.ops) q.channel f end (given_rounds given.messages given.witnesses) out) start c.in-Ok.ensures.left.1 in
-    sym (length-map c.in-Ok.challenges N) ∙ challenges_checked q given end out replayed messages witnesses
+    let whole = checked_whole q given end out _ _ c.num_variables.ensures start c.in-Ok.ensures.left in
+    sym (length-map c.in-Ok.challenges N) ∙ challenges_checked q given end out whole
 
 pub report_on-requires-clause-residual : goal.report_on-requires-clause-residual
 report_on-requires-clause-residual g c =
@@ -45,13 +38,10 @@ report_on-requires-clause-residual g c =
     let claim : N c.combine_evals.new.eval ≡ claim_of g.EF.Field.ops (problem_in job) =
     claim-batched g.EF.Field.ops _ _ (claim-alone g.EF.Field.ops g.met.EF.Field.is_field.ring _ _ _ _ _ (ap N c.ZERO-claim.ensures ∙ g.met.EF.Field.zero_is) c.combine_evals.ensures) in
     let start = start_is q _ _ _ (sym g.met.EF.ExtensionField.degree_is) c.num_variables.ensures claim in
-    let counts = c.in-Ok.ensures.left.0 in
-    let messages = counts.rounds ∙ c.num_variables.ensures in
-    let witnesses = counts.witnesses ∙ ap (witness_count job.pow_bits) c.num_variables.ensures in
     let end = footing (g.C.Challenger.history c.verify_rounds.new.challenger) (N c.verify_rounds.new.claimed_sum) in
     let out = map N c.in-Ok.challenges in
-    let replayed = subst (λ f. IsReplayed (next_claim evaluation g.EF.Field.ops) q.channel f end (given_rounds given.messages given.witnesses) out) start c.in-Ok.ensures.left.1 in
-    residual_checked q given end out replayed messages witnesses
+    let whole = checked_whole q given end out _ _ c.num_variables.ensures start c.in-Ok.ensures.left in
+    residual_checked q given end out whole
 
 -- a replay that was reported on
 pub returns-clause-task : goal.returns-clause-task
@@ -63,15 +53,12 @@ returns-clause-task g c =
     let claim : N c.combine_evals.new.eval ≡ claim_of g.EF.Field.ops (problem_in job) =
     claim-batched g.EF.Field.ops _ _ (claim-alone g.EF.Field.ops g.met.EF.Field.is_field.ring _ _ _ _ _ (ap N c.ZERO-claim.ensures ∙ g.met.EF.Field.zero_is) c.combine_evals.ensures) in
     let start = start_is q _ _ _ (sym g.met.EF.ExtensionField.degree_is) c.num_variables.ensures claim in
-    let counts = c.in-Ok.ensures.left.0 in
-    let messages = counts.rounds ∙ c.num_variables.ensures in
-    let witnesses = counts.witnesses ∙ ap (witness_count job.pow_bits) c.num_variables.ensures in
     let end = footing (g.C.Challenger.history c.verify_rounds.new.challenger) (N c.verify_rounds.new.claimed_sum) in
     let out = map N c.in-Ok.challenges in
-    let replayed = subst (λ f. IsReplayed (next_claim evaluation g.EF.Field.ops) q.channel f end (given_rounds given.messages given.witnesses) out) start c.in-Ok.ensures.left.1 in
+    let whole = checked_whole q given end out _ _ c.num_variables.ensures start c.in-Ok.ensures.left in
     record {
-      answers = report_checked q given end out replayed messages witnesses g.F.Field.number N _ c.report_on.result c.report_on.ensures;
-      refused = unrefused _ _ (count-none (problem_in job).variables job.pow_bits given messages witnesses);
+      answers = report_checked q given end out whole g.F.Field.number N _ c.report_on.result c.report_on.ensures;
+      refused = unrefused _ _ (count-none (problem_in job).variables job.pow_bits given whole.count whole.found);
     }
 
 -- a replay that was refused

@@ -7,9 +7,9 @@ use Rattle.sc_definitions.specs.Lucky.{luck_of}
 use Rattle.sc_table.specs.Strategy.{order_of}
 use Rattle.sc_transcript.specs.Data.{messages_in, witnesses_in}
 use Rattle.sc_svo.specs.Grids.{grid_shown}
-use Rattle.sc_audit.specs.Cases.{problem_in}
-use Rattle.sc_audit.specs.Figures.{finding_by, false_claim_of, is_matched}
-use Rattle.sc_audit.proofs.FigureLaws.{figures-are, matched-by, eval-at_slice, weight-at}
+use Rattle.sc_jobs.specs.Cases.{problem_in}
+use Rattle.sc_jobs.specs.Figures.{finding_by, false_claim_of, is_matched}
+use Rattle.sc_jobs.proofs.FigureLaws.{figures-are, matched-by, eval-at_slice, weight-at}
 use Rattle.sc_audit.proofs.checking.report_on.Goals as goal
 
 pub returns : goal.returns

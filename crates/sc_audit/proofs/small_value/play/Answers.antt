@@ -10,7 +10,7 @@ use Rattle.sc_transcript.proofs.ReplayedLaws.{same_channel}
 use Rattle.sc_rounds.specs.Provers.{shown_of}
 use Rattle.sc_rounds.specs.HeldProducts.{standing_over}
 use Rattle.sc_svo.specs.Batches.{batch_in}
-use Rattle.sc_audit.specs.Cases.{problem_in}
+use Rattle.sc_jobs.specs.Cases.{problem_in}
 use Rattle.sc_audit.specs.SmallRounds.{setting_for, begun_for}
 use Rattle.sc_audit.proofs.DrawnLaws.{drawn_wants}
 use Rattle.sc_audit.proofs.LeftPairs.{begun_true, bound_as, left_sum, left_played, left_stops, plays_stopped}

@@ -8,12 +8,13 @@ use Rattle.sc_transcript.specs.declared.transcript.SumcheckShape.{SumcheckShape}
 use Rattle.sc_transcript.specs.declared.error.SumcheckError.TheVariants.{NoMemory}
 use Rattle.sc_transcript.proofs.ReplayedLaws.{same_channel}
 use Rattle.sc_transcript.proofs.Lent.{returned}
-use Rattle.sc_rounds.specs.Provers.{shown_of, setting_at, standing_at}
-use Rattle.sc_rounds.specs.Standings.{Batch, batch_at}
-use Rattle.sc_rounds.proofs.BatchLaws.{same_setting, played_at, sum_at}
+use Rattle.sc_rounds.specs.Provers.{shown_of}
+use Rattle.sc_definitions.specs.Shown.{setting_at, standing_at}
+use Rattle.sc_transcript.specs.Batches.{Batch, batch_at}
+use Rattle.sc_transcript.proofs.BatchLaws.{same_setting, played_at, sum_at}
 use Rattle.sc_rounds.proofs.BaseLaws.{breaks_batch, whole_as, breaks_as}
-use Rattle.sc_audit.specs.Cases.{problem_in}
-use Rattle.sc_audit.specs.Built.{prover_for}
+use Rattle.sc_jobs.specs.Cases.{problem_in}
+use Rattle.sc_jobs.specs.BuiltCases.{prover_for}
 use Rattle.sc_audit.proofs.LeftPairs.{rounds_broken}
 use Rattle.sc_audit.proofs.small_value.play_all.Goals as goal
 

@@ -4,7 +4,7 @@ use Rattle.sc_transcript.proofs.ReplayedLaws.{same_channel}
 use Rattle.sc_transcript.specs.declared.transcript.SumcheckShape.{SumcheckShape}
 use Rattle.sc_rounds.specs.declared.product_polynomial.ProductPolynomial.{ProductPolynomial}
 use Rattle.sc_rounds.specs.Products.{variables_in}
-use Rattle.sc_rounds.proofs.BatchLaws.{fits, less_by_one, some_left, less_at, room_at, all_played, sum_at, same_setting, one_round_more, stops, begun_within}
+use Rattle.sc_transcript.proofs.BatchLaws.{fits, less_by_one, some_left, less_at, room_at, all_played, sum_at, same_setting, one_round_more, stops, begun_within}
 use Rattle.sc_audit.proofs.small_value.play_rest.Goals as goal
 
 pub loop-round-init : goal.loop-round-init

@@ -7,7 +7,7 @@ use Rattle.sc_transcript.specs.Drivers.{driver_in, channel_of}
 use Rattle.sc_transcript.specs.declared.transcript.SumcheckShape.{SumcheckShape}
 use Rattle.sc_transcript.specs.declared.error.SumcheckError.TheVariants.{NoMemory}
 use Rattle.sc_transcript.proofs.ReplayedLaws.{same_channel}
-use Rattle.sc_rounds.proofs.BatchLaws.{fits}
+use Rattle.sc_transcript.proofs.BatchLaws.{fits}
 use Rattle.sc_svo.specs.Batches.{batch_in, honest_of}
 use Rattle.sc_svo.specs.Grids.{grid_shown, grids_shown}
 use Rattle.sc_audit.specs.SmallRounds.{setting_for, begun_for}

@@ -5,7 +5,8 @@ use Rattle.sc_definitions.specs.Problem.{Problem, claim_of}
 use Rattle.sc_transcript.specs.Data.{wire_in}
 use Rattle.sc_transcript.specs.Drivers.{driver_in, Continues}
 use Rattle.sc_svo.specs.Batches.{batch_in}
-use Rattle.sc_audit.specs.SmallRounds.{IsBatchOf, setting_for, begun_for, with_drawn}
+use Rattle.sc_audit.specs.SmallRounds.{setting_for, begun_for, with_drawn}
+use Rattle.sc_jobs.specs.Taken.{IsBatchOf}
 use Rattle.sc_audit.proofs.small_value.play_small.Given as goal
 
 abbrev pub invariant-loop-round : goal.invariant-loop-round

@@ -9,10 +9,11 @@ use Rattle.sc_transcript.specs.Data.{wire_in}
 use Rattle.sc_rounds.specs.Products.{variables_in}
 use Rattle.sc_rounds.specs.Standings.{standing_in}
 use Rattle.sc_svo.specs.Batches.{batch_in}
-use Rattle.sc_audit.specs.Cases.{build, asked_to, problem_in}
-use Rattle.sc_audit.specs.Built.{prover_for}
-use Rattle.sc_audit.proofs.BuiltReports.{one_entry, same_setting, same_start, built_case, build_refused}
-use Rattle.sc_audit.proofs.FigureLaws.{claim-batched}
+use Rattle.sc_jobs.specs.Cases.{build, asked_to, problem_in}
+use Rattle.sc_jobs.specs.BuiltCases.{prover_for}
+use Rattle.sc_jobs.proofs.BuiltReports.{one_entry, same_setting, same_start, built_case}
+use Rattle.sc_audit.proofs.RefusedBuilds.{build_refused}
+use Rattle.sc_jobs.proofs.FigureLaws.{claim-batched}
 use Rattle.sc_audit.proofs.LeftPairs.{batch_grids}
 use Rattle.sc_audit.proofs.small_value.small_value.Goals as goal
 

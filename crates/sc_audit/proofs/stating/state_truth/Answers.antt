@@ -2,9 +2,10 @@ use Rattle.std.proofs.Common.{map, ◌∙◌, ap, subst, refl}
 use Rattle.sc_definitions.specs.Tables.{entries}
 use Rattle.sc_claims.specs.Claimed.{with_values, all_stated_truly}
 use Rattle.sc_claims.proofs.ClaimLaws.{with_true_values}
-use Rattle.sc_audit.specs.Cases.{problem_in}
-use Rattle.sc_audit.specs.Stated.{IsBatchedFor}
-use Rattle.sc_audit.proofs.StatedLaws.{restated, problem-stated, given-batch, small-way, simple-ways}
+use Rattle.sc_jobs.specs.Cases.{problem_in}
+use Rattle.sc_audit.specs.Ways.{IsBatchedFor}
+use Rattle.sc_jobs.proofs.StatedLaws.{restated, problem-stated}
+use Rattle.sc_audit.proofs.WayLaws.{given-batch, small-way, simple-ways}
 use Rattle.sc_audit.proofs.stating.state_truth.Goals as goal
 
 -- the values that the batch comes with are the true ones

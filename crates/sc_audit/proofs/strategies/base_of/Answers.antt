@@ -7,8 +7,8 @@ use Rattle.sc_definitions.proofs.StandingLaws.{entries-is}
 use Rattle.sc_table.specs.Polys.{variables_of, table_of}
 use Rattle.sc_table.proofs.EntryLaws.{entry-embedded}
 use Rattle.sc_rounds.proofs.BaseLaws.{image_entries, base_rows}
-use Rattle.sc_audit.specs.Cases.{problem_in}
-use Rattle.sc_audit.proofs.FigureLaws.{weights-batched, claim-batched}
+use Rattle.sc_jobs.specs.Cases.{problem_in}
+use Rattle.sc_jobs.proofs.FigureLaws.{weights-batched, claim-batched}
 use Rattle.sc_audit.proofs.strategies.base_of.Goals as goal
 
 -- the statements are true, so that the batched claim is the sum of the entries times the batched weights

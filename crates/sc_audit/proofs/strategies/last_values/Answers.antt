@@ -1,9 +1,9 @@
 use Rattle.std.proofs.Common.{◌≡◌, ℕ, ◌^◌, length, sym, ◌∙◌, ap, arith}
 use Rattle.sc_definitions.proofs.LoopLaws.{entry-read}
-use Rattle.sc_rounds.specs.Provers.{Shown}
-use Rattle.sc_rounds.proofs.MappedRounds.{same_images}
+use Rattle.sc_definitions.specs.Shown.{Shown}
+use Rattle.sc_definitions.proofs.MappedRounds.{same_images}
 use Rattle.sc_rounds.proofs.ShownLaws.{same_entries}
-use Rattle.sc_audit.proofs.BuiltReports.{one_entry}
+use Rattle.sc_jobs.proofs.BuiltReports.{one_entry}
 use Rattle.sc_audit.proofs.strategies.last_values.Goals as goal
 
 -- where no variable is left the first entry is the only one

@@ -2,13 +2,14 @@ use Rattle.std.proofs.Common.{◌≡◌, ◌∷◌, [], ◌^◌, ◌<◌, refl, 
 use Rattle.std.proofs.lemmas.List.Elements.{All-map}
 use Rattle.sc_definitions.proofs.LoopLaws.{entry-read}
 use Rattle.sc_definitions.specs.Channels.{Wire}
-use Rattle.sc_rounds.specs.Provers.{Shown}
+use Rattle.sc_definitions.specs.Shown.{Shown}
 use Rattle.sc_rounds.specs.ProverViews.{standing_of}
 use Rattle.sc_rounds.proofs.ShownLaws.{same_entries}
 use Rattle.sc_table.specs.declared.strategy.Strategy.TheVariants.{Plain}
 use Rattle.sc_svo.specs.Grids.{grid_shown}
-use Rattle.sc_audit.specs.Cases.{build, asked_to}
-use Rattle.sc_audit.proofs.BuiltReports.{one_entry, same_setting, same_start, built_case, build_refused}
+use Rattle.sc_jobs.specs.Cases.{build, asked_to}
+use Rattle.sc_jobs.proofs.BuiltReports.{one_entry, same_setting, same_start, built_case}
+use Rattle.sc_audit.proofs.RefusedBuilds.{build_refused}
 use Rattle.sc_audit.proofs.strategies.plain.Goals as goal
 
 -- the rounds were built

@@ -8,9 +8,9 @@ use Rattle.sc_definitions.proofs.StandingLaws.{entries-is}
 use Rattle.sc_table.specs.Polys.{variables_of}
 use Rattle.sc_rounds.specs.Products.{variables_in, evals_in, weights_in}
 use Rattle.sc_rounds.proofs.PairRounds.{pair_rows}
-use Rattle.sc_audit.specs.Cases.{problem_in}
-use Rattle.sc_audit.proofs.Embedded.{entry-embedded, length-embedded}
-use Rattle.sc_audit.proofs.FigureLaws.{weights-batched, claim-batched}
+use Rattle.sc_jobs.specs.Cases.{problem_in}
+use Rattle.sc_jobs.proofs.Embedded.{entry-embedded, length-embedded}
+use Rattle.sc_jobs.proofs.FigureLaws.{weights-batched, claim-batched}
 use Rattle.sc_audit.proofs.strategies.prover_of.Goals as goal
 
 pub new_unpacked-poly-requires : goal.new_unpacked-poly-requires

@@ -1,11 +1,12 @@
 use Rattle.std.proofs.Common.{◌<◌, refl, sym, ◌∙◌, ap, arith, map}
 use Rattle.std.proofs.lemmas.List.Elements.{All-map}
-use Rattle.sc_rounds.specs.Provers.{Shown}
+use Rattle.sc_definitions.specs.Shown.{Shown}
 use Rattle.sc_rounds.specs.ProverViews.{image_standing_of}
 use Rattle.sc_table.specs.declared.strategy.Strategy.TheVariants.{Represented}
 use Rattle.sc_svo.specs.Grids.{grid_shown}
-use Rattle.sc_audit.specs.Cases.{build, asked_to}
-use Rattle.sc_audit.proofs.BuiltReports.{same_setting, same_start, built_case, build_refused}
+use Rattle.sc_jobs.specs.Cases.{build, asked_to}
+use Rattle.sc_jobs.proofs.BuiltReports.{same_setting, same_start, built_case}
+use Rattle.sc_audit.proofs.RefusedBuilds.{build_refused}
 use Rattle.sc_audit.proofs.strategies.represented.Goals as goal
 
 -- each variable has had its round

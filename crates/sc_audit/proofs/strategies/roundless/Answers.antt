@@ -3,9 +3,9 @@ use Rattle.std.proofs.lemmas.Nat.{pow_pos}
 use Rattle.sc_definitions.proofs.LoopLaws.{entry-read}
 use Rattle.sc_table.specs.declared.strategy.Strategy.TheVariants.{Plain}
 use Rattle.sc_svo.specs.Grids.{grid_shown}
-use Rattle.sc_audit.specs.Cases.{build, asked_to, problem_in}
-use Rattle.sc_audit.proofs.BuiltReports.{built_none}
-use Rattle.sc_audit.proofs.FigureLaws.{weights-batched, claim-batched}
+use Rattle.sc_jobs.specs.Cases.{build, asked_to, problem_in}
+use Rattle.sc_jobs.proofs.BuiltReports.{built_none}
+use Rattle.sc_jobs.proofs.FigureLaws.{weights-batched, claim-batched}
 use Rattle.sc_audit.proofs.strategies.roundless.Goals as goal
 
 pub returns : goal.returns

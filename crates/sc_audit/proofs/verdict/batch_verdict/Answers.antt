@@ -2,7 +2,7 @@ use Rattle.std.proofs.Common.{◌≡◌, map, ◌∙◌, ap}
 use Rattle.sc_definitions.specs.Tables.{entries}
 use Rattle.sc_definitions.specs.Roots.{root_count}
 use Rattle.sc_definitions.specs.Lucky.{behind_zeros, excess, batch_polynomial, in_batch}
-use Rattle.sc_audit.specs.Cases.{problem_in}
+use Rattle.sc_jobs.specs.Cases.{problem_in}
 use Rattle.sc_verdicts.specs.Findings.{lucky}
 use Rattle.sc_audit.proofs.verdict.batch_verdict.Goals as goal
 

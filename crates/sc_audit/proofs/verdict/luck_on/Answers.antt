@@ -5,9 +5,9 @@ use Rattle.sc_definitions.specs.Problem.{claim_of}
 use Rattle.sc_definitions.specs.Lucky.{true_claim_of, course_of, first_turn, in_round}
 use Rattle.sc_transcript.specs.Data.{pair_of, messages_in}
 use Rattle.sc_rounds.specs.Turns.{turn_in}
-use Rattle.sc_audit.specs.Fitting.{stated_in}
+use Rattle.sc_jobs.specs.Fitting.{stated_in}
 use Rattle.sc_verdicts.specs.Findings.{lucky, named}
-use Rattle.sc_audit.specs.Figures.{finding_in}
+use Rattle.sc_jobs.specs.Figures.{finding_in}
 use Rattle.sc_audit.proofs.LuckFound.{pair-truth, luck-batch, luck-round}
 use Rattle.sc_audit.proofs.verdict.luck_on.Goals as goal
 

@@ -1,9 +1,9 @@
 use Rattle.std.proofs.Common.{◌≡◌, ◌^◌, ◌<◌, length, map, refl, sym, ◌∙◌, ap, subst}
 use Rattle.sc_definitions.proofs.Lengths.{pow-same}
 use Rattle.sc_rounds.specs.Products.{variables_in}
-use Rattle.sc_audit.specs.Cases.{problem_in}
-use Rattle.sc_audit.proofs.Embedded.{entry-embedded, length-embedded}
-use Rattle.sc_audit.proofs.FigureLaws.{weights-batched, claim-batched}
+use Rattle.sc_jobs.specs.Cases.{problem_in}
+use Rattle.sc_jobs.proofs.Embedded.{entry-embedded, length-embedded}
+use Rattle.sc_jobs.proofs.FigureLaws.{weights-batched, claim-batched}
 use Rattle.sc_audit.proofs.verdict.pair_of.Goals as goal
 
 pub new_unpacked-requires : goal.new_unpacked-requires

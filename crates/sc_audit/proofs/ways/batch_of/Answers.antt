@@ -4,8 +4,8 @@ use Rattle.sc_definitions.specs.Combined.{combined_weight}
 use Rattle.sc_definitions.proofs.Lengths.{pow-same}
 use Rattle.sc_svo.specs.Batches.{batch_in, IsTableOf}
 use Rattle.sc_svo.specs.Claims.{AreOn, claims_in}
-use Rattle.sc_audit.specs.Cases.{problem_in}
-use Rattle.sc_audit.proofs.ClaimLaws.{fits_small, batch_weights, batch_values}
+use Rattle.sc_jobs.specs.Cases.{problem_in}
+use Rattle.sc_jobs.proofs.ClaimLaws.{fits_small, batch_weights, batch_values}
 use Rattle.sc_audit.proofs.ways.batch_of.Goals as goal
 
 -- the statements are taken

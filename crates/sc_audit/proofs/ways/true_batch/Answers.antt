@@ -2,8 +2,8 @@ use Rattle.std.proofs.Common.{◌≡◌, ◌<◌, ◌^◌, Ok, length, map, sym,
 use Rattle.std.proofs.lemmas.List.{length-map}
 use Rattle.sc_definitions.specs.Statements.{claimed_values, true_value, true_values}
 use Rattle.sc_statements.proofs.FalseGroups.{capped-exact}
-use Rattle.sc_audit.specs.Cases.{problem_in}
-use Rattle.sc_audit.proofs.ClaimTests.{tests_by, tests_err}
+use Rattle.sc_jobs.specs.Cases.{problem_in}
+use Rattle.sc_jobs.proofs.ClaimTests.{tests_by, tests_err}
 use Rattle.sc_audit.proofs.ways.true_batch.Goals as goal
 
 -- as many values are claimed as are true

@@ -6,7 +6,7 @@ use Rattle.sc_definitions.specs.declared.events.Event.{Event}
 use Rattle.sc_definitions.specs.Channels.{channel}
 use Rattle.sc_rounds.proofs.TakenLaws.{claim_begun, same_footing}
 use Rattle.sc_transcript.specs.declared.error.SumcheckError.TheVariants.{NoMemory}
-use Rattle.sc_rounds.proofs.InStep.{message_count, found_count, same_challenges, same_ends, wants_memory, step_as, not_begun}
+use Rattle.sc_transcript.proofs.InStep.{message_count, found_count, same_challenges, same_ends, wants_memory, step_as, not_begun}
 use Rattle.sc_rounds.specs.ProverViews.{stated_to}
 use Rattle.sc_rounds.proofs.laws.batch_in_step.Goals as goal
 

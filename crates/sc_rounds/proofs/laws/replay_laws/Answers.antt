@@ -1,5 +1,5 @@
 use Rattle.std.proofs.Common.{refl}
-use Rattle.sc_rounds.proofs.InStep.{has_replay, same_challenges, same_histories, same_claims, none_invalid}
+use Rattle.sc_transcript.proofs.InStep.{has_replay, same_challenges, same_histories, same_claims, none_invalid}
 use Rattle.sc_rounds.proofs.laws.replay_laws.Goals as goal
 
 pub returns-clause-replay : goal.returns-clause-replay

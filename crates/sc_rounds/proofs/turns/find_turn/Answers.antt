@@ -5,7 +5,7 @@ use Rattle.sc_definitions.specs.Messages.{message_of}
 use Rattle.sc_definitions.specs.Standings.{half_rows}
 use Rattle.sc_transcript.specs.Data.{pair_of}
 use Rattle.sc_rounds.specs.Products.{variables_in, evals_in, weights_in}
-use Rattle.sc_rounds.proofs.FindLaws.{Finds, finds-begin, finds-more, finds-here, finds-none}
+use Rattle.sc_definitions.proofs.FindLaws.{Finds, finds-begin, finds-more, finds-here, finds-none}
 use Rattle.sc_rounds.proofs.turns.find_turn.Goals as goal
 
 pub loop-i-init : goal.loop-i-init

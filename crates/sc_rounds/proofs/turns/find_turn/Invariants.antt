@@ -3,7 +3,7 @@ use Rattle.sc_definitions.specs.Problem.{Problem}
 use Rattle.sc_transcript.specs.Data.{pair_of}
 use Rattle.sc_rounds.specs.Products.{variables_in, order_in, evals_in, weights_in}
 use Rattle.sc_rounds.specs.Turns.{IsPairOf}
-use Rattle.sc_rounds.proofs.FindLaws.{Finds}
+use Rattle.sc_definitions.proofs.FindLaws.{Finds}
 use Rattle.sc_rounds.proofs.turns.find_turn.Given as goal
 
 abbrev pub invariant-loop-i : goal.invariant-loop-i

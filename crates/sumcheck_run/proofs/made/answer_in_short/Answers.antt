@@ -1,8 +1,8 @@
 use Rattle.std.proofs.Common.{◌<◌, ◌∙◌, ap}
 use Rattle.std.proofs.lemmas.List.Elements.{All-map}
 use Rattle.std.proofs.lemmas.Result.{IfOk-weaker}
-use Rattle.sc_audit.specs.Cases.{asked_of}
-use Rattle.sc_audit.proofs.StatedLaws.{asked-stated}
+use Rattle.sc_jobs.specs.Cases.{asked_of}
+use Rattle.sc_jobs.proofs.StatedLaws.{asked-stated}
 use Rattle.sumcheck_run.specs.Made.{summary_lines}
 use Rattle.sumcheck_run.specs.Report.{case_reply}
 use Rattle.sumcheck_run.proofs.ReportLaws.{unrefused, reported-reply, told-reply}

@@ -1,7 +1,7 @@
 use Rattle.std.proofs.Common.{◌<◌, ◌∙◌}
 use Rattle.std.proofs.lemmas.List.Elements.{All-map}
 use Rattle.std.proofs.lemmas.Result.{IfOk-weaker}
-use Rattle.sc_audit.specs.Cases.{asked_of}
+use Rattle.sc_jobs.specs.Cases.{asked_of}
 use Rattle.sumcheck_run.specs.Report.{report_lines}
 use Rattle.sumcheck_run.proofs.ReportLaws.{unrefused, reported-reply, told-reply}
 use Rattle.sumcheck_run.proofs.report.answer_of.Goals as goal

@@ -2,9 +2,9 @@ use Rattle.std.proofs.Common.{◌+◌, ◌≤◌, map, ap, sym, refl, inl, inr, 
 use Rattle.std.proofs.lemmas.List.{map-append}
 use Rattle.sc_transcript.proofs.ReplayedLaws.{same_channel}
 use Rattle.sc_transcript.specs.declared.transcript.SumcheckShape.{SumcheckShape}
-use Rattle.sc_rounds.specs.Provers.{Shown}
+use Rattle.sc_definitions.specs.Shown.{Shown}
 use Rattle.sc_rounds.specs.HeldProducts.{shown_in, image_in, standing_over}
-use Rattle.sc_rounds.proofs.BatchLaws.{fits, less_by_one, some_left, less_at, room_at, all_played, sum_at, same_setting, one_round_more, stops, begun_within}
+use Rattle.sc_transcript.proofs.BatchLaws.{fits, less_by_one, some_left, less_at, room_at, all_played, sum_at, same_setting, one_round_more, stops, begun_within}
 use Rattle.sc_rounds.proofs.held_product.HeldProduct.play.Goals as goal
 
 pub loop-round-init : goal.loop-round-init

@@ -1,7 +1,8 @@
 use Rattle.std.proofs.Common.{◌≡◌, ◌+◌, ◌≤◌, map, vec_len, vec_capacity}
 use Rattle.sc_definitions.specs.Standings.{Standing, IsPlayed}
 use Rattle.sc_transcript.specs.Drivers.{driver_in, Continues}
-use Rattle.sc_rounds.specs.HeldProducts.{shown_in, image_in, image_stored_in, setting_over, standing_over, HoldsIfMore}
+use Rattle.sc_rounds.specs.HeldProducts.{shown_in, image_in, image_stored_in, setting_over, standing_over}
+use Rattle.sc_transcript.specs.Batches.{HoldsIfMore}
 use Rattle.sc_rounds.proofs.held_product.HeldProduct.play.Given as goal
 
 abbrev pub invariant-loop-round : goal.invariant-loop-round

@@ -3,9 +3,9 @@ use Rattle.sc_transcript.specs.declared.transcript.SumcheckShape.{SumcheckShape}
 use Rattle.sc_transcript.specs.Data.{wire_in}
 use Rattle.sc_transcript.proofs.ReplayedLaws.{same_channel}
 use Rattle.sc_transcript.proofs.Lent.{returned}
-use Rattle.sc_rounds.specs.Provers.{standing_at}
+use Rattle.sc_definitions.specs.Shown.{standing_at}
 use Rattle.sc_rounds.specs.HeldProducts.{image_in}
-use Rattle.sc_rounds.proofs.BatchLaws.{same_setting, played_at, holds_at, stops_batch, never_begun, sum_at, as_none, none_before, enough_left, held_if_any}
+use Rattle.sc_transcript.proofs.BatchLaws.{same_setting, played_at, holds_at, stops_batch, never_begun, sum_at, as_none, none_before, enough_left, held_if_any}
 use Rattle.sc_rounds.proofs.HeldLaws.{held_sized}
 use Rattle.sc_definitions.proofs.StandingLaws.{played_none}
 use Rattle.std.proofs.lemmas.List.{length-map}

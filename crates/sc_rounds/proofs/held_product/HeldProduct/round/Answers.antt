@@ -3,11 +3,12 @@ use Rattle.std.proofs.lemmas.Simd.{map-map}
 use Rattle.sc_definitions.specs.Tables.{entries, rows_of}
 use Rattle.sc_transcript.specs.Drivers.{driver_in}
 use Rattle.sc_transcript.specs.Data.{wire_in}
-use Rattle.sc_rounds.specs.Provers.{shown_of, held_shown, imaged, message_shown, with_bound, number_if_some, standing_at}
-use Rattle.sc_rounds.proofs.MappedRounds.{below_entries}
-use Rattle.sc_rounds.proofs.PairRounds.{halts}
+use Rattle.sc_rounds.specs.Provers.{shown_of, held_shown, number_if_some}
+use Rattle.sc_definitions.specs.Shown.{imaged, message_shown, with_bound, standing_at}
+use Rattle.sc_definitions.proofs.MappedRounds.{below_entries}
+use Rattle.sc_transcript.proofs.BatchLaws.{halts}
 use Rattle.sc_rounds.proofs.HeldLaws.{none_held, settled_pair}
-use Rattle.sc_rounds.proofs.HeldRounds.{IsBelow, sent_images, image_round, round_as}
+use Rattle.sc_definitions.proofs.ImagedRounds.{IsBelow, sent_images, image_round, round_as}
 use Rattle.sc_rounds.proofs.held_product.HeldProduct.round.Goals as goal
 
 pub returns-clause-round : goal.returns-clause-round

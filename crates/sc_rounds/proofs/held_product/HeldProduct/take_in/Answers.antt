@@ -1,5 +1,6 @@
 use Rattle.std.proofs.Common.{ap, ◌∙◌, sym, subst}
-use Rattle.sc_rounds.specs.Provers.{IsTrueClaim, held_shown, sum_with, with_added, stated, weight_of, claim_of}
+use Rattle.sc_rounds.specs.Provers.{held_shown, stated, weight_of, claim_of}
+use Rattle.sc_definitions.specs.Shown.{IsTrueClaim, sum_with, with_added}
 use Rattle.sc_rounds.proofs.HeldLaws.{none_held, settled_pair, none_wanted, true_added}
 use Rattle.sc_rounds.proofs.ShownLaws.{shown_taken}
 use Rattle.sc_rounds.proofs.held_product.HeldProduct.take_in.Goals as goal

@@ -1,7 +1,7 @@
 use Rattle.std.proofs.Common.{◌<◌, arith, refl}
 use Rattle.sc_table.specs.Polys.{variables_of}
 use Rattle.sc_table.specs.Strategy.{order_of}
-use Rattle.sc_rounds.proofs.PairRounds.{message_halves, one_more, halved}
+use Rattle.sc_definitions.proofs.PairMoves.{message_halves, one_more, halved}
 use Rattle.sc_rounds.proofs.product_polynomial.ProductPolynomial.bind_and_measure.Goals as goal
 
 pub returns-clause-message : goal.returns-clause-message

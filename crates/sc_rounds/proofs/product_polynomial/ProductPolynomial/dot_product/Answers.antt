@@ -1,4 +1,4 @@
-use Rattle.sc_rounds.proofs.PairRounds.{dot_sum}
+use Rattle.sc_definitions.proofs.PairMoves.{dot_sum}
 use Rattle.sc_rounds.proofs.product_polynomial.ProductPolynomial.dot_product.Goals as goal
 
 pub returns : goal.returns

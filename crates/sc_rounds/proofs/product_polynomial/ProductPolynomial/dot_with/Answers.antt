@@ -1,5 +1,5 @@
 use Rattle.std.proofs.Common.{refl}
-use Rattle.sc_rounds.proofs.PairRounds.{dot_sum}
+use Rattle.sc_definitions.proofs.PairMoves.{dot_sum}
 use Rattle.sc_rounds.proofs.product_polynomial.ProductPolynomial.dot_with.Goals as goal
 
 pub returns : goal.returns

@@ -1,6 +1,6 @@
 use Rattle.std.proofs.Common.{ap, sym, ◌∙◌, ◌^◌}
 use Rattle.sc_table.specs.Strategy.{order_of}
-use Rattle.sc_rounds.proofs.PairRounds.{even_power, message_halves, one_more, halved}
+use Rattle.sc_definitions.proofs.PairMoves.{even_power, message_halves, one_more, halved}
 use Rattle.sc_rounds.proofs.product_polynomial.ProductPolynomial.measure.Goals as goal
 
 pub sumcheck_coefficients-requires-clause-even : goal.sumcheck_coefficients-requires-clause-even

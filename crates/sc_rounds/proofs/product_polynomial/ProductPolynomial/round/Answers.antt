@@ -1,4 +1,4 @@
-use Rattle.sc_rounds.proofs.PairRounds.{moved-honest}
+use Rattle.sc_transcript.proofs.BatchLaws.{moved-honest}
 use Rattle.sc_rounds.proofs.product_polynomial.ProductPolynomial.round.Goals as goal
 
 pub returns-clause-round : goal.returns-clause-round

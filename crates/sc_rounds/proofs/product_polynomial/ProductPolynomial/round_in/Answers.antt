@@ -4,9 +4,9 @@ use Rattle.sc_table.specs.Polys.{variables_of, table_of}
 use Rattle.sc_table.specs.Strategy.{order_of}
 use Rattle.sc_transcript.specs.Drivers.{driver_in}
 use Rattle.sc_rounds.specs.Standings.{standing_in}
-use Rattle.sc_rounds.proofs.BatchLaws.{one_less}
-use Rattle.sc_rounds.proofs.MappedRounds.{mapped, below_entries, image_message, image_bound, image_next}
-use Rattle.sc_rounds.proofs.PairRounds.{even_power, message_halves, moves, halts, sum_after, one_more, halved, sized}
+use Rattle.sc_transcript.proofs.BatchLaws.{one_less, halts}
+use Rattle.sc_definitions.proofs.MappedRounds.{mapped, below_entries, image_message, image_bound, image_next}
+use Rattle.sc_definitions.proofs.PairMoves.{even_power, message_halves, moves, sum_after, one_more, halved, sized}
 use Rattle.sc_rounds.proofs.product_polynomial.ProductPolynomial.round_in.Goals as goal
 
 pub sumcheck_coefficients-message-requires-clause-even : goal.sumcheck_coefficients-message-requires-clause-even

@@ -1,5 +1,6 @@
 use Rattle.std.proofs.Common.{ap, sym, ◌∙◌}
-use Rattle.sc_rounds.specs.Provers.{Shown, held_shown, number_if_some}
+use Rattle.sc_rounds.specs.Provers.{held_shown, number_if_some}
+use Rattle.sc_definitions.specs.Shown.{Shown}
 use Rattle.sc_rounds.specs.Products.{numbers_of}
 use Rattle.sc_rounds.proofs.HeldLaws.{honest_message, numbered, none_held}
 use Rattle.sc_rounds.proofs.strategy.SumcheckProver.bind_round.Goals as goal

@@ -3,10 +3,11 @@ use Rattle.std.proofs.lemmas.Result.{IfOk-weaker}
 use Rattle.sc_definitions.specs.Channels.{channel}
 use Rattle.sc_transcript.specs.Data.{wire_in}
 use Rattle.sc_transcript.specs.declared.transcript.SumcheckShape.{SumcheckShape}
-use Rattle.sc_rounds.specs.Provers.{Shown, held_shown, setting_at, standing_at}
+use Rattle.sc_rounds.specs.Provers.{held_shown}
+use Rattle.sc_definitions.specs.Shown.{Shown, setting_at, standing_at}
 use Rattle.sc_rounds.specs.ProverViews.{shown_with}
-use Rattle.sc_rounds.specs.Standings.{Batch, batch_at}
-use Rattle.sc_rounds.proofs.BatchLaws.{batch_as, holds_as}
+use Rattle.sc_transcript.specs.Batches.{Batch, batch_at}
+use Rattle.sc_transcript.proofs.BatchLaws.{batch_as, holds_as}
 use Rattle.sc_rounds.proofs.HeldLaws.{imaged_same}
 use Rattle.sc_rounds.proofs.strategy.SumcheckProver.compute_sumcheck_polynomials.Goals as goal
 

@@ -4,7 +4,7 @@ use Rattle.sc_definitions.specs.Tables.{inner}
 use Rattle.sc_definitions.specs.Statements.{batched_weight, batched_claim}
 use Rattle.sc_statements.specs.Constraints.{constraint_arity, constraint_challenge, constraint_power, constraint_statements}
 use Rattle.sc_rounds.specs.Products.{variables_in, evals_in, weights_in, sum_in}
-use Rattle.sc_rounds.specs.Provers.{Shown, sum_with, IsTrueClaim}
+use Rattle.sc_definitions.specs.Shown.{Shown, sum_with, IsTrueClaim}
 use Rattle.sc_rounds.proofs.HeldLaws.{none_held, settled_pair}
 use Rattle.sc_rounds.proofs.TakenLaws.{sum_taken, claim_taken}
 use Rattle.sc_rounds.proofs.ShownLaws.{sum_shown, true_of}

@@ -1,6 +1,6 @@
 use Rattle.std.proofs.Common.{ap, sym, ◌∙◌, ◌^◌}
 use Rattle.sc_definitions.specs.Tables.{entries}
-use Rattle.sc_rounds.specs.Provers.{Shown, sum_with}
+use Rattle.sc_definitions.specs.Shown.{Shown, sum_with}
 use Rattle.sc_rounds.proofs.HeldLaws.{settled_pair}
 use Rattle.sc_rounds.proofs.ShownLaws.{sum_shown, equal_by}
 use Rattle.sc_rounds.proofs.strategy.SumcheckProver.delta_is_true.Goals as goal

@@ -1,6 +1,6 @@
 use Rattle.std.proofs.Common.{ap, sym, ◌∙◌, map}
 use Rattle.sc_definitions.specs.Tables.{rows_of, value}
-use Rattle.sc_rounds.specs.Provers.{Shown}
+use Rattle.sc_definitions.specs.Shown.{Shown}
 use Rattle.sc_rounds.proofs.HeldLaws.{settled_pair}
 use Rattle.sc_rounds.proofs.ShownLaws.{rows-numbers}
 use Rattle.sc_rounds.proofs.strategy.SumcheckProver.eval.Goals as goal

@@ -1,5 +1,5 @@
 use Rattle.std.proofs.Common.{ap, ◌∙◌, ◌^◌, refl}
-use Rattle.sc_rounds.specs.Provers.{Shown}
+use Rattle.sc_definitions.specs.Shown.{Shown}
 use Rattle.sc_rounds.proofs.HeldLaws.{settled_pair}
 use Rattle.sc_rounds.proofs.ShownLaws.{same_entries}
 use Rattle.sc_rounds.proofs.strategy.SumcheckProver.evals_view.Goals as goal

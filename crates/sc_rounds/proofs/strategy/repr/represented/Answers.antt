@@ -1,6 +1,6 @@
 use Rattle.std.proofs.Common.{◌∙◌, sym}
 use Rattle.std.proofs.lemmas.Result.{IfOk-from_err}
-use Rattle.sc_rounds.proofs.MappedRounds.{same_images, there_and_back}
+use Rattle.sc_definitions.proofs.MappedRounds.{same_images, there_and_back}
 use Rattle.sc_definitions.proofs.Lengths.{pow-same}
 use Rattle.sc_rounds.proofs.RepresentedLaws.{same_length}
 use Rattle.sc_rounds.proofs.strategy.repr.represented.Goals as goal

@@ -5,12 +5,11 @@ use Rattle.sc_transcript.specs.declared.transcript.SumcheckShape.{SumcheckShape}
 use Rattle.sc_transcript.specs.declared.error.SumcheckError.TheVariants.{NoMemory}
 use Rattle.sc_transcript.proofs.ReplayedLaws.{same_channel}
 use Rattle.sc_transcript.proofs.Lent.{returned}
-use Rattle.sc_rounds.specs.Provers.{standing_at}
-use Rattle.sc_rounds.specs.Standings.{Batch}
+use Rattle.sc_definitions.specs.Shown.{standing_at}
+use Rattle.sc_transcript.specs.Batches.{Batch, BreaksOffAt}
 use Rattle.sc_rounds.specs.HeldProducts.{shown_in}
-use Rattle.sc_rounds.specs.BaseProducts.{BreaksOffAt}
 use Rattle.sc_rounds.specs.BaseViews.{base_shown, base_batch_of}
-use Rattle.sc_rounds.proofs.BatchLaws.{same_setting, played_at, sum_at}
+use Rattle.sc_transcript.proofs.BatchLaws.{same_setting, played_at, sum_at}
 use Rattle.sc_rounds.proofs.BaseLaws.{err_as, breaks_batch, whole_as, breaks_as}
 use Rattle.sc_rounds.proofs.strategy.base.BaseProduct.compute_sumcheck_polynomials.Goals as goal
 

@@ -1,7 +1,7 @@
 use Rattle.std.proofs.Common.{sym, ◌∙◌, refl}
 use Rattle.sc_definitions.specs.Tables.{entries, rows_of}
 use Rattle.sc_table.specs.Strategy.{order_of}
-use Rattle.sc_rounds.proofs.PairRounds.{even_power, one_more, halved, message_halves}
+use Rattle.sc_definitions.proofs.PairMoves.{even_power, one_more, halved, message_halves}
 use Rattle.sc_rounds.proofs.strategy.base.BaseProduct.measure.Goals as goal
 
 pub sumcheck_coefficients-requires-clause-even : goal.sumcheck_coefficients-requires-clause-even

@@ -5,11 +5,11 @@ use Rattle.sc_transcript.specs.Data.{wire_in}
 use Rattle.sc_transcript.specs.declared.transcript.SumcheckShape.{SumcheckShape}
 use Rattle.sc_transcript.specs.declared.error.SumcheckError.TheVariants.{NoMemory}
 use Rattle.sc_transcript.proofs.ReplayedLaws.{same_channel}
-use Rattle.sc_rounds.specs.Provers.{Shown, with_bound}
-use Rattle.sc_rounds.specs.BaseProducts.{StopsFrom}
+use Rattle.sc_definitions.specs.Shown.{Shown, with_bound}
+use Rattle.sc_transcript.specs.Batches.{StopsFrom}
 use Rattle.sc_rounds.specs.BaseViews.{base_shown}
 use Rattle.sc_rounds.specs.HeldProducts.{shown_in, image_in, setting_over, standing_over}
-use Rattle.sc_rounds.proofs.BatchLaws.{same_setting}
+use Rattle.sc_transcript.proofs.BatchLaws.{same_setting}
 use Rattle.sc_rounds.proofs.HeldLaws.{imaged_same}
 use Rattle.sc_rounds.proofs.BaseLaws.{base_rows, err_as, first_stops, first_wants, first_before, rest_played, rest_stops}
 use Rattle.sc_rounds.proofs.strategy.base.BaseProduct.play.Goals as goal

@@ -1,6 +1,6 @@
 use Rattle.std.proofs.Common.{◌≡◌, ◌^◌, length, refl, arith}
 use Rattle.sc_table.specs.Polys.{variables_of}
-use Rattle.sc_rounds.proofs.PairRounds.{dot_sum}
+use Rattle.sc_definitions.proofs.PairMoves.{dot_sum}
 use Rattle.sc_rounds.proofs.BaseLaws.{base_agrees}
 use Rattle.sc_rounds.proofs.strategy.base.BaseProduct.tables_agree.Goals as goal
 

@@ -2,9 +2,9 @@ use Rattle.std.proofs.Common.{ap, refl, map}
 use Rattle.sc_definitions.specs.Channels.{channel}
 use Rattle.sc_transcript.specs.declared.transcript.SumcheckShape.{SumcheckShape}
 use Rattle.sc_rounds.specs.ProverViews.{image_shown_by, image_standing_of}
-use Rattle.sc_rounds.specs.Provers.{setting_at}
-use Rattle.sc_rounds.specs.Standings.{Batch, batch_at}
-use Rattle.sc_rounds.proofs.BatchLaws.{batch_as}
+use Rattle.sc_definitions.specs.Shown.{setting_at}
+use Rattle.sc_transcript.specs.Batches.{Batch, batch_at}
+use Rattle.sc_transcript.proofs.BatchLaws.{batch_as}
 use Rattle.sc_rounds.proofs.strategy.repr.ReprSumcheckProver.compute_sumcheck_polynomials.Goals as goal
 
 pub returns-clause-batch : goal.returns-clause-batch

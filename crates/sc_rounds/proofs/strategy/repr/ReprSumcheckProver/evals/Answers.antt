@@ -1,8 +1,8 @@
 use Rattle.std.proofs.Common.{ℕ, ap, sym, ◌∙◌}
 use Rattle.std.proofs.lemmas.Simd.{map-map}
 use Rattle.std.proofs.lemmas.Result.{IfOk-weaker}
-use Rattle.sc_rounds.specs.Provers.{Shown, imaged}
-use Rattle.sc_rounds.proofs.MappedRounds.{same_images}
+use Rattle.sc_definitions.specs.Shown.{Shown, imaged}
+use Rattle.sc_definitions.proofs.MappedRounds.{same_images}
 use Rattle.sc_rounds.proofs.HeldLaws.{settled_pair}
 use Rattle.sc_rounds.proofs.ShownLaws.{numbers_if_ok}
 use Rattle.sc_rounds.proofs.strategy.repr.ReprSumcheckProver.evals.Goals as goal

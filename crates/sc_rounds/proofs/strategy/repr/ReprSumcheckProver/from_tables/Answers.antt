@@ -4,10 +4,10 @@ use Rattle.std.proofs.lemmas.Result.{IfOk-from_err}
 use Rattle.sc_definitions.specs.Tables.{inner}
 use Rattle.sc_table.specs.Polys.{variables_of}
 use Rattle.sc_rounds.specs.Products.{variables_in, evals_in, weights_in}
-use Rattle.sc_rounds.specs.Provers.{shown_of, imaged}
+use Rattle.sc_rounds.specs.Provers.{shown_of}
+use Rattle.sc_definitions.specs.Shown.{imaged}
 use Rattle.sc_rounds.specs.Represented.{tables_shown}
-use Rattle.sc_rounds.proofs.MappedRounds.{mapped, below_entries, same_images}
-use Rattle.sc_rounds.proofs.RepresentedLaws.{represented_sum}
+use Rattle.sc_definitions.proofs.MappedRounds.{mapped, below_entries, same_images, represented_sum}
 use Rattle.sc_rounds.proofs.ShownLaws.{same_numbers}
 use Rattle.sc_rounds.proofs.strategy.repr.ReprSumcheckProver.from_tables.Goals as goal
 

@@ -2,8 +2,9 @@ use Rattle.std.proofs.Common.{◌≡◌, ℕ, ap, sym, ◌∙◌, subst}
 use Rattle.std.proofs.lemmas.Simd.{map-map}
 use Rattle.std.proofs.lemmas.Result.{IfOk-from_err}
 use Rattle.sc_rounds.specs.Products.{variables_in}
-use Rattle.sc_rounds.specs.Provers.{held_shown, IsTrueClaim}
-use Rattle.sc_rounds.proofs.MappedRounds.{same_images}
+use Rattle.sc_rounds.specs.Provers.{held_shown}
+use Rattle.sc_definitions.specs.Shown.{IsTrueClaim}
+use Rattle.sc_definitions.proofs.MappedRounds.{same_images}
 use Rattle.sc_rounds.proofs.ShownLaws.{same_numbers}
 use Rattle.sc_rounds.proofs.HeldImages.{held_below, image_held, true_back, left_for_image}
 use Rattle.sc_rounds.proofs.strategy.repr.ReprSumcheckProver.new.Goals as goal

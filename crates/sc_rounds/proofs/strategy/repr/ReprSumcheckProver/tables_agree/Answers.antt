@@ -1,7 +1,7 @@
 use Rattle.std.proofs.Common.{◌≡◌, ◌∙◌, arith}
 use Rattle.sc_table.specs.Polys.{variables_of}
-use Rattle.sc_rounds.proofs.MappedRounds.{same_images}
-use Rattle.sc_rounds.proofs.PairRounds.{dot_sum}
+use Rattle.sc_definitions.proofs.MappedRounds.{same_images}
+use Rattle.sc_definitions.proofs.PairMoves.{dot_sum}
 use Rattle.sc_rounds.proofs.RepresentedLaws.{agree}
 use Rattle.sc_rounds.proofs.strategy.repr.ReprSumcheckProver.tables_agree.Goals as goal
 

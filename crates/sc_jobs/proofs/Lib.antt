@@ -1,0 +1,14 @@
+pub mod AgreeingBuilds
+pub mod CauseLaws
+pub mod Certified
+pub mod CheckedReports
+pub mod ClaimLaws
+pub mod ClaimTests
+pub mod CountLaws
+pub mod FigureLaws
+pub mod Passing
+pub mod UnfitLaws
+pub mod SameGrids
+pub mod Embedded
+pub mod BuiltReports
+pub mod StatedLaws

@@ -1,0 +1,24 @@
+-- What builds of one case have in common, and what rounds that are not refuted have to do with strategies.
+use Rattle.std.specs.Prelude.{◌≡◌, ℕ, true, List, []}
+use Rattle.sc_definitions.specs.declared.events.Event.{Event}
+use Rattle.sc_definitions.specs.Ring.{Ops}
+use Rattle.sc_definitions.specs.Problem.{Problem, claim_of}
+use Rattle.sc_definitions.specs.Strategies.{Held, messages_against, lets_through}
+use Rattle.sc_table.specs.declared.strategy.Strategy.{Strategy}
+use Rattle.sc_jobs.specs.Cases.{build, Asked, with_task}
+use Rattle.sc_verdicts.specs.Findings.{refuted}
+use Rattle.sc_jobs.specs.Figures.{Reported, figures_of}
+use Rattle.sc_jobs.specs.Audits.{IsAudited}
+
+-- Two builds of one table with the same statements at one difficulty, from one history on, have the same report, the grids of small-value rounds aside,
+-- and leave the same history, whatever their strategies.
+abbrev pub BuildsAgree : Type 0
+BuildsAgree =
+    (q : Asked) (one other : Strategy) (report report' : Reported) (h₁ h₂ : List Event) →
+    IsAudited (with_task q (build one)) report h₁ → IsAudited (with_task q (build other)) report' h₂ → (report.figures ≡ report'.figures) × (h₁ ≡ h₂)
+
+-- Where a strategy sends a proof's messages against their challenges, and the rounds are not refuted, these challenges let the batched claim through.
+abbrev pub PassingLetsThrough : Ops → Type 0
+PassingLetsThrough o =
+    (p : Problem) (s : List Held) (messages : List (List ℕ)) (witnesses rs : List ℕ) → messages_against s [] rs ≡ messages →
+    ((figures_of o p messages witnesses rs).finding ≡ refuted → ⊥) → lets_through o p s (claim_of o p) rs ≡ true

@@ -1,0 +1,12 @@
+pub mod Over
+pub mod Cases
+pub mod Refusals
+pub mod Figures
+pub mod Certified
+pub mod Audits
+pub mod Checked
+pub mod Laws
+pub mod Fitting
+pub mod Taken
+pub mod Stated
+pub mod BuiltCases
