@@ -1,5 +1,5 @@
 //! The answer to a job of `product`.
-ghost use Rattle.std.specs.Prelude.{◌≡◌, ◌≢◌, ◌⊎◌, ℕ, ◌<◌, ◌≤◌, ◌++◌, All, List, [], length};
+ghost use Rattle.std.specs.Prelude.{◌≡◌, ◌≢◌, ◌⊎◌, ℕ, ◌<◌, ◌≤◌, All, List, [], length};
 ghost use Rattle.std.specs.Prelude.{IfOk, IsOk, Ok, OnOk, map, option_map, string_bytes};
 ghost use Rattle.sc_definitions.specs.Channels.{channel};
 ghost use Rattle.sc_definitions.specs.Lucky.{first_turn, product_course};
@@ -11,7 +11,7 @@ ghost use Rattle.sc_verdicts.specs.Findings.{named};
 ghost use Rattle.sumcheck_jobs.specs.declared.product.ProductProof.{ProductProof};
 ghost use Rattle.sumcheck_jobs.specs.Elements.{sizes_of};
 ghost use Rattle.sumcheck_jobs.specs.ProductJob.{ProductJobFits, ProductModeFits};
-ghost use Rattle.sumcheck_replies.specs.Lines.{round_line, round_lines};
+ghost use Rattle.sumcheck_replies.specs.Lines.{Adds, round_line, round_lines};
 ghost use Rattle.sumcheck_replies.specs.Refusals.{finding_reply};
 ghost use Rattle.sumcheck_product.specs.CertifiedProducts.{CertifiesProduct};
 ghost use Rattle.sumcheck_product.specs.Products.{case_of, case_over, degree_refusal, figures_in};
@@ -20,7 +20,7 @@ ghost use Rattle.sumcheck_product.specs.Products.{product_answer, product_figure
 ghost use Rattle.sumcheck_product.specs.Products.{product_judged, product_lines, product_rules};
 ghost use Rattle.sumcheck_product.specs.Products.{product_shape, shown_reply, task_mode, true_sum};
 ghost use Rattle.sumcheck_product.specs.ProductPlays.{IsDegree, LeavesBuilt};
-ghost use Rattle.sumcheck_replies.specs.Fields.{rules_by};
+ghost use Rattle.sumcheck_replies.specs.Fields.{fields_over, rules_by, sizes_over};
 
 use crate::images::image_tables;
 use crate::shape::fitting_arity;
@@ -74,15 +74,9 @@ fn judge_in<F: Field, EF: ExtensionField<F>>(
     alloc: Global,
     job: ProductJob,
 ) -> Result<Answer, NoMemory>
-    requires { ProductJobFits (record { base = F.ops.size; extension = EF.ops.size }) job }
+    requires { ProductJobFits (sizes_over F.ops EF.ops) job }
     ensures { IfOk result (λ a. a ≡ product_judged
-        (record {
-          ops = EF.ops;
-          base_size = F.ops.size;
-          extension = EF.extension;
-          embedding =
-              EF.embedding;
-        }) job
+        (fields_over F.ops EF.ops EF.extension EF.embedding) job
         (rules_by F.ops.size job.challenger) []) }
 {
     match &job.challenger {
@@ -103,15 +97,9 @@ fn answer_to<F: Field, EF: ExtensionField<F>, C: Challenger<F>>(
     job: ProductJob,
     challenger: &mut C,
 ) -> Result<Answer, NoMemory>
-    requires { ProductJobFits (record { base = F.ops.size; extension = EF.ops.size }) job }
+    requires { ProductJobFits (sizes_over F.ops EF.ops) job }
     ensures { IfOk result (λ a. a ≡ product_judged
-        (record {
-          ops = EF.ops;
-          base_size = F.ops.size;
-          extension = EF.extension;
-          embedding =
-              EF.embedding;
-        }) job
+        (fields_over F.ops EF.ops EF.extension EF.embedding) job
         (C.rules challenger.old) (C.history challenger.old)) }
 {
     let n = match fitting_arity(&job, challenger.max_bits()) {
@@ -134,7 +122,7 @@ fn given<F: Field, EF: ExtensionField<F>>(
     alloc: Global,
     mode: &ProductMode,
 ) -> Result<Option<GenericDegreeProof<F, EF>>, NoMemory>
-    requires { ProductModeFits (record { base = F.ops.size; extension = EF.ops.size }) mode.now }
+    requires { ProductModeFits (sizes_over F.ops EF.ops) mode.now }
     ensures { IfOk result (λ p. task_mode F.number EF.number p ≡ mode.now) }
 {
     match mode {
@@ -400,9 +388,7 @@ fn push_rounds<F: Field, EF: Field>(
     witnesses: &[F],
     challenges: &[EF],
 ) -> Result<(), NoMemory>
-    ensures { OnOk result (string_bytes text.new ≡ string_bytes text.old
-        ++ round_lines 0 (map (λ values. map EF.number values.items) messages.now)
-        (map F.number witnesses.now) (map EF.number challenges.now)) }
+    ensures { OnOk result (Adds text.old text.new (round_lines 0 (map (λ values. map EF.number values.items) messages.now) (map F.number witnesses.now) (map EF.number challenges.now))) }
 {
     for i in 0..messages.len().min(challenges.len()) {
         let witness = number_at(witnesses, i);
@@ -419,8 +405,7 @@ fn push_round<EF: Field>(
     witness: Option<u64>,
     challenge: u64,
 ) -> Result<(), NoMemory>
-    ensures { OnOk result (string_bytes text.new ≡ string_bytes text.old
-        ++ round_line i (map EF.number values.now) witness challenge) }
+    ensures { OnOk result (Adds text.old text.new (round_line i (map EF.number values.now) witness challenge)) }
 {
     lines::push_round_name(text, i)?;
     lines::push_values(text, values)?;

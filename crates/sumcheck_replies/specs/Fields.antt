@@ -10,6 +10,7 @@ use Rattle.sc_challenger.specs.Hashed.{hash_rules}
 use Rattle.sumcheck_jobs.specs.declared.job.FieldName.{FieldName}
 use Rattle.sumcheck_jobs.specs.declared.job.FieldName.TheVariants.{F65537, F257x2, F16}
 use Rattle.sumcheck_jobs.specs.declared.job.Challenger.{Challenger}
+use Rattle.sumcheck_jobs.specs.declared.job.Sizes.{Sizes}
 use Rattle.sumcheck_jobs.specs.declared.job.Challenger.TheVariants.{Scripted, Hash}
 
 -- A field that challenges are in, over a base field: its operations on numbers, how many elements the base field has, the parts of an element in the
@@ -19,6 +20,14 @@ pub record Fields : Type 0 where
   pub base_size : ℕ
   pub extension : Extension
   pub embedding : ℕ → ℕ
+
+-- how many elements a base field has, and an extension
+abbrev pub sizes_over : Ops → Ops → Sizes
+sizes_over base o = record { base = base.size; extension = o.size }
+
+-- an extension over a base field, with the parts of its elements and the images of the base field's
+abbrev pub fields_over : Ops → Ops → Extension → (ℕ → ℕ) → Fields
+fields_over base o E embedding = record { ops = o; base_size = base.size; extension = E; embedding = embedding }
 
 -- The fields of a name: the integers modulo 65537 over themselves; a + b u over the integers modulo 257, where u^2 = 3; the field of 16 elements over
 -- itself, whose numbers have the bits of 1, w, y and wy, where w^2 = w + 1 and y^2 = y + w.

@@ -1,10 +1,14 @@
 -- The lines of a report, and the texts of refusals, of the numbers in them. Each line ends with a line feed.
-use Rattle.std.specs.Prelude.{ℕ, suc, List, [], ◌∷◌, ◌++◌, codes, decimal, Option, Some, None}
+use Rattle.std.specs.Prelude.{◌≡◌, ℕ, suc, List, [], ◌∷◌, ◌++◌, codes, decimal, Option, Some, None, String, string_bytes}
 use Rattle.sc_definitions.specs.Lucky.{Luck, in_batch, in_round}
 use Rattle.sc_verdicts.specs.declared.error.ShapeFault.{ShapeFault}
 use Rattle.sc_verdicts.specs.declared.error.ShapeFault.TheVariants.{TableLength, Difficulty, Arity}
 use Rattle.sc_verdicts.specs.declared.error.FitFault.{FitFault}
 use Rattle.sc_verdicts.specs.declared.error.FitFault.TheVariants.{Variables, Select, Selector}
+
+-- a text had these bytes added
+abbrev pub Adds : {Z : Type 0} → String Z → String Z → List ℕ → Type 0
+Adds old new bytes = string_bytes new ≡ string_bytes old ++ bytes
 
 -- numbers, a space before each
 unfoldable pub spaced : List ℕ → List ℕ

@@ -1,6 +1,6 @@
 //! The lines of a report, and the texts of refusals, of the numbers in them.
-ghost use Rattle.std.specs.Prelude.{◌≡◌, ◌++◌, [], ◌∷◌, OnOk, IfOk, codes, map, string_bytes};
-ghost use Rattle.sumcheck_replies.specs.Lines.{claim_line, counts_lines, eval_line, false_claim_text};
+ghost use Rattle.std.specs.Prelude.{◌≡◌, [], ◌∷◌, OnOk, IfOk, codes, map, string_bytes};
+ghost use Rattle.sumcheck_replies.specs.Lines.{Adds, claim_line, counts_lines, eval_line, false_claim_text};
 ghost use Rattle.sumcheck_replies.specs.Lines.{fit_fault_text, grid_name, holds_line, missing_text};
 ghost use Rattle.sumcheck_replies.specs.Lines.{lucky_batch_line, lucky_batch_name};
 ghost use Rattle.sumcheck_replies.specs.Lines.{lucky_round_line, lucky_round_name};
@@ -19,8 +19,7 @@ use sumcheck_jobs::Member;
 /// How many rows and how many statements there are, a line each.
 #[tactic(auto, unfolding(crate::specs::Lines::counts_lines))]
 pub fn push_counts(text: &mut String, rows: usize, statements: usize) -> Result<(), AllocError>
-    ensures { OnOk result (string_bytes text.new
-        ≡ string_bytes text.old ++ counts_lines rows statements) }
+    ensures { OnOk result (Adds text.old text.new (counts_lines rows statements)) }
 {
     write!(text, "rows {rows}\nstatements {statements}\n")
 }
@@ -28,7 +27,7 @@ pub fn push_counts(text: &mut String, rows: usize, statements: usize) -> Result<
 /// The line of the claim.
 #[tactic(auto, unfolding(crate::specs::Lines::claim_line))]
 pub fn push_claim(text: &mut String, claim: u64) -> Result<(), AllocError>
-    ensures { OnOk result (string_bytes text.new ≡ string_bytes text.old ++ claim_line claim) }
+    ensures { OnOk result (Adds text.old text.new (claim_line claim)) }
 {
     write!(text, "claim {claim}\n")
 }
@@ -44,8 +43,7 @@ pub fn push_round(
     witness: Option<u64>,
     challenge: u64,
 ) -> Result<(), AllocError>
-    ensures { OnOk result (string_bytes text.new
-        ≡ string_bytes text.old ++ round_line i (c_a ∷ c_inf ∷ []) witness challenge) }
+    ensures { OnOk result (Adds text.old text.new (round_line i (c_a ∷ c_inf ∷ []) witness challenge)) }
 {
     match witness {
         None => write!(text, "round {i}: {c_a} {c_inf} challenge {challenge}\n"),
@@ -59,7 +57,7 @@ pub fn push_round(
 /// The beginning of a round's line, up to its values.
 #[tactic(auto, unfolding(crate::specs::Lines::round_name))]
 pub fn push_round_name(text: &mut String, i: usize) -> Result<(), AllocError>
-    ensures { OnOk result (string_bytes text.new ≡ string_bytes text.old ++ round_name i) }
+    ensures { OnOk result (Adds text.old text.new (round_name i)) }
 {
     write!(text, "round {i}:")
 }
@@ -67,7 +65,7 @@ pub fn push_round_name(text: &mut String, i: usize) -> Result<(), AllocError>
 /// The witness behind a round's values, if it has one.
 #[tactic(auto, unfolding(crate::specs::Lines::witness_part))]
 pub fn push_witness(text: &mut String, witness: Option<u64>) -> Result<(), AllocError>
-    ensures { OnOk result (string_bytes text.new ≡ string_bytes text.old ++ witness_part witness) }
+    ensures { OnOk result (Adds text.old text.new (witness_part witness)) }
 {
     match witness {
         None => Ok(()),
@@ -78,8 +76,7 @@ pub fn push_witness(text: &mut String, witness: Option<u64>) -> Result<(), Alloc
 /// The challenge, which ends a round's line.
 #[tactic(auto, unfolding(crate::specs::Lines::challenge_part))]
 pub fn push_challenge(text: &mut String, challenge: u64) -> Result<(), AllocError>
-    ensures { OnOk result (string_bytes text.new
-        ≡ string_bytes text.old ++ challenge_part challenge) }
+    ensures { OnOk result (Adds text.old text.new (challenge_part challenge)) }
 {
     write!(text, " challenge {challenge}\n")
 }
@@ -87,7 +84,7 @@ pub fn push_challenge(text: &mut String, challenge: u64) -> Result<(), AllocErro
 /// The line of the sum over all values that rounds sent.
 #[tactic(auto, unfolding(crate::specs::Lines::pairs_line))]
 pub fn push_pairs(text: &mut String, sum: u64) -> Result<(), AllocError>
-    ensures { OnOk result (string_bytes text.new ≡ string_bytes text.old ++ pairs_line sum) }
+    ensures { OnOk result (Adds text.old text.new (pairs_line sum)) }
 {
     write!(text, "pairs {sum}\n")
 }
@@ -95,7 +92,7 @@ pub fn push_pairs(text: &mut String, sum: u64) -> Result<(), AllocError>
 /// The line of what rounds leave of the claim.
 #[tactic(auto, unfolding(crate::specs::Lines::residual_line))]
 pub fn push_residual(text: &mut String, x: u64) -> Result<(), AllocError>
-    ensures { OnOk result (string_bytes text.new ≡ string_bytes text.old ++ residual_line x) }
+    ensures { OnOk result (Adds text.old text.new (residual_line x)) }
 {
     write!(text, "residual {x}\n")
 }
@@ -103,7 +100,7 @@ pub fn push_residual(text: &mut String, x: u64) -> Result<(), AllocError>
 /// The line of the table's value at the challenges.
 #[tactic(auto, unfolding(crate::specs::Lines::eval_line))]
 pub fn push_eval(text: &mut String, x: u64) -> Result<(), AllocError>
-    ensures { OnOk result (string_bytes text.new ≡ string_bytes text.old ++ eval_line x) }
+    ensures { OnOk result (Adds text.old text.new (eval_line x)) }
 {
     write!(text, "eval {x}\n")
 }
@@ -111,7 +108,7 @@ pub fn push_eval(text: &mut String, x: u64) -> Result<(), AllocError>
 /// The line of the weights' value at the challenges.
 #[tactic(auto, unfolding(crate::specs::Lines::weight_line))]
 pub fn push_weight(text: &mut String, x: u64) -> Result<(), AllocError>
-    ensures { OnOk result (string_bytes text.new ≡ string_bytes text.old ++ weight_line x) }
+    ensures { OnOk result (Adds text.old text.new (weight_line x)) }
 {
     write!(text, "weight {x}\n")
 }
@@ -119,7 +116,7 @@ pub fn push_weight(text: &mut String, x: u64) -> Result<(), AllocError>
 /// The line of the product of several tables' values at the challenges.
 #[tactic(auto, unfolding(crate::specs::Lines::product_line))]
 pub fn push_product(text: &mut String, x: u64) -> Result<(), AllocError>
-    ensures { OnOk result (string_bytes text.new ≡ string_bytes text.old ++ product_line x) }
+    ensures { OnOk result (Adds text.old text.new (product_line x)) }
 {
     write!(text, "product {x}\n")
 }
@@ -127,23 +124,21 @@ pub fn push_product(text: &mut String, x: u64) -> Result<(), AllocError>
 /// The beginning of the line of a round's grid, up to its values.
 #[tactic(auto, unfolding(crate::specs::Lines::grid_name))]
 pub fn push_grid_name(text: &mut String, i: usize, place: &str) -> Result<(), AllocError>
-    ensures { OnOk result (string_bytes text.new
-        ≡ string_bytes text.old ++ grid_name i place.now) }
+    ensures { OnOk result (Adds text.old text.new (grid_name i place.now)) }
 {
     write!(text, "grid {i} {place}")
 }
 
 #[tactic(auto, unfolding(crate::specs::Lines::spaced))]
 fn push_spaced(text: &mut String, x: u64) -> Result<(), AllocError>
-    ensures { OnOk result (string_bytes text.new ≡ string_bytes text.old ++ spaced (x ∷ [])) }
+    ensures { OnOk result (Adds text.old text.new (spaced (x ∷ []))) }
 {
     write!(text, " {x}")
 }
 
 /// The numbers of elements, a space before each, in time linear in their count.
 pub fn push_values<EF: Field>(text: &mut String, values: &[EF]) -> Result<(), NoMemory>
-    ensures { OnOk result (string_bytes text.new
-        ≡ string_bytes text.old ++ spaced (map EF.number values.now)) }
+    ensures { OnOk result (Adds text.old text.new (spaced (map EF.number values.now))) }
 {
     for value in values {
         push_spaced(text, value.index())?;
@@ -153,7 +148,7 @@ pub fn push_values<EF: Field>(text: &mut String, values: &[EF]) -> Result<(), No
 
 /// The end of a line.
 pub fn push_end(text: &mut String) -> Result<(), AllocError>
-    ensures { OnOk result (string_bytes text.new ≡ string_bytes text.old ++ codes "\n") }
+    ensures { OnOk result (Adds text.old text.new (codes "\n")) }
 {
     text.push_str("\n")
 }
@@ -161,7 +156,7 @@ pub fn push_end(text: &mut String) -> Result<(), AllocError>
 /// The verdict that every statement is true.
 #[tactic(auto, unfolding(crate::specs::Lines::holds_line))]
 pub fn push_holds(text: &mut String) -> Result<(), AllocError>
-    ensures { OnOk result (string_bytes text.new ≡ string_bytes text.old ++ holds_line) }
+    ensures { OnOk result (Adds text.old text.new holds_line) }
 {
     text.push_str("verdict holds\n")
 }
@@ -169,7 +164,7 @@ pub fn push_holds(text: &mut String) -> Result<(), AllocError>
 /// The verdict that what rounds leave is not the product of the values.
 #[tactic(auto, unfolding(crate::specs::Lines::refuted_line))]
 pub fn push_refuted(text: &mut String) -> Result<(), AllocError>
-    ensures { OnOk result (string_bytes text.new ≡ string_bytes text.old ++ refuted_line) }
+    ensures { OnOk result (Adds text.old text.new refuted_line) }
 {
     text.push_str("verdict refuted\n")
 }
@@ -181,8 +176,7 @@ pub fn push_lucky_batch<EF: Field>(
     poly: &[EF],
     vanishing: u64,
 ) -> Result<(), NoMemory>
-    ensures { OnOk result (string_bytes text.new
-        ≡ string_bytes text.old ++ lucky_batch_line (map EF.number poly.now) vanishing) }
+    ensures { OnOk result (Adds text.old text.new (lucky_batch_line (map EF.number poly.now) vanishing)) }
 {
     push_lucky_batch_name(text, vanishing)?;
     push_values(text, poly)?;
@@ -193,8 +187,7 @@ pub fn push_lucky_batch<EF: Field>(
 // The beginning of that line, up to the coefficients.
 #[tactic(auto, unfolding(crate::specs::Lines::lucky_batch_name))]
 fn push_lucky_batch_name(text: &mut String, vanishing: u64) -> Result<(), AllocError>
-    ensures { OnOk result (string_bytes text.new
-        ≡ string_bytes text.old ++ lucky_batch_name vanishing) }
+    ensures { OnOk result (Adds text.old text.new (lucky_batch_name vanishing)) }
 {
     write!(text, "verdict lucky-batch vanishing {vanishing} poly")
 }
@@ -207,8 +200,7 @@ pub fn push_lucky_round<EF: Field>(
     poly: &[EF],
     vanishing: u64,
 ) -> Result<(), NoMemory>
-    ensures { OnOk result (string_bytes text.new
-        ≡ string_bytes text.old ++ lucky_round_line round (map EF.number poly.now) vanishing) }
+    ensures { OnOk result (Adds text.old text.new (lucky_round_line round (map EF.number poly.now) vanishing)) }
 {
     push_lucky_round_name(text, round, vanishing)?;
     push_values(text, poly)?;
@@ -219,8 +211,7 @@ pub fn push_lucky_round<EF: Field>(
 // The beginning of that line, up to the coefficients.
 #[tactic(auto, unfolding(crate::specs::Lines::lucky_round_name))]
 fn push_lucky_round_name(text: &mut String, round: usize, vanishing: u64) -> Result<(), AllocError>
-    ensures { OnOk result (string_bytes text.new
-        ≡ string_bytes text.old ++ lucky_round_name round vanishing) }
+    ensures { OnOk result (Adds text.old text.new (lucky_round_name round vanishing)) }
 {
     write!(
         text,

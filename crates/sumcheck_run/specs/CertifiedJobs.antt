@@ -1,13 +1,16 @@
 -- What is certified of the reply to a job.
-use Rattle.std.specs.Prelude.{◌≡◌, List, None, Ok}
+use Rattle.std.specs.Prelude.{◌≡◌, ◌⊎◌, ◌<◌, List, None, Ok}
 use Rattle.sc_definitions.specs.Transcript.{Round}
 use Rattle.sc_jobs.specs.Cases.{Asked}
 use Rattle.sc_jobs.specs.Refusals.{refusal_of}
 use Rattle.sc_jobs.specs.Audits.{figures_from}
 use Rattle.sc_jobs.specs.Certified.{CertifiesLuck}
+use Rattle.sc_table.specs.declared.strategy.Strategy.{Strategy}
 use Rattle.sumcheck_jobs.specs.declared.job.Job.{Job}
+use Rattle.sumcheck_jobs.specs.declared.job.Mode.TheVariants.{Build}
 use Rattle.sumcheck_replies.specs.Fields.{fields_of}
-use Rattle.sumcheck_run.specs.Report.{asked_by, rounds_of}
+use Rattle.sumcheck_replies.specs.declared.reply.Outcome.TheVariants.{Holds, NoWitness}
+use Rattle.sumcheck_run.specs.Report.{asked_by, judge, rounds_of}
 
 -- In the figures of rounds that are played a challenge that is named lucky is certified, and one is named where the residual is right although a
 -- statement is false.
@@ -17,3 +20,9 @@ AreCertified q = refusal_of q ≡ None → (rounds : List Round) → rounds_of q
 -- the same of what a job asks of its own challenger
 abbrev pub IsCertifiedJob : Job → Type 0
 IsCertifiedJob job = AreCertified (asked_by (fields_of job.field) job)
+
+-- a build that is not refused holds, unless a round at a difficulty has no witness
+abbrev pub BuildHolds : Job → Type 0
+BuildHolds job =
+    (strategy : Strategy) → job.mode ≡ Build strategy → refusal_of (asked_by (fields_of job.field) job) ≡ None
+    → ((judge job).outcome ≡ Holds) ⊎ ((0 < job.bits) × ((judge job).outcome ≡ NoWitness))

@@ -1,5 +1,5 @@
 -- The reply to a command line and an input.
-use Rattle.std.specs.Prelude.{ℕ, List, [], ◌∷◌, length, codes, Bool, true, false, Option, Some, None, Result, Ok, Err, bytes_eq, nat_lt, if◌then◌else◌}
+use Rattle.std.specs.Prelude.{ℕ, List, [], ◌∷◌, length, map, String, string_bytes, codes, Bool, true, false, Option, Some, None, Result, Ok, Err, bytes_eq, nat_lt, if◌then◌else◌}
 use Rattle.std.specs.Option.{option_map}
 use Rattle.serde_json.specs.Data.{Data}
 use Rattle.sc_forms.specs.Values.{value_of}
@@ -57,6 +57,10 @@ command_of [] = None
 command_of (w ∷ []) = if bytes_eq w (codes "audit") then Some Audit else (if bytes_eq w (codes "product") then Some Product else None)
 command_of (w ∷ n ∷ number ∷ strategy ∷ []) = if bytes_eq w (codes "make") then option_map Make (recipe_of n number strategy) else None
 command_of words = None
+
+-- the command that a program's words are
+abbrev pub command_in : {Z : Type 0} → List (String Z) → Option Command
+command_in words = command_of (map string_bytes words)
 
 abbrev pub reads_input : Option Command → Bool
 reads_input None = false

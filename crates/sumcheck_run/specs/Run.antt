@@ -65,6 +65,10 @@ abbrev pub IsInput : Bool → Option (List ℕ) → ℕ → ℕ → List ℕ →
 IsInput true left faults faults' input = (left ≡ Some input) × ¬ HasRisen faults faults'
 IsInput false left faults faults' input = Unit {0}
 
+-- The same of a source that was left as it is behind.
+abbrev pub TellsInput : {S : Type 0} → Bool → (S → Option (List ℕ)) → (S → ℕ) → S → S → List ℕ → Type 0
+TellsInput reads left faults source source' input = IsInput reads (left source) (faults source) (faults source') input
+
 -- This reply's status and whole text, or want of memory.
 abbrev pub WritesReply : Reply → Option (List ℕ) → Option (List ℕ) → ℕ → Type 0
 WritesReply reply written written' code = (code ≡ want_of_memory) ⊎ ((code ≡ code_of reply.outcome) × Appends written written' reply.text)
@@ -92,3 +96,7 @@ pub record TellsFaults {X : Type 0} (faults : X → ℕ) (late : X → ℕ → �
   pub only : code ≡ status → HasRisen (faults stream) (faults stream')
   pub told : faults stream < faults stream' → code ≡ status
   pub stops : late stream' (faults stream) ≤ late stream (faults stream)
+
+-- No call found a count of faults above the one that the stream began with.
+abbrev pub StopsAtFault : {X : Type 0} → (X → ℕ) → (X → ℕ → ℕ) → X → X → Type 0
+StopsAtFault faults late stream stream' = late stream' (faults stream) ≤ late stream (faults stream)

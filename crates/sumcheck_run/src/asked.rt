@@ -6,6 +6,7 @@ ghost use Rattle.sc_jobs.specs.Cases.{asked_of, given_in, task_in};
 ghost use Rattle.sumcheck_jobs.specs.Job.{JobFits, ModeFits, ProofFits};
 ghost use Rattle.sc_transcript.specs.Data.{pair_of};
 ghost use Rattle.sumcheck_run.specs.Report.{asked_with, given_of, task_of, values_of};
+ghost use Rattle.sumcheck_replies.specs.Fields.{fields_over, sizes_over};
 
 use crate::statements::constraint_of;
 use sc_audit::{Job as AuditJob, Mode as AuditMode};
@@ -21,9 +22,9 @@ pub(crate) fn audit_job<F: Field, EF: ExtensionField<F>>(
     alloc: Global,
     job: &Job,
 ) -> Result<AuditJob<F, EF>, NoMemory>
-    requires { JobFits (record { base = F.ops.size; extension = EF.ops.size }) job.now }
+    requires { JobFits (sizes_over F.ops EF.ops) job.now }
     ensures { IfOk result (λ asked. (R : Rules) (h : List Event) → asked_of asked R h
-        ≡ asked_with (record { ops = EF.ops; base_size = F.ops.size; extension = EF.extension; embedding = EF.embedding }) job.now R h) }
+        ≡ asked_with (fields_over F.ops EF.ops EF.extension EF.embedding) job.now R h) }
 {
     let variables = job.variables as usize;
     let batching = EF::element(job.batching);
@@ -41,7 +42,7 @@ fn audit_mode<F: Field, EF: ExtensionField<F>>(
     alloc: Global,
     mode: &Mode,
 ) -> Result<AuditMode<F, EF>, NoMemory>
-    requires { ModeFits (record { base = F.ops.size; extension = EF.ops.size }) mode.now }
+    requires { ModeFits (sizes_over F.ops EF.ops) mode.now }
     ensures { IfOk result (λ asked. task_in F.number EF.number asked ≡ task_of mode.now) }
 {
     match mode {
@@ -56,7 +57,7 @@ fn proof_data<F: Field, EF: ExtensionField<F>>(
     alloc: Global,
     proof: &Proof,
 ) -> Result<SumcheckData<F, EF>, NoMemory>
-    requires { ProofFits (record { base = F.ops.size; extension = EF.ops.size }) proof.now }
+    requires { ProofFits (sizes_over F.ops EF.ops) proof.now }
     ensures { IfOk result (λ d. given_in F.number EF.number d ≡ given_of proof.now) }
 {
     Ok(SumcheckData {

@@ -1,6 +1,6 @@
 //! The command line.
-ghost use Rattle.std.specs.Prelude.{◌≡◌, ◌≢◌, ℕ, ◌<◌, ◌^◌, MatchOption, decimal, map, string_bytes};
-ghost use Rattle.sumcheck_run.specs.Program.{command_of, reads_input};
+ghost use Rattle.std.specs.Prelude.{◌≡◌, ◌≢◌, ℕ, ◌<◌, ◌^◌, MatchOption, decimal};
+ghost use Rattle.sumcheck_run.specs.Program.{command_in, reads_input};
 ghost use Rattle.sumcheck_run.specs.Words.{CommandFits, recipe_of, strategy_of, written_below};
 
 use itoa::Buffer;
@@ -40,7 +40,7 @@ pub enum Command {
 
 /// The command that the words after the program's name are, if they are one.
 pub fn read_command(words: &[String]) -> Option<Command>
-    ensures command { result ≡ command_of (map string_bytes words.now) }
+    ensures command { result ≡ command_in words.now }
     ensures fits { CommandFits result }
 {
     match words {

@@ -1,14 +1,14 @@
 //! From bytes to bytes.
-ghost use Rattle.std.specs.Prelude.{◌≡◌, ◌⊎◌, ◌<◌, ◌≤◌, ◌+◌, List, ℕ, Some, None, false, map};
-ghost use Rattle.std.specs.Prelude.{string_bytes, IfOk, IsOk, IsErrOf};
+ghost use Rattle.std.specs.Prelude.{◌≡◌, ◌⊎◌, ◌<◌, ◌≤◌, ◌+◌, List, ℕ, Some, None, false};
+ghost use Rattle.std.specs.Prelude.{IfOk, IsOk, IsErrOf};
 ghost use Rattle.sc_streams.specs.Faults.{HasRisen};
-ghost use Rattle.sumcheck_run.specs.Program.{audit_reply, command_of, json_reply, max_input};
+ghost use Rattle.sumcheck_run.specs.Program.{audit_reply, command_in, json_reply, max_input};
 ghost use Rattle.sumcheck_run.specs.Program.{product_reply, reads_input, reply_of};
 ghost use Rattle.sumcheck_replies.specs.Reply.{refused};
 ghost use Rattle.sumcheck_jobs.specs.Members.{misfit_text};
-ghost use Rattle.sumcheck_run.specs.Run.{IsAnswered, IsCutShort, IsInput, IsOfReply, IsRead};
+ghost use Rattle.sumcheck_run.specs.Run.{IsAnswered, IsCutShort, IsOfReply, IsRead};
 ghost use Rattle.sumcheck_run.specs.Run.{IsReadAs};
-ghost use Rattle.sumcheck_run.specs.Run.{ReadsLittle, Responds, TellsFaults, TellsUsage};
+ghost use Rattle.sumcheck_run.specs.Run.{ReadsLittle, Responds, StopsAtFault, TellsFaults, TellsInput, TellsUsage};
 ghost use Rattle.sumcheck_run.specs.Run.{WritesReply, reading_failed, want_of_memory};
 ghost use Rattle.sumcheck_run.specs.Run.{writing_failed};
 ghost use Rattle.sumcheck_run.specs.Made.{made_reply};
@@ -121,8 +121,7 @@ fn read_input<S: Source>(alloc: Global, reads: bool, source: &mut S) -> Result<V
         → HasRisen (S.faults source.old) (S.faults source.new) }
     ensures quiet { (IsErrOf result ReadFault.Failed → ⊥)
         → S.faults source.new ≡ S.faults source.old }
-    ensures late { S.late source.new (S.faults source.old)
-        ≤ S.late source.old (S.faults source.old) }
+    ensures late { StopsAtFault S.faults S.late source.old source.new }
 {
     if !reads {
         return Ok(Vec::new(alloc));
@@ -136,7 +135,7 @@ fn respond<K: Sink>(alloc: Global, command: Option<Command>, input: Vec<u8>, sin
     requires { CommandFits command }
     ensures responds { Responds K.taken K.faults (reply_of command input.items)
         sink.old sink.new result.code }
-    ensures late { K.late sink.new (K.faults sink.old) ≤ K.late sink.old (K.faults sink.old) }
+    ensures late { StopsAtFault K.faults K.late sink.old sink.new }
 {
     let Ok(answer) = answer(alloc, command, input) else {
         return Status { code: 8 };
@@ -160,13 +159,13 @@ pub fn run<S: Source, K: Sink>(
 ) -> Status
     // Statuses 0 to 5, of the outcomes: the status and the whole text of the reply to the input.
     ensures answered { IsOfReply result.code
-        → let command = command_of (map string_bytes words.now) in
+        → let command = command_in words.now in
         IsAnswered (reads_input command) (reply_of command) (S.left source.old) (S.left source.new)
         (K.taken sink.old) (K.taken sink.new) result.code }
 
     // Status 7, a write failed: a proper prefix of it.
     ensures cut_short { result.code ≡ writing_failed
-        → let command = command_of (map string_bytes words.now) in
+        → let command = command_in words.now in
         IsCutShort (reads_input command) (reply_of command) (S.left source.old) (S.left source.new)
         (K.taken sink.old) (K.taken sink.new) }
 
@@ -176,23 +175,22 @@ pub fn run<S: Source, K: Sink>(
     ensures no_other { result.code ≤ want_of_memory }
 
     // A command that reads nothing leaves the source as it was.
-    ensures untouched { reads_input (command_of (map string_bytes words.now)) ≡ false
+    ensures untouched { reads_input (command_in words.now) ≡ false
         → source.new ≡ source.old }
 
     // Usage exactly where the words are no command, write faults and want of memory aside.
-    ensures usage { TellsUsage (command_of (map string_bytes words.now)) result.code }
+    ensures usage { TellsUsage (command_in words.now) result.code }
 
     // Where the source, if it is read, tells its bytes and neither has a fault: the reply to all of
     // them, memory aside.
-    ensures headline { (input : List ℕ) → let command = command_of (map string_bytes words.now) in
-        IsInput (reads_input command) (S.left source.old) (S.faults source.old)
-        (S.faults source.new) input
+    ensures headline { (input : List ℕ) → let command = command_in words.now in
+        TellsInput (reads_input command) S.left S.faults source.old source.new input
         → ¬ HasRisen (K.faults sink.old) (K.faults sink.new)
         → WritesReply (reply_of command input) (K.taken sink.old) (K.taken sink.new) result.code }
 
     // The reply to a job that is made says that it holds.
     ensures made { (recipe : Recipe)
-        → command_of (map string_bytes words.now) ≡ Some (Command.Make recipe)
+        → command_in words.now ≡ Some (Command.Make recipe)
         → (made_reply recipe).outcome ≡ Outcome.Holds }
 
     // It reads at most one byte past the limit, and at most one read gives no byte.

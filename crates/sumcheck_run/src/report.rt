@@ -1,28 +1,27 @@
 //! The answer to a job.
-ghost use Rattle.std.specs.Prelude.{◌≡◌, ◌⊎◌, ◌<◌, ◌++◌, IfOk, OnOk, None, [], map, string_bytes};
+ghost use Rattle.std.specs.Prelude.{◌≡◌, IfOk, OnOk, map, string_bytes};
 ghost use Rattle.sc_transcript.specs.Data.{pair_of};
 ghost use Rattle.sc_jobs.specs.Cases.{asked_of};
 ghost use Rattle.sc_jobs.specs.Figures.{report_in, finding_in};
-ghost use Rattle.sc_jobs.specs.Refusals.{refusal_of};
 ghost use Rattle.sumcheck_jobs.specs.Elements.{sizes_of};
 ghost use Rattle.sumcheck_jobs.specs.Job.{JobFits};
-ghost use Rattle.sumcheck_replies.specs.Lines.{round_lines};
-ghost use Rattle.sumcheck_replies.specs.Fields.{Fields, fields_of};
+ghost use Rattle.sumcheck_replies.specs.Lines.{Adds, round_lines};
+ghost use Rattle.sumcheck_replies.specs.Fields.{fields_over, sizes_over};
 ghost use Rattle.sumcheck_replies.specs.Refusals.{finding_reply};
-ghost use Rattle.sumcheck_run.specs.CertifiedJobs.{IsCertifiedJob};
-ghost use Rattle.sumcheck_run.specs.Report.{asked_by, case_reply};
+ghost use Rattle.sumcheck_run.specs.CertifiedJobs.{BuildHolds, IsCertifiedJob};
+ghost use Rattle.sumcheck_run.specs.Report.{case_reply};
 ghost use Rattle.sumcheck_run.specs.Report.{judge, judge_over, report_lines, report_reply};
 
 use crate::asked::audit_job;
 use crate::grids::push_grids;
-use sc_audit::{Job as AuditJob, Report, Strategy, Verdict, audit};
+use sc_audit::{Job as AuditJob, Report, Verdict, audit};
 use sc_challenger::{Challenger, HashChallenger, ScriptedChallenger};
 use sc_field::{ExtensionField, Field, IntoTranscriptField, NoMemory};
 use sc_sixteen::{Poly16, Tower16};
 use sc_small_fields::{F257, F257x2, F65537};
 use sc_table::RoundMessage;
 use std::alloc::Global;
-use sumcheck_jobs::{FieldName, Job, Mode};
+use sumcheck_jobs::{FieldName, Job};
 use sumcheck_replies::{Answer, Outcome, lines, number_at, refuse, scripted};
 
 /// The answer to a job: its report, or why there is none. The numbers are given up before the audit begins.
@@ -31,9 +30,7 @@ pub fn judge_job(alloc: Global, job: Job) -> Result<Answer, NoMemory>
     ensures reply { IfOk result (λ a. a ≡ judge job) }
 
     // So a build that is not refused holds, unless a round at a difficulty has no witness.
-    ensures holds { (strategy : Strategy) → job.mode ≡ Mode.Build strategy → let k : Fields = fields_of job.field in
-        refusal_of (asked_by k job) ≡ None
-        → ((judge job).outcome ≡ Outcome.Holds) ⊎ ((0 < job.bits) × ((judge job).outcome ≡ Outcome.NoWitness)) }
+    ensures holds { BuildHolds job }
 
     // A challenge that its report names lucky is certified, and one is named where the residual is
     // right although a statement is false.
@@ -51,8 +48,8 @@ fn judge_in<F: Field, EF: ExtensionField<F>, R: IntoTranscriptField<EF>>(
     alloc: Global,
     job: Job,
 ) -> Result<Answer, NoMemory>
-    requires { JobFits (record { base = F.ops.size; extension = EF.ops.size }) job }
-    ensures { IfOk result (λ a. a ≡ judge_over (record { ops = EF.ops; base_size = F.ops.size; extension = EF.extension; embedding = EF.embedding }) job) }
+    requires { JobFits (sizes_over F.ops EF.ops) job }
+    ensures { IfOk result (λ a. a ≡ judge_over (fields_over F.ops EF.ops EF.extension EF.embedding) job) }
 {
     let asked: AuditJob<F, EF> = audit_job(alloc, &job)?;
     match challenger_in(job) {
@@ -168,8 +165,7 @@ fn push_rounds<F: Field, EF: Field>(
     witnesses: &[F],
     challenges: &[EF],
 ) -> Result<(), NoMemory>
-    ensures { OnOk result (string_bytes text.new ≡ string_bytes text.old
-        ++ round_lines 0 (map (pair_of EF.number) messages.now) (map F.number witnesses.now) (map EF.number challenges.now)) }
+    ensures { OnOk result (Adds text.old text.new (round_lines 0 (map (pair_of EF.number) messages.now) (map F.number witnesses.now) (map EF.number challenges.now))) }
 {
     for i in 0..messages.len().min(challenges.len()) {
         let message = messages[i];

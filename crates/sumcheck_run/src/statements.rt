@@ -6,6 +6,7 @@ ghost use Rattle.sc_statements.specs.Groups.{group_arity, group_statements};
 ghost use Rattle.sc_claims.specs.NextStatements.{next_arity, next_statements};
 ghost use Rattle.sc_claims.specs.SelectStatements.{select_arity, select_statements};
 ghost use Rattle.sumcheck_jobs.specs.Statements.{EqualityFits, GroupFits, ProductFits, ScalarFits, SuccessorFits, all_claims, equality_statement, group_claims, product_statement, scalar_statement, successor_statement};
+ghost use Rattle.sumcheck_replies.specs.Fields.{sizes_over};
 
 use sc_field::{ExtensionField, Field, NoMemory};
 use sc_statements::{Constraint, EqStatement, NextStatement, SelectStatement, Statements};
@@ -22,7 +23,7 @@ pub(crate) fn constraint_of<F: Field, EF: ExtensionField<F>>(
     variables: usize,
     batching: EF,
 ) -> Result<Constraint<F, EF>, NoMemory>
-    requires { All (GroupFits (record { base = F.ops.size; extension = EF.ops.size }) variables) groups.now }
+    requires { All (GroupFits (sizes_over F.ops EF.ops) variables) groups.now }
     ensures statements { IfOk result (λ c. constraint_statements (λ x. EF.embedding (F.number x)) EF.number c ≡ all_claims EF.embedding groups.now) }
     ensures arity { IfOk result (λ c. constraint_arity c ≡ variables) }
     ensures challenge { IfOk result (λ c. constraint_challenge EF.number c ≡ EF.number batching) }
@@ -41,7 +42,7 @@ fn statements_of<F: Field, EF: ExtensionField<F>>(
     group: &Group,
     variables: usize,
 ) -> Result<Statements<F, EF>, NoMemory>
-    requires { GroupFits (record { base = F.ops.size; extension = EF.ops.size }) variables group.now }
+    requires { GroupFits (sizes_over F.ops EF.ops) variables group.now }
     ensures statements { IfOk result (λ g. group_statements (λ x. EF.embedding (F.number x)) EF.number g ≡ group_claims EF.embedding group.now) }
     ensures arity { IfOk result (λ g. group_arity g ≡ variables) }
 {
@@ -109,7 +110,7 @@ fn scalars_of<F: Field, EF: ExtensionField<F>>(
     claims: &[ScalarClaim],
     variables: usize,
 ) -> Result<SelectStatement<F, EF>, NoMemory>
-    requires { All (ScalarFits (record { base = F.ops.size; extension = EF.ops.size })) claims.now }
+    requires { All (ScalarFits (sizes_over F.ops EF.ops)) claims.now }
     ensures statements { IfOk result (λ s. select_statements (λ x. EF.embedding (F.number x)) EF.number s ≡ map (scalar_statement EF.embedding) claims.now) }
     ensures arity { IfOk result (λ s. select_arity s ≡ variables) }
 {
@@ -126,7 +127,7 @@ fn products_of<F: Field, EF: ExtensionField<F>>(
     claims: &[ProductClaim],
     variables: usize,
 ) -> Result<SelectStatement<F, EF>, NoMemory>
-    requires { All (ProductFits (record { base = F.ops.size; extension = EF.ops.size }) variables) claims.now }
+    requires { All (ProductFits (sizes_over F.ops EF.ops) variables) claims.now }
     ensures statements { IfOk result (λ s. select_statements (λ x. EF.embedding (F.number x)) EF.number s ≡ map (product_statement EF.embedding) claims.now) }
     ensures arity { IfOk result (λ s. select_arity s ≡ variables) }
 {

@@ -1,7 +1,6 @@
 //! Values made of those that stand some places before them.
-ghost use Rattle.std.specs.Prelude.{◌≡◌, ℕ, ◌+◌, ◌*◌, ◌%◌, ◌≤◌, length, map, take, vec_capacity};
-ghost use Rattle.sumcheck_run.specs.Made.{values_behind};
-ghost use Rattle.sumcheck_run.specs.Values.{number_of};
+ghost use Rattle.std.specs.Prelude.{◌≡◌, ◌+◌, ◌*◌, ◌%◌, ◌≤◌, length, take, vec_capacity};
+ghost use Rattle.sumcheck_run.specs.Values.{GoOn, number_of};
 
 use sc_field::Field;
 use sc_small_fields::F65537;
@@ -20,9 +19,7 @@ pub(crate) fn push_rest(taken: &mut Vec<F65537>, count: usize)
     requires more { length taken.old.items ≤ count }
     requires room { count ≤ vec_capacity taken.old }
     ensures size { length taken.new.items ≡ count }
-    ensures values { (number i : ℕ) → map number_of taken.old.items
-        ≡ values_behind number i (length taken.old.items)
-        → map number_of taken.new.items ≡ values_behind number i count }
+    ensures values { GoOn taken.old.items (length taken.old.items) taken.new.items count }
 {
     while taken.len() < count {
         let more = PIECE.min(count - taken.len());
@@ -36,9 +33,8 @@ fn push_piece(taken: &mut Vec<F65537>, more: usize)
     requires room { length taken.old.items + more ≤ vec_capacity taken.old }
     ensures size { length taken.new.items ≡ length taken.old.items + more }
     ensures room { vec_capacity taken.old ≤ vec_capacity taken.new }
-    ensures values { (number i : ℕ) → map number_of taken.old.items
-        ≡ values_behind number i (length taken.old.items)
-        → map number_of taken.new.items ≡ values_behind number i (length taken.old.items + more) }
+    ensures values { GoOn taken.old.items (length taken.old.items) taken.new.items
+        (length taken.old.items + more) }
 {
     let from = taken.len();
     // there is room
@@ -51,9 +47,7 @@ fn write_rest(rows: &mut [F65537], from: usize)
     requires some { 8 ≤ from }
     requires within { from ≤ length rows.old }
     ensures size { length rows.new ≡ length rows.old }
-    ensures values { (number i : ℕ) → map number_of (take from rows.old)
-        ≡ values_behind number i from
-        → map number_of rows.new ≡ values_behind number i (length rows.old) }
+    ensures values { GoOn (take from rows.old) from rows.new (length rows.old) }
 {
     for k in from..rows.len() {
         rows[k] = value_behind(rows[k - STRIDE]);

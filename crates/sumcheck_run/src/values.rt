@@ -1,6 +1,6 @@
 //! The values that a number begins.
-ghost use Rattle.std.specs.Prelude.{◌≡◌, ℕ, suc, ◌+◌, ◌<◌, map, IfOk};
-ghost use Rattle.sumcheck_run.specs.Made.{value_at, values_behind};
+ghost use Rattle.std.specs.Prelude.{◌≡◌, ℕ, suc, ◌<◌, IfOk};
+ghost use Rattle.sumcheck_run.specs.Made.{value_at};
 
 use crate::stride::{STRIDE, push_rest};
 use sc_field::{Field, NoMemory};
@@ -15,7 +15,7 @@ pub(crate) struct Values {
 }
 
 impl Values {
-    ghost use Rattle.sumcheck_run.specs.Values.{last_of, number_of};
+    ghost use Rattle.sumcheck_run.specs.Values.{AreBehind, last_of, number_of};
 
     /// Those of a number below 65537, of which none was taken.
     pub(crate) fn new(number: u64) -> Self
@@ -38,9 +38,8 @@ impl Values {
 
     /// So many values behind the last one.
     pub(crate) fn take(&mut self, alloc: Global, count: usize) -> Result<Vec<F65537>, NoMemory>
-        ensures { IfOk result (λ v. (number i : ℕ) → last_of self.old ≡ value_at number i →
-            (map number_of v.items ≡ values_behind number i count)
-            × (last_of self.new ≡ value_at number (i + count))) }
+        ensures { IfOk result (λ v.
+            AreBehind (last_of self.old) v.items count (last_of self.new)) }
     {
         let mut taken = Vec::with_capacity(alloc, count)?;
         for _i in 0..count.min(STRIDE) {
