@@ -138,10 +138,10 @@ impl<F: Field> Challenger<F> for ScriptedChallenger<F> {
 
 // Sorts each list by the numbers. It has the elements that it had, so that the same witnesses pass.
 fn sort_each<F: Field>(lists: &mut [Vec<F>])
-    ensures sorted { All IsNonDecreasing (map (λ list. map F.number list.items) lists.new) }
+    ensures sorted { All IsNonDecreasing (map (λ l. map F.number l.items) lists.new) }
     ensures same { (draws : List ℕ) →
-        scripted_rules draws (map (λ list. map F.number list.items) lists.new)
-        ≡ scripted_rules draws (map (λ list. map F.number list.items) lists.old) }
+        scripted_rules draws (map (λ l. map F.number l.items) lists.new)
+        ≡ scripted_rules draws (map (λ l. map F.number l.items) lists.old) }
 {
     for list in lists.iter_mut() {
         sort(list);

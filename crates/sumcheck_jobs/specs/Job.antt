@@ -105,8 +105,12 @@ abbrev pub ChallengerFits : ℕ → Challenger → Type 0
 ChallengerFits base (Scripted script) = ScriptFits base script
 ChallengerFits base Hash = ⊤
 
+-- both numbers of each pair are below a size
+abbrev pub ArePairs : ℕ → List (ℕ × ℕ) → Type 0
+ArePairs size pairs = All (λ pair. (pair.0 < size) × (pair.1 < size)) pairs
+
 pub record ProofFits (sizes : Sizes) (p : Proof) : Type 0 where
-  pub rounds : All (λ pair. (pair.0 < sizes.extension) × (pair.1 < sizes.extension)) p.rounds
+  pub rounds : ArePairs sizes.extension p.rounds
   pub witnesses : AreElements sizes.base p.witnesses
 
 abbrev pub ModeFits : Sizes → Mode → Type 0

@@ -13,6 +13,7 @@ ghost use Rattle.sumcheck_jobs.specs.Elements.{sizes_of};
 ghost use Rattle.sumcheck_jobs.specs.ProductJob.{ProductJobFits, ProductModeFits};
 ghost use Rattle.sumcheck_replies.specs.Lines.{Adds, round_line, round_lines};
 ghost use Rattle.sumcheck_replies.specs.Refusals.{finding_reply};
+ghost use Rattle.sumcheck_replies.specs.Reply.{Replies};
 ghost use Rattle.sumcheck_product.specs.CertifiedProducts.{CertifiesProduct};
 ghost use Rattle.sumcheck_product.specs.Products.{case_of, case_over, degree_refusal, figures_in};
 ghost use Rattle.sumcheck_product.specs.Products.{given_proof, luck_found, mode_reply};
@@ -44,7 +45,7 @@ use sumcheck_replies::{
 /// before the rounds begin.
 pub fn judge_product(alloc: Global, job: ProductJob) -> Result<Answer, NoMemory>
     requires { ProductJobFits (sizes_of job.field) job }
-    ensures reply { IfOk result (λ a. a ≡ product_answer job) }
+    ensures reply { Replies result (product_answer job) }
 
     // So a build whose shape is not refused holds, unless a round at a difficulty has no witness.
     ensures holds { job.mode ≡ ProductMode.Build
@@ -75,7 +76,7 @@ fn judge_in<F: Field, EF: ExtensionField<F>>(
     job: ProductJob,
 ) -> Result<Answer, NoMemory>
     requires { ProductJobFits (sizes_over F.ops EF.ops) job }
-    ensures { IfOk result (λ a. a ≡ product_judged
+    ensures { Replies result (product_judged
         (fields_over F.ops EF.ops EF.extension EF.embedding) job
         (rules_by F.ops.size job.challenger) []) }
 {
@@ -98,7 +99,7 @@ fn answer_to<F: Field, EF: ExtensionField<F>, C: Challenger<F>>(
     challenger: &mut C,
 ) -> Result<Answer, NoMemory>
     requires { ProductJobFits (sizes_over F.ops EF.ops) job }
-    ensures { IfOk result (λ a. a ≡ product_judged
+    ensures { Replies result (product_judged
         (fields_over F.ops EF.ops EF.extension EF.embedding) job
         (C.rules challenger.old) (C.history challenger.old)) }
 {
@@ -154,7 +155,7 @@ fn build<F: Field, EF: ExtensionField<F>, C: Challenger<F>>(
 ) -> Result<Answer, NoMemory>
     requires degree { IsDegree (length (tables_of EF.number product)) }
     requires difficulty { pow_bits ≤ (C.rules challenger.old).max_bits }
-    ensures { IfOk result (λ a. a ≡ mode_reply
+    ensures { Replies result (mode_reply
         (case_over EF.ops (tables_of EF.number product) (arity_of product)
         (channel (C.rules challenger.old) EF.extension F.ops.size pow_bits)
         (C.history challenger.old)) ProductMode.Build) }
@@ -225,7 +226,7 @@ fn check<F: Field, EF: ExtensionField<F>, C: Challenger<F>>(
 ) -> Result<Answer, NoMemory>
     requires degree { IsDegree (length (tables_of EF.number product)) }
     requires difficulty { pow_bits ≤ (C.rules challenger.old).max_bits }
-    ensures { IfOk result (λ a. a ≡ mode_reply
+    ensures { Replies result (mode_reply
         (case_over EF.ops (tables_of EF.number product) (arity_of product)
         (channel (C.rules challenger.old) EF.extension F.ops.size pow_bits)
         (C.history challenger.old))
@@ -322,7 +323,7 @@ fn show<F: Field, EF: ExtensionField<F>>(
     played: &Played<F, EF>,
     sum: EF,
 ) -> Result<Answer, NoMemory>
-    ensures { IfOk result (λ a. a ≡ shown_reply (EF.number sum)
+    ensures { Replies result (shown_reply (EF.number sum)
         (luck_found EF.ops EF.number played.now.turn)
         (figures_in F.number EF.number played.now)) }
 {
@@ -341,7 +342,7 @@ fn show<F: Field, EF: ExtensionField<F>>(
 // The answer of these lines where the claimed sum is false although what is left of it is the
 // product: the challenge of the turn was lucky. There always is one; without it they are refuted.
 fn show_luck<EF: Field>(mut text: String, turn: &Option<FoundTurn<EF>>) -> Result<Answer, NoMemory>
-    ensures { IfOk result (λ a. a ≡ finding_reply (named (luck_found EF.ops EF.number turn.now))
+    ensures { Replies result (finding_reply (named (luck_found EF.ops EF.number turn.now))
         (string_bytes text)) }
 {
     match turn {

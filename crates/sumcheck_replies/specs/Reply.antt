@@ -1,5 +1,5 @@
 -- What a command line and an input are answered: how it ends, and the text that is written.
-use Rattle.std.specs.Prelude.{ℕ, List, ◌++◌, codes, decimal}
+use Rattle.std.specs.Prelude.{◌≡◌, ℕ, List, ◌++◌, codes, decimal, Result, IfOk}
 use Rattle.sumcheck_replies.specs.declared.reply.Outcome.{Outcome}
 use Rattle.sumcheck_replies.specs.declared.reply.Outcome.TheVariants.{Holds, Refuted, Lucky, Usage, JobRefused, ProofRefused, NoWitness}
 
@@ -32,3 +32,7 @@ no_witness round = record { outcome = NoWitness; text = codes "no witness round 
 -- the answer to words that are no command
 unfoldable pub usage : Reply
 usage = record { outcome = Usage; text = codes "usage\n" }
+
+-- The answer, where there is one, is this reply.
+abbrev pub Replies : {E : Type 0} → Result Reply E → Reply → Type 0
+Replies result reply = IfOk result (λ a. a ≡ reply)

@@ -1,6 +1,6 @@
 //! What a command line and an input are answered.
-ghost use Rattle.std.specs.Prelude.{◌≡◌, ◌≤◌, string_bytes, IfOk};
-ghost use Rattle.sumcheck_replies.specs.Reply.{Reply, code_of, no_witness, proof_refused, refused, usage};
+ghost use Rattle.std.specs.Prelude.{◌≡◌, ◌≤◌, string_bytes};
+ghost use Rattle.sumcheck_replies.specs.Reply.{Replies, Reply, code_of, no_witness, proof_refused, refused, usage};
 
 use sc_field::NoMemory;
 use std::alloc::Global;
@@ -71,7 +71,7 @@ impl Answer {
     /// A refused job, in one line.
     #[tactic(auto, unfolding(crate::specs::Reply::refused))]
     pub fn refused(alloc: Global, why: &str) -> Result<Self, NoMemory>
-        ensures { IfOk result (λ a. a ≡ refused why.now) }
+        ensures { Replies result (refused why.now) }
     {
         let text = format!(in alloc; "refused {why}\n")?;
         Ok(Answer::new(Outcome::JobRefused, text))
@@ -80,7 +80,7 @@ impl Answer {
     /// A refused proof, in one line.
     #[tactic(auto, unfolding(crate::specs::Reply::proof_refused))]
     pub fn proof_refused(alloc: Global, why: &str) -> Result<Self, NoMemory>
-        ensures { IfOk result (λ a. a ≡ proof_refused why.now) }
+        ensures { Replies result (proof_refused why.now) }
     {
         let text = format!(in alloc; "proof refused {why}\n")?;
         Ok(Answer::new(Outcome::ProofRefused, text))
@@ -89,7 +89,7 @@ impl Answer {
     /// A build that finds no witness in this round, in one line.
     #[tactic(auto, unfolding(crate::specs::Reply::no_witness))]
     pub fn no_witness(alloc: Global, round: usize) -> Result<Self, NoMemory>
-        ensures { IfOk result (λ a. a ≡ no_witness round) }
+        ensures { Replies result (no_witness round) }
     {
         let text = format!(in alloc; "no witness round {round}\n")?;
         Ok(Answer::new(Outcome::NoWitness, text))
@@ -98,7 +98,7 @@ impl Answer {
     /// The answer to words that are no command.
     #[tactic(auto, unfolding(crate::specs::Reply::usage))]
     pub fn usage(alloc: Global) -> Result<Self, NoMemory>
-        ensures { IfOk result (λ a. a ≡ usage) }
+        ensures { Replies result usage }
     {
         let text = String::from_str(alloc, "usage\n")?;
         Ok(Answer::new(Outcome::Usage, text))

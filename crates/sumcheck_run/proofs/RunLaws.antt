@@ -110,7 +110,7 @@ never_rises a b is risen = absurd (omega arith)
 -- ---- the clauses of a run that has read
 
 module _ {K : Type 0} {taken : K → Option (List ℕ)} {faults : K → ℕ} {command : Option Command} {left left' : Option (List ℕ)} {sink sink' : K} {code : ℕ} (r : Ran taken faults command left left' sink sink' code) where
-  pub ran_answered : code ≤ 5 → IsAnswered (reads_input command) (reply_of command) left left' (taken sink) (taken sink') code
+  pub ran_answered : code ≤ 5 → IsAnswered command left left' (taken sink) (taken sink') code
   ran_answered small = elim r.reply [
     | inl whole ↦ record { input = r.input; read = r.read; status = whole.0; text = whole.1 }
     | inr rest ↦ elim rest [
@@ -119,7 +119,7 @@ module _ {K : Type 0} {taken : K → Option (List ℕ)} {faults : K → ℕ} {co
     ]
   ]
 
-  pub ran_cut_short : code ≡ 7 → IsCutShort (reads_input command) (reply_of command) left left' (taken sink) (taken sink')
+  pub ran_cut_short : code ≡ 7 → IsCutShort command left left' (taken sink) (taken sink')
   ran_cut_short seven = elim r.reply [
     | inl whole ↦ absurd (omega (arith, whole.0, low (reply_of command r.input).outcome))
     | inr rest ↦ elim rest [

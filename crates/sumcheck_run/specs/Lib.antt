@@ -2,6 +2,7 @@ pub mod Report
 pub mod CertifiedJobs
 pub mod Words
 pub mod Made
+pub mod Claimed
 pub mod Values
 pub mod Program
 pub mod Run

@@ -1,5 +1,5 @@
 -- What a job is answered.
-use Rattle.std.specs.Prelude.{ℕ, List, [], ◌∷◌, ◌++◌, length, map, Option, Some, None, Result, Ok, Err}
+use Rattle.std.specs.Prelude.{◌≡◌, ℕ, List, [], ◌∷◌, ◌++◌, length, map, Option, Some, None, Result, Ok, Err}
 use Rattle.std.specs.Option.{option_map}
 use Rattle.sc_definitions.specs.Tables.{evaluation, rows_of}
 use Rattle.sc_definitions.specs.declared.events.Event.{Event}
@@ -71,6 +71,10 @@ asked_with k job R h = record {
   channel = channel R k.extension k.base_size job.bits;
   history = h;
 }
+
+-- two ask the same, whatever the challenger's rules and its history
+abbrev pub AskSame : (Rules → List Event → Asked) → (Rules → List Event → Asked) → Type 0
+AskSame one other = (R : Rules) (h : List Event) → one R h ≡ other R h
 
 -- what it asks of its own challenger
 abbrev pub asked_by : Fields → Job → Asked

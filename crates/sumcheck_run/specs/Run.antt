@@ -8,7 +8,7 @@ use Rattle.sumcheck_run.specs.declared.command.Command.{Command}
 use Rattle.sumcheck_replies.specs.Reply.{Reply, code_of}
 use Rattle.sumcheck_run.specs.declared.program.Input.{Input}
 use Rattle.sumcheck_run.specs.declared.program.Input.TheVariants.{Value, Refused}
-use Rattle.sumcheck_run.specs.Program.{max_input, json_reply}
+use Rattle.sumcheck_run.specs.Program.{max_input, json_reply, reads_input, reply_of}
 
 -- ---- the statuses of a run
 
@@ -46,19 +46,19 @@ pub record IsRead (reads : Bool) (left left' : Option (List ℕ)) (input : List 
   pub none : reads ≡ false → input ≡ []
 
 -- Some input was read, and this is the status of the reply to it, with its whole text.
-pub record IsAnswered (reads : Bool) (reply : List ℕ → Reply) (left left' written written' : Option (List ℕ)) (code : ℕ) : Type 0 where
+pub record IsAnswered (command : Option Command) (left left' written written' : Option (List ℕ)) (code : ℕ) : Type 0 where
   pub input : List ℕ
-  pub read : IsRead reads left left' input
-  pub status : code ≡ code_of (reply input).outcome
-  pub text : Appends written written' (reply input).text
+  pub read : IsRead (reads_input command) left left' input
+  pub status : code ≡ code_of (reply_of command input).outcome
+  pub text : Appends written written' (reply_of command input).text
 
 -- Some input was read, and a proper prefix of the reply's text is written.
-pub record IsCutShort (reads : Bool) (reply : List ℕ → Reply) (left left' written written' : Option (List ℕ)) : Type 0 where
+pub record IsCutShort (command : Option Command) (left left' written written' : Option (List ℕ)) : Type 0 where
   pub input : List ℕ
-  pub read : IsRead reads left left' input
+  pub read : IsRead (reads_input command) left left' input
   pub count : ℕ
-  pub proper : count < length (reply input).text
-  pub text : Appends written written' (take count (reply input).text)
+  pub proper : count < length (reply_of command input).text
+  pub text : Appends written written' (take count (reply_of command input).text)
 
 -- What a command replies to: all the bytes that the source tells, where it has no fault. A command that reads nothing has one reply, whatever they are.
 abbrev pub IsInput : Bool → Option (List ℕ) → ℕ → ℕ → List ℕ → Type 0
@@ -66,8 +66,8 @@ IsInput true left faults faults' input = (left ≡ Some input) × ¬ HasRisen fa
 IsInput false left faults faults' input = Unit {0}
 
 -- The same of a source that was left as it is behind.
-abbrev pub TellsInput : {S : Type 0} → Bool → (S → Option (List ℕ)) → (S → ℕ) → S → S → List ℕ → Type 0
-TellsInput reads left faults source source' input = IsInput reads (left source) (faults source) (faults source') input
+abbrev pub TellsInput : {S : Type 0} → Option Command → (S → Option (List ℕ)) → (S → ℕ) → S → S → List ℕ → Type 0
+TellsInput command left faults source source' input = IsInput (reads_input command) (left source) (faults source) (faults source') input
 
 -- This reply's status and whole text, or want of memory.
 abbrev pub WritesReply : Reply → Option (List ℕ) → Option (List ℕ) → ℕ → Type 0
@@ -96,6 +96,10 @@ pub record TellsFaults {X : Type 0} (faults : X → ℕ) (late : X → ℕ → �
   pub only : code ≡ status → HasRisen (faults stream) (faults stream')
   pub told : faults stream < faults stream' → code ≡ status
   pub stops : late stream' (faults stream) ≤ late stream (faults stream)
+
+-- Where this is told the count of faults rose, and where it is not the count is as it was.
+abbrev pub IsTold : Type 0 → ℕ → ℕ → Type 0
+IsTold told faults faults' = (told → HasRisen faults faults') × (¬ told → faults' ≡ faults)
 
 -- No call found a count of faults above the one that the stream began with.
 abbrev pub StopsAtFault : {X : Type 0} → (X → ℕ) → (X → ℕ → ℕ) → X → X → Type 0

@@ -1,8 +1,8 @@
 -- What clauses see of the values that a number begins.
-use Rattle.std.specs.Prelude.{◌≡◌, ℕ, ◌+◌, List, map}
+use Rattle.std.specs.Prelude.{◌≡◌, ℕ, ◌+◌, List, length, map}
 use Rattle.sc_small_fields.specs.declared.f65537.F65537.{F65537}
 use Rattle.sumcheck_run.specs.declared.values.Values.{Values}
-use Rattle.sumcheck_run.specs.Made.{value_at, values_behind}
+use Rattle.sumcheck_run.specs.Made.{value_at, values_behind, Parts, parts_of, parts_end}
 
 -- the last one that was taken
 abbrev pub last_of : Values → ℕ
@@ -12,11 +12,17 @@ last_of v = v.last
 abbrev pub number_of : F65537 → ℕ
 number_of x = x.value
 
--- Of elements of which the old ones are so many as stand behind one that a number begins, the new ones are so many.
-abbrev pub GoOn : List F65537 → ℕ → List F65537 → ℕ → Type 0
-GoOn old from new count = (number i : ℕ) → map number_of old ≡ values_behind number i from → map number_of new ≡ values_behind number i count
+-- Where the old elements are those that stand behind one that a number begins, so are the new ones.
+abbrev pub GoOn : List F65537 → List F65537 → Type 0
+GoOn old new =
+    (number i : ℕ) → map number_of old ≡ values_behind number i (length old) → map number_of new ≡ values_behind number i (length new)
 
 -- Where one was the last that was taken, these are so many as stand behind it, and the last one is the last of them.
 abbrev pub AreBehind : ℕ → List F65537 → ℕ → ℕ → Type 0
 AreBehind last taken count last' =
     (number i : ℕ) → last ≡ value_at number i → (map number_of taken ≡ values_behind number i count) × (last' ≡ value_at number (i + count))
+
+-- Where the last that was taken is the number that begins them, these are the parts of a job of n variables, and the last one is the last of them.
+abbrev pub AreParts : ℕ → Parts → ℕ → ℕ → Type 0
+AreParts last parts n last' =
+    (number : ℕ) → last ≡ number → (parts ≡ parts_of number n) × (last' ≡ value_at number (parts_end n))

@@ -1,11 +1,9 @@
 //! The audit that a job asks for.
-ghost use Rattle.std.specs.Prelude.{◌≡◌, ◌<◌, List, All, IfOk, map};
-ghost use Rattle.sc_definitions.specs.declared.events.Event.{Event};
-ghost use Rattle.sc_definitions.specs.Events.{Rules};
+ghost use Rattle.std.specs.Prelude.{◌≡◌, All, IfOk, map};
 ghost use Rattle.sc_jobs.specs.Cases.{asked_of, given_in, task_in};
-ghost use Rattle.sumcheck_jobs.specs.Job.{JobFits, ModeFits, ProofFits};
+ghost use Rattle.sumcheck_jobs.specs.Job.{ArePairs, JobFits, ModeFits, ProofFits};
 ghost use Rattle.sc_transcript.specs.Data.{pair_of};
-ghost use Rattle.sumcheck_run.specs.Report.{asked_with, given_of, task_of, values_of};
+ghost use Rattle.sumcheck_run.specs.Report.{AskSame, asked_with, given_of, task_of, values_of};
 ghost use Rattle.sumcheck_replies.specs.Fields.{fields_over, sizes_over};
 
 use crate::statements::constraint_of;
@@ -23,8 +21,8 @@ pub(crate) fn audit_job<F: Field, EF: ExtensionField<F>>(
     job: &Job,
 ) -> Result<AuditJob<F, EF>, NoMemory>
     requires { JobFits (sizes_over F.ops EF.ops) job.now }
-    ensures { IfOk result (λ asked. (R : Rules) (h : List Event) → asked_of asked R h
-        ≡ asked_with (fields_over F.ops EF.ops EF.extension EF.embedding) job.now R h) }
+    ensures { IfOk result (λ asked. AskSame (asked_of asked)
+        (asked_with (fields_over F.ops EF.ops EF.extension EF.embedding) job.now)) }
 {
     let variables = job.variables as usize;
     let batching = EF::element(job.batching);
@@ -68,7 +66,7 @@ fn proof_data<F: Field, EF: ExtensionField<F>>(
 
 // The messages of the two values with these numbers.
 fn messages<F: Field>(alloc: Global, pairs: &[(u64, u64)]) -> Result<Vec<RoundMessage<F>>, NoMemory>
-    requires { All (λ pair. (pair.0 < F.ops.size) × (pair.1 < F.ops.size)) pairs.now }
+    requires { ArePairs F.ops.size pairs.now }
     ensures { IfOk result (λ v. map (pair_of F.number) v.items ≡ map values_of pairs.now) }
 {
     let mut found = Vec::with_capacity(alloc, pairs.len())?;

@@ -1,21 +1,19 @@
 //! The job that a recipe makes, and the report on it in short.
-ghost use Rattle.std.specs.Prelude.{◌≡◌, ℕ, ◌≤◌, List, [], ◌∷◌, None, length, map};
+ghost use Rattle.std.specs.Prelude.{◌≡◌, ◌≤◌, [], ◌∷◌, None, length, map};
 ghost use Rattle.std.specs.Prelude.{string_bytes, IfOk};
-ghost use Rattle.sc_definitions.specs.declared.events.Event.{Event};
-ghost use Rattle.sc_definitions.specs.Events.{Rules};
 ghost use Rattle.sc_definitions.specs.Statements.{claims, equality, successor};
 ghost use Rattle.sc_definitions.specs.Tables.{prefix};
 ghost use Rattle.sc_jobs.specs.Cases.{asked_of};
 ghost use Rattle.sc_jobs.specs.Figures.{report_in};
 ghost use Rattle.sc_jobs.specs.Refusals.{shape_refusal};
 ghost use Rattle.sc_jobs.specs.Stated.{asked_truly};
-ghost use Rattle.sc_claims.specs.EqStatements.{eq_arity, eq_statements};
-ghost use Rattle.sc_claims.specs.NextStatements.{next_arity, next_statements};
 ghost use Rattle.sc_transcript.specs.Data.{pair_of};
-ghost use Rattle.sumcheck_run.specs.Made.{PartsFit, asked_about, made_reply, parts_end, parts_in};
-ghost use Rattle.sumcheck_run.specs.Made.{parts_of, sum_of, summary_lines, value_at};
-ghost use Rattle.sumcheck_run.specs.Report.{case_reply, report_reply};
-ghost use Rattle.sumcheck_run.specs.Values.{last_of, number_of};
+ghost use Rattle.sumcheck_replies.specs.Reply.{Replies};
+ghost use Rattle.sumcheck_run.specs.Claimed.{EqStates, NextStates};
+ghost use Rattle.sumcheck_run.specs.Made.{PartsFit, asked_about, made_reply, parts_in};
+ghost use Rattle.sumcheck_run.specs.Made.{sum_of, summary_lines};
+ghost use Rattle.sumcheck_run.specs.Report.{AskSame, case_reply, report_reply};
+ghost use Rattle.sumcheck_run.specs.Values.{AreParts, last_of, number_of};
 ghost use Rattle.sumcheck_run.specs.Words.{IsMade};
 
 use crate::command::Recipe;
@@ -36,7 +34,7 @@ const STATEMENTS: usize = 2;
 /// The reply to a recipe: the report in short on the job that it makes. It always holds.
 pub(crate) fn make(alloc: Global, recipe: Recipe) -> Result<Answer, NoMemory>
     requires { IsMade recipe }
-    ensures reply { IfOk result (λ a. a ≡ made_reply recipe) }
+    ensures reply { Replies result (made_reply recipe) }
     ensures holds { (made_reply recipe).outcome ≡ Outcome.Holds }
 {
     let n = recipe.variables;
@@ -67,9 +65,8 @@ struct Parts<F> {
 // Those of a job of `n` variables, in the order of the values.
 fn take_parts(alloc: Global, values: &mut Values, n: usize) -> Result<Parts<F65537>, NoMemory>
     requires { n ≤ 24 }
-    ensures { IfOk result (λ p. (number : ℕ) → last_of values.old ≡ number →
-        (parts_in number_of p ≡ parts_of number n)
-        × (last_of values.new ≡ value_at number (parts_end n))) }
+    ensures { IfOk result (λ p. AreParts (last_of values.old) (parts_in number_of p) n
+        (last_of values.new)) }
 {
     let table = values.take(alloc, 1 << n)?;
     let point = values.take(alloc, n)?;
@@ -93,8 +90,8 @@ fn job_of<F: Field>(
     strategy: Strategy,
 ) -> Result<Job<F, F>, NoMemory>
     requires { PartsFit (parts_in F.number parts) }
-    ensures { IfOk result (λ j. (R : Rules) (h : List Event) → asked_truly (asked_of j R h)
-        ≡ asked_about F.ops (parts_in F.number parts) strategy R h) }
+    ensures { IfOk result (λ j. AskSame (λ R h. asked_truly (asked_of j R h))
+        (asked_about F.ops (parts_in F.number parts) strategy)) }
 {
     let variables = parts.point.len();
     let equality = equality_at(alloc, variables, parts.point)?;
@@ -118,9 +115,8 @@ fn equality_at<F: Field>(
     coords: Vec<F>,
 ) -> Result<EqStatement<F>, NoMemory>
     requires { length coords.items ≡ variables }
-    ensures statements { IfOk result (λ s. eq_statements F.number s
-        ≡ claims (equality (map F.number coords.items)) 0 ∷ []) }
-    ensures arity { IfOk result (λ s. eq_arity s ≡ variables) }
+    ensures { IfOk result (EqStates F.number variables
+        (claims (equality (map F.number coords.items)) 0 ∷ [])) }
 {
     let mut statement = EqStatement::initialize(alloc, variables);
     statement.add_evaluated_constraint(Point::new(coords), F::ZERO)?;
@@ -134,9 +130,8 @@ fn successor_at<F: Field>(
     coords: Vec<F>,
 ) -> Result<NextStatement<F>, NoMemory>
     requires { length coords.items ≡ variables }
-    ensures statements { IfOk result (λ s. next_statements F.number s
-        ≡ claims (successor prefix [] (map F.number coords.items)) 0 ∷ []) }
-    ensures arity { IfOk result (λ s. next_arity s ≡ variables) }
+    ensures { IfOk result (NextStates F.number variables
+        (claims (successor prefix [] (map F.number coords.items)) 0 ∷ [])) }
 {
     let mut statement = NextStatement::initialize(alloc, variables);
     statement.add_evaluated_constraint(
@@ -160,7 +155,7 @@ fn answer_in_short<F: Field, EF: ExtensionField<F>, R: IntoTranscriptField<EF>, 
 ) -> Result<Answer, NoMemory>
     requires { shape_refusal (asked_of job.old (C.rules challenger.old) (C.history challenger.old))
         ≡ None }
-    ensures { IfOk result (λ a. a ≡ case_reply (summary_lines rows 2 EF.ops)
+    ensures { Replies result (case_reply (summary_lines rows 2 EF.ops)
         (asked_truly (asked_of job.old (C.rules challenger.old) (C.history challenger.old)))) }
 {
     match audit_true::<F, EF, R, C>(alloc, job, challenger) {
@@ -175,7 +170,7 @@ fn show_in_short<F: Field, EF: ExtensionField<F>>(
     rows: usize,
     report: &Report<F, EF>,
 ) -> Result<Answer, NoMemory>
-    ensures { IfOk result (λ a. a ≡ report_reply (summary_lines rows 2 EF.ops)
+    ensures { Replies result (report_reply (summary_lines rows 2 EF.ops)
         (report_in F.number EF.number report.now)) }
 {
     let text = summary(alloc, rows, report)?;

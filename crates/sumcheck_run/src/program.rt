@@ -1,12 +1,12 @@
 //! From bytes to bytes.
-ghost use Rattle.std.specs.Prelude.{◌≡◌, ◌⊎◌, ◌<◌, ◌≤◌, ◌+◌, List, ℕ, Some, None, false};
+ghost use Rattle.std.specs.Prelude.{◌≡◌, ◌⊎◌, ◌≤◌, List, ℕ, Some, None, false};
 ghost use Rattle.std.specs.Prelude.{IfOk, IsOk, IsErrOf};
 ghost use Rattle.sc_streams.specs.Faults.{HasRisen};
-ghost use Rattle.sumcheck_run.specs.Program.{audit_reply, command_in, json_reply, max_input};
+ghost use Rattle.sumcheck_run.specs.Program.{audit_reply, command_in, json_reply};
 ghost use Rattle.sumcheck_run.specs.Program.{product_reply, reads_input, reply_of};
-ghost use Rattle.sumcheck_replies.specs.Reply.{refused};
+ghost use Rattle.sumcheck_replies.specs.Reply.{Replies, refused};
 ghost use Rattle.sumcheck_jobs.specs.Members.{misfit_text};
-ghost use Rattle.sumcheck_run.specs.Run.{IsAnswered, IsCutShort, IsOfReply, IsRead};
+ghost use Rattle.sumcheck_run.specs.Run.{IsAnswered, IsCutShort, IsOfReply, IsRead, IsTold};
 ghost use Rattle.sumcheck_run.specs.Run.{IsReadAs};
 ghost use Rattle.sumcheck_run.specs.Run.{ReadsLittle, Responds, StopsAtFault, TellsFaults, TellsInput, TellsUsage};
 ghost use Rattle.sumcheck_run.specs.Run.{WritesReply, reading_failed, want_of_memory};
@@ -63,7 +63,7 @@ fn parse(alloc: Global, input: Vec<u8>) -> Result<Input, NoMemory>
 
 // What `audit` replies to an input. The parsed value is given up before the job is judged.
 fn audit(alloc: Global, input: Vec<u8>) -> Result<Answer, NoMemory>
-    ensures { IfOk result (λ a. a ≡ json_reply audit_reply input.items) }
+    ensures { Replies result (json_reply audit_reply input.items) }
 {
     let value = match parse(alloc, input)? {
         Input::Value(value) => value,
@@ -78,7 +78,7 @@ fn audit(alloc: Global, input: Vec<u8>) -> Result<Answer, NoMemory>
 
 // What `product` replies to an input. The parsed value is given up before the job is judged.
 fn product(alloc: Global, input: Vec<u8>) -> Result<Answer, NoMemory>
-    ensures { IfOk result (λ a. a ≡ json_reply product_reply input.items) }
+    ensures { Replies result (json_reply product_reply input.items) }
 {
     let value = match parse(alloc, input)? {
         Input::Value(value) => value,
@@ -92,7 +92,7 @@ fn product(alloc: Global, input: Vec<u8>) -> Result<Answer, NoMemory>
 }
 
 fn refuse_misfit(alloc: Global, member: Member) -> Result<Answer, NoMemory>
-    ensures { IfOk result (λ a. a ≡ refused (misfit_text member)) }
+    ensures { Replies result (refused (misfit_text member)) }
 {
     let why = lines::misfit_text(alloc, member)?;
     Answer::refused(alloc, &why)
@@ -100,7 +100,7 @@ fn refuse_misfit(alloc: Global, member: Member) -> Result<Answer, NoMemory>
 
 fn answer(alloc: Global, command: Option<Command>, input: Vec<u8>) -> Result<Answer, NoMemory>
     requires { CommandFits command }
-    ensures { IfOk result (λ a. a ≡ reply_of command input.items) }
+    ensures { Replies result (reply_of command input.items) }
 {
     match command {
         None => Answer::usage(alloc),
@@ -113,14 +113,10 @@ fn answer(alloc: Global, command: Option<Command>, input: Vec<u8>) -> Result<Ans
 // The input of a command, which is empty where it reads none.
 fn read_input<S: Source>(alloc: Global, reads: bool, source: &mut S) -> Result<Vec<u8>, ReadFault>
     ensures read { IfOk result (λ v. IsRead reads (S.left source.old) (S.left source.new) v.items) }
-    ensures untouched { reads ≡ false → source.new ≡ source.old }
-    ensures unread { reads ≡ false → IsOk result }
-    ensures given { S.given source.new ≤ S.given source.old + (max_input + 1) }
-    ensures dry { S.dry source.new ≤ S.dry source.old + 1 }
-    ensures failed { IsErrOf result ReadFault.Failed
-        → HasRisen (S.faults source.old) (S.faults source.new) }
-    ensures quiet { (IsErrOf result ReadFault.Failed → ⊥)
-        → S.faults source.new ≡ S.faults source.old }
+    ensures unread { reads ≡ false → (source.new ≡ source.old) × IsOk result }
+    ensures sparing { ReadsLittle S.given S.dry source.old source.new }
+    ensures faults { IsTold (IsErrOf result ReadFault.Failed)
+        (S.faults source.old) (S.faults source.new) }
     ensures late { StopsAtFault S.faults S.late source.old source.new }
 {
     if !reads {
@@ -159,14 +155,12 @@ pub fn run<S: Source, K: Sink>(
 ) -> Status
     // Statuses 0 to 5, of the outcomes: the status and the whole text of the reply to the input.
     ensures answered { IsOfReply result.code
-        → let command = command_in words.now in
-        IsAnswered (reads_input command) (reply_of command) (S.left source.old) (S.left source.new)
+        → IsAnswered (command_in words.now) (S.left source.old) (S.left source.new)
         (K.taken sink.old) (K.taken sink.new) result.code }
 
     // Status 7, a write failed: a proper prefix of it.
     ensures cut_short { result.code ≡ writing_failed
-        → let command = command_in words.now in
-        IsCutShort (reads_input command) (reply_of command) (S.left source.old) (S.left source.new)
+        → IsCutShort (command_in words.now) (S.left source.old) (S.left source.new)
         (K.taken sink.old) (K.taken sink.new) }
 
     // Statuses 6, a read failed, and 8, want of memory: nothing is written. There is no other one.
@@ -184,7 +178,7 @@ pub fn run<S: Source, K: Sink>(
     // Where the source, if it is read, tells its bytes and neither has a fault: the reply to all of
     // them, memory aside.
     ensures headline { (input : List ℕ) → let command = command_in words.now in
-        TellsInput (reads_input command) S.left S.faults source.old source.new input
+        TellsInput command S.left S.faults source.old source.new input
         → ¬ HasRisen (K.faults sink.old) (K.faults sink.new)
         → WritesReply (reply_of command input) (K.taken sink.old) (K.taken sink.new) result.code }
 

@@ -8,6 +8,7 @@ ghost use Rattle.sumcheck_jobs.specs.Job.{JobFits};
 ghost use Rattle.sumcheck_replies.specs.Lines.{Adds, round_lines};
 ghost use Rattle.sumcheck_replies.specs.Fields.{fields_over, sizes_over};
 ghost use Rattle.sumcheck_replies.specs.Refusals.{finding_reply};
+ghost use Rattle.sumcheck_replies.specs.Reply.{Replies};
 ghost use Rattle.sumcheck_run.specs.CertifiedJobs.{BuildHolds, IsCertifiedJob};
 ghost use Rattle.sumcheck_run.specs.Report.{case_reply};
 ghost use Rattle.sumcheck_run.specs.Report.{judge, judge_over, report_lines, report_reply};
@@ -27,7 +28,7 @@ use sumcheck_replies::{Answer, Outcome, lines, number_at, refuse, scripted};
 /// The answer to a job: its report, or why there is none. The numbers are given up before the audit begins.
 pub fn judge_job(alloc: Global, job: Job) -> Result<Answer, NoMemory>
     requires { JobFits (sizes_of job.field) job }
-    ensures reply { IfOk result (λ a. a ≡ judge job) }
+    ensures reply { Replies result (judge job) }
 
     // So a build that is not refused holds, unless a round at a difficulty has no witness.
     ensures holds { BuildHolds job }
@@ -49,7 +50,7 @@ fn judge_in<F: Field, EF: ExtensionField<F>, R: IntoTranscriptField<EF>>(
     job: Job,
 ) -> Result<Answer, NoMemory>
     requires { JobFits (sizes_over F.ops EF.ops) job }
-    ensures { IfOk result (λ a. a ≡ judge_over (fields_over F.ops EF.ops EF.extension EF.embedding) job) }
+    ensures { Replies result (judge_over (fields_over F.ops EF.ops EF.extension EF.embedding) job) }
 {
     let asked: AuditJob<F, EF> = audit_job(alloc, &job)?;
     match challenger_in(job) {
@@ -79,7 +80,7 @@ fn answer_of<F: Field, EF: ExtensionField<F>, R: IntoTranscriptField<EF>, C: Cha
     asked: &AuditJob<F, EF>,
     challenger: &mut C,
 ) -> Result<Answer, NoMemory>
-    ensures { IfOk result (λ a. a ≡ case_reply report_lines
+    ensures { Replies result (case_reply report_lines
         (asked_of asked.now (C.rules challenger.old) (C.history challenger.old))) }
 {
     match audit::<F, EF, R, C>(alloc, asked, challenger) {
@@ -93,8 +94,7 @@ pub fn show_report<F: Field, EF: ExtensionField<F>>(
     alloc: Global,
     report: &Report<F, EF>,
 ) -> Result<Answer, NoMemory>
-    ensures { IfOk result (λ a. a
-        ≡ report_reply report_lines (report_in F.number EF.number report.now)) }
+    ensures { Replies result (report_reply report_lines (report_in F.number EF.number report.now)) }
 {
     let text = report_text(alloc, report)?;
     say_verdict(text, &report.verdict)
@@ -105,8 +105,7 @@ pub(crate) fn say_verdict<EF: Field>(
     report: String,
     verdict: &Verdict<EF>,
 ) -> Result<Answer, NoMemory>
-    ensures { IfOk result (λ a. a
-        ≡ finding_reply (finding_in EF.number verdict.now) (string_bytes report)) }
+    ensures { Replies result (finding_reply (finding_in EF.number verdict.now) (string_bytes report)) }
 {
     let mut text = report;
     match verdict {

@@ -1,12 +1,9 @@
 //! The statements that the claims of a job make.
 ghost use Rattle.std.specs.Prelude.{◌≡◌, All, IfOk, map};
-ghost use Rattle.sc_statements.specs.Constraints.{constraint_arity, constraint_challenge, constraint_power, constraint_statements};
-ghost use Rattle.sc_claims.specs.EqStatements.{eq_arity, eq_statements};
-ghost use Rattle.sc_statements.specs.Groups.{group_arity, group_statements};
-ghost use Rattle.sc_claims.specs.NextStatements.{next_arity, next_statements};
-ghost use Rattle.sc_claims.specs.SelectStatements.{select_arity, select_statements};
+ghost use Rattle.sc_statements.specs.Constraints.{constraint_challenge, constraint_power};
 ghost use Rattle.sumcheck_jobs.specs.Statements.{EqualityFits, GroupFits, ProductFits, ScalarFits, SuccessorFits, all_claims, equality_statement, group_claims, product_statement, scalar_statement, successor_statement};
 ghost use Rattle.sumcheck_replies.specs.Fields.{sizes_over};
+ghost use Rattle.sumcheck_run.specs.Claimed.{ConstraintStates, EqStates, GroupStates, NextStates, SelectStates};
 
 use sc_field::{ExtensionField, Field, NoMemory};
 use sc_statements::{Constraint, EqStatement, NextStatement, SelectStatement, Statements};
@@ -24,10 +21,10 @@ pub(crate) fn constraint_of<F: Field, EF: ExtensionField<F>>(
     batching: EF,
 ) -> Result<Constraint<F, EF>, NoMemory>
     requires { All (GroupFits (sizes_over F.ops EF.ops) variables) groups.now }
-    ensures statements { IfOk result (λ c. constraint_statements (λ x. EF.embedding (F.number x)) EF.number c ≡ all_claims EF.embedding groups.now) }
-    ensures arity { IfOk result (λ c. constraint_arity c ≡ variables) }
-    ensures challenge { IfOk result (λ c. constraint_challenge EF.number c ≡ EF.number batching) }
-    ensures power { IfOk result (λ c. constraint_power c ≡ 0) }
+    ensures states { IfOk result (ConstraintStates F.number EF.embedding EF.number variables
+        (all_claims EF.embedding groups.now)) }
+    ensures batched { IfOk result (λ c. (constraint_challenge EF.number c ≡ EF.number batching)
+        × (constraint_power c ≡ 0)) }
 {
     let mut made = Vec::with_capacity(alloc, groups.len())?;
     for group in groups {
@@ -43,8 +40,8 @@ fn statements_of<F: Field, EF: ExtensionField<F>>(
     variables: usize,
 ) -> Result<Statements<F, EF>, NoMemory>
     requires { GroupFits (sizes_over F.ops EF.ops) variables group.now }
-    ensures statements { IfOk result (λ g. group_statements (λ x. EF.embedding (F.number x)) EF.number g ≡ group_claims EF.embedding group.now) }
-    ensures arity { IfOk result (λ g. group_arity g ≡ variables) }
+    ensures { IfOk result (GroupStates F.number EF.embedding EF.number variables
+        (group_claims EF.embedding group.now)) }
 {
     match group {
         Group::Equality(claims) => {
@@ -73,8 +70,7 @@ fn equality_of<F: Field>(
     variables: usize,
 ) -> Result<EqStatement<F>, NoMemory>
     requires { All (EqualityFits F.ops.size variables) claims.now }
-    ensures statements { IfOk result (λ s. eq_statements F.number s ≡ map equality_statement claims.now) }
-    ensures arity { IfOk result (λ s. eq_arity s ≡ variables) }
+    ensures { IfOk result (EqStates F.number variables (map equality_statement claims.now)) }
 {
     let mut statement = EqStatement::initialize(alloc, variables);
     for claim in claims {
@@ -91,8 +87,7 @@ fn successor_of<F: Field>(
     variables: usize,
 ) -> Result<NextStatement<F>, NoMemory>
     requires { All (SuccessorFits F.ops.size variables) claims.now }
-    ensures statements { IfOk result (λ s. next_statements F.number s ≡ map successor_statement claims.now) }
-    ensures arity { IfOk result (λ s. next_arity s ≡ variables) }
+    ensures { IfOk result (NextStates F.number variables (map successor_statement claims.now)) }
 {
     let mut statement = NextStatement::initialize(alloc, variables);
     for claim in claims {
@@ -111,8 +106,8 @@ fn scalars_of<F: Field, EF: ExtensionField<F>>(
     variables: usize,
 ) -> Result<SelectStatement<F, EF>, NoMemory>
     requires { All (ScalarFits (sizes_over F.ops EF.ops)) claims.now }
-    ensures statements { IfOk result (λ s. select_statements (λ x. EF.embedding (F.number x)) EF.number s ≡ map (scalar_statement EF.embedding) claims.now) }
-    ensures arity { IfOk result (λ s. select_arity s ≡ variables) }
+    ensures { IfOk result (SelectStates F.number EF.embedding EF.number variables
+        (map (scalar_statement EF.embedding) claims.now)) }
 {
     let mut statement = SelectStatement::initialize(alloc, variables);
     for claim in claims {
@@ -128,8 +123,8 @@ fn products_of<F: Field, EF: ExtensionField<F>>(
     variables: usize,
 ) -> Result<SelectStatement<F, EF>, NoMemory>
     requires { All (ProductFits (sizes_over F.ops EF.ops) variables) claims.now }
-    ensures statements { IfOk result (λ s. select_statements (λ x. EF.embedding (F.number x)) EF.number s ≡ map (product_statement EF.embedding) claims.now) }
-    ensures arity { IfOk result (λ s. select_arity s ≡ variables) }
+    ensures { IfOk result (SelectStates F.number EF.embedding EF.number variables
+        (map (product_statement EF.embedding) claims.now)) }
 {
     let mut statement = SelectStatement::initialize(alloc, variables);
     for claim in claims {

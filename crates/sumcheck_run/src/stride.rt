@@ -19,7 +19,7 @@ pub(crate) fn push_rest(taken: &mut Vec<F65537>, count: usize)
     requires more { length taken.old.items ≤ count }
     requires room { count ≤ vec_capacity taken.old }
     ensures size { length taken.new.items ≡ count }
-    ensures values { GoOn taken.old.items (length taken.old.items) taken.new.items count }
+    ensures values { GoOn taken.old.items taken.new.items }
 {
     while taken.len() < count {
         let more = PIECE.min(count - taken.len());
@@ -33,8 +33,7 @@ fn push_piece(taken: &mut Vec<F65537>, more: usize)
     requires room { length taken.old.items + more ≤ vec_capacity taken.old }
     ensures size { length taken.new.items ≡ length taken.old.items + more }
     ensures room { vec_capacity taken.old ≤ vec_capacity taken.new }
-    ensures values { GoOn taken.old.items (length taken.old.items) taken.new.items
-        (length taken.old.items + more) }
+    ensures values { GoOn taken.old.items taken.new.items }
 {
     let from = taken.len();
     // there is room
@@ -47,7 +46,7 @@ fn write_rest(rows: &mut [F65537], from: usize)
     requires some { 8 ≤ from }
     requires within { from ≤ length rows.old }
     ensures size { length rows.new ≡ length rows.old }
-    ensures values { GoOn (take from rows.old) from rows.new (length rows.old) }
+    ensures values { GoOn (take from rows.old) rows.new }
 {
     for k in from..rows.len() {
         rows[k] = value_behind(rows[k - STRIDE]);

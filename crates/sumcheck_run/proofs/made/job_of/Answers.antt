@@ -28,5 +28,5 @@ returns g c = λ R h.
     about-same o p c.args.strategy R h (length parts.table.items) (constraint_arity c.new.result) (entries N parts.table.items)
     (all_statements N N (constraint_groups c.new.result)) (constraint_challenge N c.new.result) (constraint_power c.new.result)
     (sym (length-map parts.table.items N)) variables (entries-numbers N parts.table.items p.table refl) c.new.ensures.challenge c.new.ensures.power
-    (two-groups N N (constraint_groups c.new.result) c.in_ok-equality.equality c.in_ok-successor.successor _ _ (c.new.ensures.groups ∙ groups) c.in_ok-equality.ensures.statements
-    c.in_ok-successor.ensures.statements)
+    (two-groups N N (constraint_groups c.new.result) c.in_ok-equality.equality c.in_ok-successor.successor _ _ (c.new.ensures.groups ∙ groups) c.in_ok-equality.ensures.0
+    c.in_ok-successor.ensures.0)

@@ -5,5 +5,5 @@ use Rattle.sumcheck_run.proofs.program.read_input.Goals as goal
 pub returns-clause-read : goal.returns-clause-read
 returns-clause-read g c = search rules
 
-pub returns-clause-given : goal.returns-clause-given
-returns-clause-given g c = c.read_all.ensures.given
+pub returns-clause-sparing : goal.returns-clause-sparing
+returns-clause-sparing g c = record { given_few = c.read_all.ensures.given; dry_once = c.read_all.ensures.dry }

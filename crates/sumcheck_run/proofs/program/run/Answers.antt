@@ -17,12 +17,12 @@ returns g c =
       cut_short = ran_cut_short r;
       silent = ran_silent r;
       no_other = at_most_eight _ (ran_code r);
-      untouched = λ none. read.untouched (needs ∙ ap reads_input is ∙ none);
+      untouched = λ none. (read.unread (needs ∙ ap reads_input is ∙ none)).0;
       usage = ran_usage r;
       headline = ran_headline r _ _;
       made = λ recipe make. made-holds recipe (subst CommandFits (is ∙ make) c.read_command-command.ensures.fits);
-      sparing = record { given_few = read.given; dry_once = read.dry };
-      reading = record { only = not_six _ (ran_code r); told = never_rises _ _ (read.quiet (λ e. cc)); stops = read.late };
+      sparing = read.sparing;
+      reading = record { only = not_six _ (ran_code r); told = never_rises _ _ (read.faults.1 (λ e. cc)); stops = read.late };
       writing = record { only = ran_write_fault r; told = ran_write_told r; stops = c.respond.ensures.late };
     }
 
@@ -32,17 +32,17 @@ returns-in-Err-Failed g c =
     let read = c.in-Err-Failed.ensures in
     let is = c.read_command-command.ensures.command in
     let needs = c.needs_input.ensures in
-    let risen = told _ _ c.in-Err-Failed.field-0-is read.failed in
+    let risen = told _ _ c.in-Err-Failed.field-0-is read.faults.0 in
     record {
       answered = too_high 6 5 refl;
       cut_short = differ 6 7 refl;
       silent = λ _. refl;
       no_other = leb-true 6 8 refl;
-      untouched = λ none. read.untouched (needs ∙ ap reads_input is ∙ none);
-      usage = record { only = differ 6 2 refl; told = must_read _ _ _ is needs read.unread };
-      headline = λ input given _. untold _ _ _ _ _ _ input is needs read.unread risen given;
+      untouched = λ none. (read.unread (needs ∙ ap reads_input is ∙ none)).0;
+      usage = record { only = differ 6 2 refl; told = must_read _ _ _ is needs (λ none. (read.unread none).1) };
+      headline = λ input given _. untold _ _ _ _ _ _ input is needs (λ none. (read.unread none).1) risen given;
       made = λ recipe make. made-holds recipe (subst CommandFits (is ∙ make) c.read_command-command.ensures.fits);
-      sparing = record { given_few = read.given; dry_once = read.dry };
+      sparing = read.sparing;
       reading = record { only = λ _. risen; told = λ _. refl; stops = read.late };
       writing = record { only = differ 6 7 refl; told = never_rises _ _ refl; stops = omega arith };
     }
@@ -58,11 +58,11 @@ returns-in-Err-NoMemory g c =
       cut_short = differ 8 7 refl;
       silent = λ _. refl;
       no_other = leb-true 8 8 refl;
-      untouched = λ none. read.untouched (needs ∙ ap reads_input is ∙ none);
+      untouched = λ none. (read.unread (needs ∙ ap reads_input is ∙ none)).0;
       usage = record { only = differ 8 2 refl; told = λ _. inr (inr refl) };
       headline = λ _ _ _. inl refl;
       made = λ recipe make. made-holds recipe (subst CommandFits (is ∙ make) c.read_command-command.ensures.fits);
-      sparing = record { given_few = read.given; dry_once = read.dry };
-      reading = record { only = differ 8 6 refl; told = never_rises _ _ (read.quiet (λ e. cc)); stops = read.late };
+      sparing = read.sparing;
+      reading = record { only = differ 8 6 refl; told = never_rises _ _ (read.faults.1 (λ e. cc)); stops = read.late };
       writing = record { only = differ 8 7 refl; told = never_rises _ _ refl; stops = omega arith };
     }

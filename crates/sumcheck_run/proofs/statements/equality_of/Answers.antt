@@ -36,14 +36,8 @@ loop-claim-init g c = record {
 }
 
 -- a refusal tells nothing of an answer
-pub returns-in_err-coords-clause-statements : goal.returns-in_err-coords-clause-statements
-returns-in_err-coords-clause-statements g c = IfOk-from_err c.from_residual.result _ c.from_residual.ensures.0
+pub returns-in_err-coords : goal.returns-in_err-coords
+returns-in_err-coords g c = IfOk-from_err c.from_residual.result _ c.from_residual.ensures.0
 
-pub returns-in_err-coords-clause-arity : goal.returns-in_err-coords-clause-arity
-returns-in_err-coords-clause-arity g c = IfOk-from_err c.from_residual.result _ c.from_residual.ensures.0
-
-pub returns-in_err-add_evaluated_constraint-clause-statements : goal.returns-in_err-add_evaluated_constraint-clause-statements
-returns-in_err-add_evaluated_constraint-clause-statements g c = IfOk-from_err c.from_residual-in_err-add_evaluated_constraint.result _ c.from_residual-in_err-add_evaluated_constraint.ensures.0
-
-pub returns-in_err-add_evaluated_constraint-clause-arity : goal.returns-in_err-add_evaluated_constraint-clause-arity
-returns-in_err-add_evaluated_constraint-clause-arity g c = IfOk-from_err c.from_residual-in_err-add_evaluated_constraint.result _ c.from_residual-in_err-add_evaluated_constraint.ensures.0
+pub returns-in_err-add_evaluated_constraint : goal.returns-in_err-add_evaluated_constraint
+returns-in_err-add_evaluated_constraint g c = IfOk-from_err c.from_residual-in_err-add_evaluated_constraint.result _ c.from_residual-in_err-add_evaluated_constraint.ensures.0

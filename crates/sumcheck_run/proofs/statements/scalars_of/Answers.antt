@@ -39,8 +39,5 @@ loop-claim-init g c = record {
 }
 
 -- a refusal tells nothing of an answer
-pub returns-in_err-add_constraint-clause-statements : goal.returns-in_err-add_constraint-clause-statements
-returns-in_err-add_constraint-clause-statements g c = IfOk-from_err c.from_residual.result _ c.from_residual.ensures.0
-
-pub returns-in_err-add_constraint-clause-arity : goal.returns-in_err-add_constraint-clause-arity
-returns-in_err-add_constraint-clause-arity g c = IfOk-from_err c.from_residual.result _ c.from_residual.ensures.0
+pub returns-in_err-add_constraint : goal.returns-in_err-add_constraint
+returns-in_err-add_constraint g c = IfOk-from_err c.from_residual.result _ c.from_residual.ensures.0

@@ -46,20 +46,11 @@ loop-claim-init g c = record {
 }
 
 -- a refusal tells nothing of an answer
-pub returns-in_err-elements-clause-statements : goal.returns-in_err-elements-clause-statements
-returns-in_err-elements-clause-statements g c = IfOk-from_err c.from_residual.result _ c.from_residual.ensures.0
+pub returns-in_err-elements : goal.returns-in_err-elements
+returns-in_err-elements g c = IfOk-from_err c.from_residual.result _ c.from_residual.ensures.0
 
-pub returns-in_err-elements-clause-arity : goal.returns-in_err-elements-clause-arity
-returns-in_err-elements-clause-arity g c = IfOk-from_err c.from_residual.result _ c.from_residual.ensures.0
+pub returns-in_err-elements-2 : goal.returns-in_err-elements-2
+returns-in_err-elements-2 g c = IfOk-from_err c.from_residual-in_err-elements-2.result _ c.from_residual-in_err-elements-2.ensures.0
 
-pub returns-in_err-elements-2-clause-statements : goal.returns-in_err-elements-2-clause-statements
-returns-in_err-elements-2-clause-statements g c = IfOk-from_err c.from_residual-in_err-elements-2.result _ c.from_residual-in_err-elements-2.ensures.0
-
-pub returns-in_err-elements-2-clause-arity : goal.returns-in_err-elements-2-clause-arity
-returns-in_err-elements-2-clause-arity g c = IfOk-from_err c.from_residual-in_err-elements-2.result _ c.from_residual-in_err-elements-2.ensures.0
-
-pub returns-in_err-add_evaluated_constraint-clause-statements : goal.returns-in_err-add_evaluated_constraint-clause-statements
-returns-in_err-add_evaluated_constraint-clause-statements g c = IfOk-from_err c.from_residual-in_err-add_evaluated_constraint.result _ c.from_residual-in_err-add_evaluated_constraint.ensures.0
-
-pub returns-in_err-add_evaluated_constraint-clause-arity : goal.returns-in_err-add_evaluated_constraint-clause-arity
-returns-in_err-add_evaluated_constraint-clause-arity g c = IfOk-from_err c.from_residual-in_err-add_evaluated_constraint.result _ c.from_residual-in_err-add_evaluated_constraint.ensures.0
+pub returns-in_err-add_evaluated_constraint : goal.returns-in_err-add_evaluated_constraint
+returns-in_err-add_evaluated_constraint g c = IfOk-from_err c.from_residual-in_err-add_evaluated_constraint.result _ c.from_residual-in_err-add_evaluated_constraint.ensures.0

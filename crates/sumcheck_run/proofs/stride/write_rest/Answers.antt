@@ -1,5 +1,5 @@
 use Rattle.std.proofs.Common.{◌≡◌, ◌+◌, ◌-◌, ◌<◌, ◌≤◌, length, map, take, set, sym, ◌∙◌, ap, arith}
-use Rattle.std.proofs.lemmas.List.{length-set, take_more_set, take_all}
+use Rattle.std.proofs.lemmas.List.{length-set, length-take-le, take_more_set, take_all}
 use Rattle.sumcheck_run.specs.Made.{values_behind}
 use Rattle.sumcheck_run.specs.Values.{number_of}
 use Rattle.sumcheck_run.proofs.StrideLaws.{taken-read, rest_more}
@@ -26,5 +26,6 @@ returns-clause-values c = λ number i is.
     let rows = c.loop-k.rows in
     let inv = c.loop-k.invariant in
     let past : length rows ≤ c.loop-k.k = omega (arith, inv.size, c.loop-k-test.false, c.loop-k.auto.k-end) in
-    let end : c.loop-k.k ≡ length c.args.rows.now = omega (arith, inv.size, past, c.loop-k.auto.k-end) in
-    ap (map number_of) (sym (take_all c.loop-k.k rows past)) ∙ inv.values number i is ∙ ap (values_behind number i) end
+    let end : c.loop-k.k ≡ length rows = omega (arith, inv.size, past, c.loop-k.auto.k-end) in
+    let first = is ∙ ap (values_behind number i) (length-take-le c.args.from c.args.rows.now c.requires.within) in
+    ap (map number_of) (sym (take_all c.loop-k.k rows past)) ∙ inv.values number i first ∙ ap (values_behind number i) end
