@@ -122,7 +122,7 @@ module _ (s : Setting) (ring : IsRing s.ops) (offered : IsOffered s.basis s.orde
           left = omega (arith, counts, place, some);
           within = omega (arith, left);
           some = inr left;
-          stopped = stops s s t u v rs i d.played e refl (sym counts) played (halts s u v i values e (subst (λ k. IsRefused k i at.history values d.history e) same why) message refl);
+          stopped = stops _ e refl (sym counts) played (halts _ _ _ e (subst (λ k. IsRefused k i at.history values d.history e) same why) message refl);
         }
 
   -- there is no memory for what comes next

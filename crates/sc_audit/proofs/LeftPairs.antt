@@ -121,11 +121,11 @@ module _ {EF : Type 0} (o : Ops) (number : EF → ℕ) (p : Problem) (b : Batch)
       module _ (c' : Channel) (same : c' ≡ c) (order : order_in left ≡ p.order) (d d' : Driver) (counts : d.played ≡ length rs) (u : Standing)
           (size : u.variables + d'.played ≡ variables_in left + d.played) where
         left_setting : setting_at c' o (shown_of number left sum) ≡ setting_at c o (prover_for o p)
-        left_setting = same_setting c' c o (order_in left) p.order same order
+        left_setting = same_setting same order
 
         left_begun : IsPlayed (setting_at c' o (shown_of number left sum)) (standing_at (prover_for o p) h on) (standing_at (shown_of number left sum) h' on') rs
         left_begun =
-            played_at _ _ (standing_at (prover_for o p) h on) (standing_at (prover_for o p) h on) _ _ rs rs (sym left_setting) refl (left_stands c h h' on on') refl played
+            played_at (sym left_setting) refl (left_stands c h h' on on') refl played
 
         -- they are all played
         pub left_played : (qs : List ℕ) → ((start : Standing) → IsPlayed (setting_at c' o (shown_of number left sum)) start (standing_at (shown_of number left sum) h' on') rs →
@@ -136,7 +136,7 @@ module _ {EF : Type 0} (o : Ops) (number : EF → ℕ) (p : Problem) (b : Batch)
             record {
               left = omega (arith, size, left_variables, counts);
               done = all.0;
-              played = played_at _ _ t t u u qs qs left_setting refl refl refl all.1;
+              played = played_at left_setting refl refl refl all.1;
             }
 
         -- or they stop
@@ -158,16 +158,16 @@ module _ {EF : Type 0} (o : Ops) (number : EF → ℕ) (p : Problem) (b : Batch)
             }
 
 -- what stops is a result that is an error
-pub plays_stopped : {X : Type 0} (s : Setting) (t : Standing) (after : X → Standing) (rs : List ℕ) (d : Driver) (wire : Wire) (r : Result X SumcheckError) (e : SumcheckError) →
+pub plays_stopped : {X : Type 0} {s : Setting} {t : Standing} (after : X → Standing) (rs : List ℕ) {d : Driver} {wire : Wire} (r : Result X SumcheckError) {e : SumcheckError} →
     IsErrAnd r (λ x. x ≡ e) → StopsFrom s t d wire e → LeavesPlayed (record { setting = s; start = t }) after rs d wire r
-plays_stopped s t after rs d wire (Ok x) e is p = elim is [ ]
-plays_stopped s t after rs d wire (Err x) e is p = subst (StopsFrom s t d wire) (sym is) p
+plays_stopped after rs (Ok x) is p = elim is [ ]
+plays_stopped {s} {t} after rs {d} {wire} (Err x) is p = subst (StopsFrom s t d wire) (sym is) p
 
 -- what breaks off is a result that is an error
-pub rounds_broken : {X : Type 0} (b : Rounds) (after : X → Standing) (drawn : X → List ℕ) (h : List Event) (wire : Wire) (r : Result X SumcheckError) (e : SumcheckError) →
+pub rounds_broken : {X : Type 0} {b : Rounds} (after : X → Standing) (drawn : X → List ℕ) {h : List Event} {wire : Wire} (r : Result X SumcheckError) (e : SumcheckError) →
     IsErrAnd r (λ x. x ≡ e) → BreaksOffAt b h wire e → LeavesRounds b after drawn h wire r
-rounds_broken b after drawn h wire (Ok x) e is p = elim is [ ]
-rounds_broken b after drawn h wire (Err x) e is p = subst (BreaksOffAt b h wire) (sym is) p
+rounds_broken after drawn (Ok x) e is p = elim is [ ]
+rounds_broken {b} after drawn {h} {wire} (Err x) e is p = subst (BreaksOffAt b h wire) (sym is) p
 
 -- the batch's grids are the problem's
 pub batch_grids : (o : Ops) (p : Problem) (b : Batch) → IsBatchOf o p b → (rounds : ℕ) → length b.grids ≡ rounds → b.grids ≡ grids_of p.order o p.variables p.table (weights_of o p) rounds

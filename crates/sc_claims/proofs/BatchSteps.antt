@@ -27,8 +27,8 @@ pub record IsSummed (o : Ops) (c p : ℕ) (ss : List Statement) (old total facto
   pub summed : total ≡ plus o old (batched_claim o c p ss)
   pub next : factor ≡ power o c (p + length ss)
 
-pub IsSummed-none : (o : Ops) → IsRing o → (c p old total factor : ℕ) → old < o.size → total ≡ old → factor ≡ power o c p → IsSummed o c p [] old total factor
-IsSummed-none o ring c p old total factor low same is =
+pub IsSummed-none : (o : Ops) → IsRing o → {c p old total factor : ℕ} → old < o.size → total ≡ old → factor ≡ power o c p → IsSummed o c p [] old total factor
+IsSummed-none o ring {c} {p} {old} low same is =
     let none : p ≡ p + 0 = omega arith in
     record {
       summed = same ∙ sym (ap (plus o old) (batched-none o c p 0).1 ∙ plus-zero o ring old ∙ element-small o ring old low);
@@ -111,9 +111,9 @@ module _ (o : Ops) (c p : ℕ) (ss : List Statement) (i : ℕ) (past : length ss
 -- ---- whole batches
 
 -- no statement adds nothing
-pub AddsBatch-none : (o : Ops) → IsRing o → (n c p : ℕ) (ss : List Statement) (table : ℕ → ℕ) (total : ℕ) → ss ≡ [] → ((b : ℕ) → table b < o.size) → total < o.size →
+pub AddsBatch-none : (o : Ops) → IsRing o → {n c p : ℕ} {ss : List Statement} {table : ℕ → ℕ} {total : ℕ} → ss ≡ [] → ((b : ℕ) → table b < o.size) → total < o.size →
     AddsBatch o n c p ss (gathered table total) (gathered table total)
-AddsBatch-none o ring n c p ss table total none low below =
+AddsBatch-none o ring {n} {c} {p} {table} {total} none low below =
     let P : List Statement → Type 0 = λ t. AddsBatch o n c p t (gathered table total) (gathered table total) in
     subst P (sym none) (record {
       weights = λ b _. sym (ap (plus o (table b)) (batched-none o c p b).0 ∙ plus-zero o ring (table b) ∙ element-small o ring (table b) (low b));
@@ -131,8 +131,8 @@ WritesBatch-cleared o ring n c p ss zeros new old_sum new_sum cleared added = re
 }
 
 -- a claim that is added to zero is there alone
-pub claim-alone : (o : Ops) → IsRing o → (c p : ℕ) (ss : List Statement) (zero_sum new_sum : ℕ) → zero_sum ≡ 0 → new_sum ≡ plus o zero_sum (batched_claim o c p ss) → new_sum ≡ batched_claim o c p ss
+pub claim-alone : (o : Ops) → IsRing o → (c p : ℕ) (ss : List Statement) {zero_sum new_sum : ℕ} → zero_sum ≡ 0 → new_sum ≡ plus o zero_sum (batched_claim o c p ss) → new_sum ≡ batched_claim o c p ss
 unfolding batched_claim
-claim-alone o ring c p ss zero_sum new_sum none is =
+claim-alone o ring c p ss none is =
     let claim = batched_claim o c p ss in
     is ∙ ap (λ z. plus o z claim) none ∙ plus_comm o ring 0 claim ∙ plus-zero o ring claim ∙ element-powers_sum o ring c p (claimed_values ss)

@@ -82,12 +82,12 @@ none_from_test (Some x) true e = absurd (true≢false e)
 none_from_test (Some x) false e = ((λ t. absurd (true≢false (sym t))), (λ n. cc))
 
 -- that none is false, as a test
-pub all-true : (o : Ops) (n : ℕ) (f : ℕ → ℕ) (ss : List Statement) (found : Option FalseClaim) (none : Bool) → found ≡ first_false_claim o n f 0 ss → is_some found ≡ not none →
+pub all-true : (o : Ops) (n : ℕ) (f : ℕ → ℕ) (ss : List Statement) {found : Option FalseClaim} {none : Bool} → found ≡ first_false_claim o n f 0 ss → is_some found ≡ not none →
     IsTrue none ↔ AllTrueOf o n f ss
-all-true o n f ss found none is test =
+all-true o n f ss {found} {none} is test =
     let says : IsTrue none ↔ (found ≡ None) = none_from_test found none test in
     ((λ t. first_false_claim-all o n f 0 ss (sym is ∙ says.0 t)), (λ all. says.1 (is ∙ first_false-none o n f 0 ss all)))
 
 -- the same of a table that is equal
-pub all-true_of : (o : Ops) (n : ℕ) (f f' : ℕ → ℕ) (ss : List Statement) (none : Bool) → f ≡ f' → IsTrue none ↔ AllTrueOf o n f ss → IsTrue none ↔ AllTrueOf o n f' ss
-all-true_of o n f f' ss none same says = let P : (ℕ → ℕ) → Type 0 = λ t. IsTrue none ↔ AllTrueOf o n t ss in subst P same says
+pub all-true_of : (o : Ops) (n : ℕ) {f f' : ℕ → ℕ} (ss : List Statement) {none : Bool} → f ≡ f' → IsTrue none ↔ AllTrueOf o n f ss → IsTrue none ↔ AllTrueOf o n f' ss
+all-true_of o n ss {none} same says = let P : (ℕ → ℕ) → Type 0 = λ t. IsTrue none ↔ AllTrueOf o n t ss in subst P same says

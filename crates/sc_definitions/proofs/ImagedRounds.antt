@@ -33,14 +33,14 @@ module _ (a b : Ops) (ra : IsRing a) (rb : IsRing b) (h : ℕ → ℕ) (image : 
   -- the images are the message of the images
   pub sent_images : (values : List ℕ) → SendsImages a h s values → values ≡ message_shown b (imaged h s)
   sent_images values m =
-      m.images ∙ image_message a b ra rb h image s.order (half_rows s.variables) _ _ _ _ m.first m.leading _ _ low.evals low.weights
+      m.images ∙ image_message a b ra rb h image s.order (half_rows s.variables) low.evals low.weights
       (image_rows a b ra rb h image s.evals) (image_rows a b ra rb h image s.weights) refl refl m.are
 
   -- the round on the images
-  pub image_round : (c : Channel) (hist hist' : List Event) (w w' : Wire) (values : List ℕ) (witness r t : ℕ) → SendsImages a h s values →
+  pub image_round : {c : Channel} {hist hist' : List Event} {w w' : Wire} {values : List ℕ} (witness r t : ℕ) → SendsImages a h s values →
       0 < s.variables → r < a.size → h r ≡ t → IsSent c hist (round_of values witness) t hist' → w' ≡ with_rounds c.bits w (round_of values witness ∷ []) →
       IsRound (setting_at c b s) (standing_at (imaged h s) hist w) (standing_at (imaged h (with_bound a s r)) hist' w') t
-  image_round c hist hist' w w' values witness r t m left r_low r_is sent wire =
+  image_round {c} {hist} {hist'} {w} {w'} {values} witness r t m left r_low r_is sent wire =
       let n = s.variables - 1 in
       let more : s.variables ≡ n + 1 = omega (arith, left) in
       let next : s.variables ≡ suc n = omega (arith, left) in
@@ -50,7 +50,7 @@ module _ (a b : Ops) (ra : IsRing a) (rb : IsRing b) (h : ℕ → ℕ) (image : 
       λ xs below. image_bound a b ra rb h image s.order n r t (rows_of xs) (rows_of (entries_of n (bound_in evaluation s.order a n r (rows_of xs)))) _ _ below r_low r_is
       (image_rows a b ra rb h image xs) (image_rows a b ra rb h image (entries_of n (bound_in evaluation s.order a n r (rows_of xs)))) (rows-entries_of n _) in
       let claim : h u.claim ≡ next_claim evaluation b (h s.claim) values t =
-      image_next a b ra rb h image s.claim m.first m.leading _ _ r t u.claim low.claim m.first_below m.leading_below r_low refl refl r_is
+      image_next a b ra rb h image r t low.claim m.first_below m.leading_below r_low refl refl r_is
       (ap (λ v. next_claim evaluation a s.claim v r) (sym m.are))
       ∙ ap (λ v. next_claim evaluation b (h s.claim) v t) (sym m.images) in
       moves (setting_at c b s) (standing_at (imaged h s) hist w) (standing_at (imaged h u) hist' w') values witness t sent wire more
@@ -59,9 +59,9 @@ module _ (a b : Ops) (ra : IsRing a) (rb : IsRing b) (h : ℕ → ℕ) (image : 
       (bound s.evals low.evals) (bound s.weights low.weights) claim
 
 -- a round between what is shown by other names
-pub round_as : (o : Ops) (h : ℕ → ℕ) (c : Channel) (hist hist' : List Event) (w w' : Wire) (t : ℕ) (s s' u u' : Shown) → s ≡ s' → u ≡ u' →
+pub round_as : (o : Ops) (h : ℕ → ℕ) {c : Channel} {hist hist' : List Event} {w w' : Wire} (t : ℕ) (s : Shown) {s' : Shown} (u : Shown) {u' : Shown} → s ≡ s' → u ≡ u' →
     IsRound (setting_at c o s) (standing_at (imaged h s) hist w) (standing_at (imaged h u) hist' w') t →
     IsRound (setting_at c o s') (standing_at (imaged h s') hist w) (standing_at (imaged h u') hist' w') t
-round_as o h c hist hist' w w' t s s' u u' es eu p =
+round_as o h {c} {hist} {hist'} {w} {w'} t s {s'} u es eu p =
     subst (λ v. IsRound (setting_at c o s') (standing_at (imaged h s') hist w) (standing_at (imaged h v) hist' w') t) eu
     (subst (λ v. IsRound (setting_at c o v) (standing_at (imaged h v) hist w) (standing_at (imaged h u) hist' w') t) es p)

@@ -123,9 +123,9 @@ module _ (a b : Ops) (ra : IsRing a) (rb : IsRing b) (h : ℕ → ℕ) (m : IsRi
       ∙ ap (sum_below b half) (fun_ext (leading_image order half f w lf lw))
 
   -- the message of the images, from that of the entries
-  pub image_message : (order : Order) (half : ℕ) (f w F W : ℕ → ℕ) (x y X Y : ℕ) → AreBelow f → AreBelow w → F ≡ image f → W ≡ image w →
+  pub image_message : (order : Order) (half : ℕ) {f w F W : ℕ → ℕ} {x y X Y : ℕ} → AreBelow f → AreBelow w → F ≡ image f → W ≡ image w →
       X ≡ h x → Y ≡ h y → x ∷ y ∷ [] ≡ message_of evaluation order a half f w → X ∷ Y ∷ [] ≡ message_of evaluation order b half F W
-  image_message order half f w F W x y X Y lf lw F_is W_is X_is Y_is message =
+  image_message order half {f} {w} {F} {x} {Y} lf lw F_is W_is X_is Y_is message =
       ap (λ v. v ∷ Y ∷ []) X_is ∙ ap (λ v. h x ∷ v ∷ []) Y_is
       ∙ ap (λ vs. h (first_of vs) ∷ h (second_of vs) ∷ []) message
       ∙ ap (λ v. v ∷ h (message_leading evaluation order a half f w) ∷ []) (map-first order half f w lf lw)
@@ -185,9 +185,9 @@ module _ (a b : Ops) (ra : IsRing a) (rb : IsRing b) (h : ℕ → ℕ) (m : IsRi
       map-step c r rest lc lr (plus_below a ra _ _) ∙ ap (λ v. plus b (h c) (times b (h r) v)) rest_is
 
   -- the claim after a round of the images, from that of the entries
-  pub image_next : (claim c q C Q r s claim' : ℕ) → claim < a.size → c < a.size → q < a.size → r < a.size → C ≡ h c → Q ≡ h q → h r ≡ s →
+  pub image_next : {claim c q C Q : ℕ} (r s : ℕ) {claim' : ℕ} → claim < a.size → c < a.size → q < a.size → r < a.size → C ≡ h c → Q ≡ h q → h r ≡ s →
       claim' ≡ next_claim evaluation a claim (c ∷ q ∷ []) r → h claim' ≡ next_claim evaluation b (h claim) (C ∷ Q ∷ []) s
-  image_next claim c q C Q r s claim' l_claim lc lq lr C_is Q_is r_is next =
+  image_next {claim} {c} {q} {C} r s l_claim lc lq lr C_is Q_is r_is next =
       ap h next ∙ map-next claim c q r l_claim lc lq lr ∙ ap (next_claim evaluation b (h claim) (h c ∷ h q ∷ [])) r_is
       ∙ ap (λ v. next_claim evaluation b (h claim) (v ∷ h q ∷ []) s) (sym C_is) ∙ ap (λ v. next_claim evaluation b (h claim) (C ∷ v ∷ []) s) (sym Q_is)
 

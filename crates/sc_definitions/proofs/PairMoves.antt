@@ -56,9 +56,9 @@ message_halves order o n v m f w F W a b size more same_f same_w first leading =
     ∙ ap (λ g. message_of evaluation order o (2 ^ m) f g) same_w
 
 -- the sum over the rows of two lists
-pub dot_sum : (o : Ops) (d L n : ℕ) (F W f w : ℕ → ℕ) → d ≡ sum_below o L (λ b. times o (F b) (W b)) → L ≡ 2 ^ n → F ≡ f → W ≡ w → d ≡ inner o n f w
+pub dot_sum : (o : Ops) {d L : ℕ} (n : ℕ) {F W f w : ℕ → ℕ} → d ≡ sum_below o L (λ b. times o (F b) (W b)) → L ≡ 2 ^ n → F ≡ f → W ≡ w → d ≡ inner o n f w
 unfolding inner
-dot_sum o d L n F W f w is size same_f same_w =
+dot_sum o n {F} {W} {f} is size same_f same_w =
     is ∙ ap (λ k. sum_below o k (λ b. times o (F b) (W b))) size ∙ ap (λ g. sum_below o (2 ^ n) (λ b. times o (g b) (W b))) same_f
     ∙ ap (λ g. sum_below o (2 ^ n) (λ b. times o (f b) (g b))) same_w
 

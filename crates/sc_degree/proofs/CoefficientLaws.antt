@@ -133,7 +133,7 @@ module _ (o : Ops) (field : IsField o) (ys ws : ℕ → ℕ) where
   pub coefficients-none : (ps ss : List ℕ) → ps ≡ 1 ∷ [] → ss ≡ [] → (r : ℕ) → IsInterpolated o ys ws r 0 (poly_at o ps r) (poly_at o ss r)
   unfolding poly_at Agree
   coefficients-none ps ss one none r =
-      interpolated-none o field ys ws r (poly_at o ps r) (poly_at o ss r)
+      interpolated-none o field ys ws r
       (ap (λ l. poly_at o l r) one ∙ identity o field.ring (r ∷ []) (unit ⊕ atom 0 ⊗ nought) unit tt tt refl)
       (ap (λ l. poly_at o l r) none)
 

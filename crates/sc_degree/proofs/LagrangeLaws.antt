@@ -151,8 +151,8 @@ pub record IsInterpolated (o : Ops) (ys ws : ℕ → ℕ) (x n p s : ℕ) : Type
   pub sum : s ≡ sum_below o n (λ k. times o (times o (ys k) (ws k)) (poly_at o (others o k n) x))
 
 module _ (o : Ops) (field : IsField o) (ys ws : ℕ → ℕ) (x : ℕ) where
-  pub interpolated-none : (p s : ℕ) → p ≡ 1 → s ≡ 0 → IsInterpolated o ys ws x 0 p s
-  interpolated-none p s product sum = record {
+  pub interpolated-none : {p s : ℕ} → p ≡ 1 → s ≡ 0 → IsInterpolated o ys ws x 0 p s
+  interpolated-none product sum = record {
     product = product ∙ sym (others-start o field 0 x);
     sum = sum ∙ sym (sum-zero o (λ k. times o (times o (ys k) (ws k)) (poly_at o (others o k 0) x)));
   }

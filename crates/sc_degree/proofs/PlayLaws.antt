@@ -88,8 +88,8 @@ module _ (o : Ops) (c : Channel) (h : List Event) (p : Prover) (s : Standing) (p
       }
 
 -- the same over a channel by another name
-pub more_at : (o : Ops) (c c₁ : Channel) (h : List Event) (p : Prover) (s t : Standing) → c₁ ≡ c → HasPlayed o c h p s → PlaysOne o c₁ s t → HasPlayed o c h p t
-more_at o c c₁ h p s t same played one = played-more o c h p s played t (subst (λ ch. PlaysOne o ch s t) same one)
+pub more_at : {o : Ops} {c c₁ : Channel} {h : List Event} {p : Prover} {s t : Standing} → c₁ ≡ c → HasPlayed o c h p s → PlaysOne o c₁ s t → HasPlayed o c h p t
+more_at {o} {c} {h} {p} {s} {t} same played one = played-more o c h p s played t (subst (λ ch. PlaysOne o ch s t) same one)
 
 -- ---- what a loop over the rounds needs
 
@@ -101,18 +101,18 @@ sent_width number o d cs xs is = sym (length-map _ _) ∙ ap length is ∙ many 
   many zero = refl
   many (suc n) = ap suc (length-map-range_with_len _ 2 n)
 
-pub filled_as : {F EF : Type 0} (s s' : GenericDegreeShape) (n n' : ℕ) (p : Played F EF) → s ≡ s' → n ≡ n' → IsFilled s n p → IsFilled s' n' p
-filled_as s s' n n' p es en filled = rw (← es, ← en) filled
+pub filled_as : {F EF : Type 0} {s s' : GenericDegreeShape} {n n' : ℕ} {p : Played F EF} → s ≡ s' → n ≡ n' → IsFilled s n p → IsFilled s' n' p
+filled_as es en filled = rw (← es, ← en) filled
 
 -- a variable is left of as many as rounds
 pub some_left : (total vars left drawn i : ℕ) → vars ≡ drawn + left → drawn ≡ i → i < total → total ≤ vars → 0 < left
 some_left total vars left drawn i is at low enough = omega arith
 
 -- the next round is refused
-pub stops_after : {F EF : Type 0} (base : F → ℕ) (number : EF → ℕ) (o : Ops) (c c₁ : Channel) (total i : ℕ) (start : List Event) (from p : Prover) (h : List Event) (played : Played F EF) (after : Standing) (e : GenericDegreeError) →
+pub stops_after : {F EF : Type 0} (base : F → ℕ) (number : EF → ℕ) (o : Ops) {c c₁ : Channel} {total i : ℕ} {start : List Event} {from p : Prover} {h : List Event} (played : Played F EF) {after : Standing} (e : GenericDegreeError) →
     c₁ ≡ c → ((w : F) → base w < c.base_size) → HasPlayed o c start from (standing_in base number p h played) → length (map number played.challenges.items) ≡ i → i < total →
     (after.prover ≡ p) × IsRefused c₁ i h (next_values o p) after.history e → StopsAfter o c total start from after e
-stops_after base number o c c₁ total i start from p h played after e same low so_far count few left = record {
+stops_after base number o {c} {c₁} {total} {p} {h} played {after} e same low so_far count few left = record {
   last = standing_in base number p h played;
   played = so_far;
   few = subst (λ k. k < total) (sym count) few;
@@ -170,15 +170,15 @@ module _ (q : Play) (p : Prover) where
   stopped base number after h' e enough b left = absurd b.why
 
 -- nothing was begun
-pub never_begun : {F EF : Type 0} (base : F → ℕ) (number : EF → ℕ) (q : Play) (p after : Prover) (result : Result (GenericDegreeProof F EF × List EF) GenericDegreeError) (h' : List Event) →
+pub never_begun : {F EF : Type 0} (base : F → ℕ) (number : EF → ℕ) (q : Play) {p after : Prover} {result : Result (GenericDegreeProof F EF × List EF) GenericDegreeError} {h' : List Event} →
     result ≡ Err NoMemory → after ≡ p → h' ≡ q.history → LeavesPlay base number q p after result h'
-never_begun base number q p after result h' is kept left = rw is (inl (kept, left))
+never_begun base number q is kept left = rw is (inl (kept, left))
 
 -- the same over a channel and from a history on by other names
-pub played_at : (o : Ops) (c c' : Channel) (h h' : List Event) (p : Prover) (s : Standing) → c ≡ c' → h ≡ h' → HasPlayed o c h p s → HasPlayed o c' h' p s
-played_at o c c' h h' p s ec eh b = subst (λ t. HasPlayed o c' t p s) eh (subst (λ ch. HasPlayed o ch h p s) ec b)
+pub played_at : {o : Ops} {c c' : Channel} {h h' : List Event} {p : Prover} {s : Standing} → c ≡ c' → h ≡ h' → HasPlayed o c h p s → HasPlayed o c' h' p s
+played_at {o} {c'} {h} {p} {s} ec eh b = subst (λ t. HasPlayed o c' t p s) eh (subst (λ ch. HasPlayed o ch h p s) ec b)
 
-pub stops_at : (o : Ops) (c c' : Channel) (n n' : ℕ) (h h' : List Event) (p : Prover) (s : Standing) (e : GenericDegreeError) → c ≡ c' → n ≡ n' → h ≡ h' →
+pub stops_at : {o : Ops} {c c' : Channel} {n n' : ℕ} {h h' : List Event} {p : Prover} {s : Standing} {e : GenericDegreeError} → c ≡ c' → n ≡ n' → h ≡ h' →
     StopsAfter o c n h p s e → StopsAfter o c' n' h' p s e
-stops_at o c c' n n' h h' p s e ec en eh b =
+stops_at {o} {c'} {n} {n'} {h} {p} {s} {e} ec en eh b =
     subst (λ t. StopsAfter o c' n' t p s e) eh (subst (λ k. StopsAfter o c' k h p s e) en (subst (λ ch. StopsAfter o ch n h p s e) ec b))

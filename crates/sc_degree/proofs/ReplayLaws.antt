@@ -103,6 +103,6 @@ rejected number p E d d' i r claim rs came h' (InvalidPowWitness j) counts same 
 rejected number p E d d' i r claim rs came h' e counts same shape place low before is some told left = absurd told.why
 
 -- all rounds are replayed
-pub replayed_all : (p : Replay) (i : ℕ) (rs rs' : List ℕ) (h h' : List Event) (claim : ℕ) → i ≡ p.shape.num_rounds → rs' ≡ rs → h' ≡ h → IsReplayedTo p i rs (footing h claim) →
+pub replayed_all : (p : Replay) (i : ℕ) {rs rs' : List ℕ} {h h' : List Event} {claim : ℕ} → i ≡ p.shape.num_rounds → rs' ≡ rs → h' ≡ h → IsReplayedTo p i rs (footing h claim) →
     IsReplayedTo p p.shape.num_rounds rs' (footing h' claim)
-replayed_all p i rs rs' h h' claim count is left b = subst (λ k. IsReplayedTo p k rs' (footing h' claim)) count (rw (is, left) b)
+replayed_all p i {rs'} {h'} {claim} count is left b = subst (λ k. IsReplayedTo p k rs' (footing h' claim)) count (rw (is, left) b)

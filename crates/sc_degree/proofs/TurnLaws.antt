@@ -144,10 +144,10 @@ pub record Finds (o : Ops) (fs : List (ℕ → ℕ)) (n : ℕ) (gs : List (ℕ �
   pub rest : first_turn (product_course o fs) 0 first ms [] rs ≡ first_turn (product_course o fs) i claim (drop i ms) (take i rs) (drop i rs)
 
 -- no round is left
-pub finds-none : (o : Ops) (fs : List (ℕ → ℕ)) (n : ℕ) (gs : List (ℕ → ℕ)) (m first claim truth i : ℕ) (ms : List (List ℕ)) (rs : List ℕ) →
+pub finds-none : (o : Ops) {fs : List (ℕ → ℕ)} {n : ℕ} {gs : List (ℕ → ℕ)} {m first claim truth : ℕ} (i : ℕ) (ms : List (List ℕ)) {rs : List ℕ} →
     Finds o fs n gs m first claim truth i ms rs → length ms ≤ i → first_turn (product_course o fs) 0 first ms [] rs ≡ None
 unfolding first_turn
-finds-none o fs n gs m first claim truth i ms rs found all =
+finds-none o {fs} {claim} i ms {rs} found all =
     found.rest ∙ ap (λ d. first_turn (product_course o fs) i claim d (take i rs) (drop i rs)) (drop_all i ms all)
 
 module _ (o : Ops) (field : IsField o) (fs gs : List (ℕ → ℕ)) (n m : ℕ) (some : 1 ≤ length fs) (few : length fs < o.size)

@@ -88,8 +88,8 @@ module _ {X : Type 0} (o : Ops) (r : ℕ) (number : X → ℕ) (old new : List X
 
 -- ---- what a round sends
 
-pub sum_is : (o : Ops) (v a b a' b' : ℕ) → v ≡ a +⟨ o ⟩ b → a ≡ a' → b ≡ b' → v ≡ a' +⟨ o ⟩ b'
-sum_is o v a b a' b' is ea eb = is ∙ ap (λ t. t +⟨ o ⟩ b) ea ∙ ap (plus o a') eb
+pub sum_is : (o : Ops) {v a b a' b' : ℕ} → v ≡ a +⟨ o ⟩ b → a ≡ a' → b ≡ b' → v ≡ a' +⟨ o ⟩ b'
+sum_is o {b} {a'} is ea eb = is ∙ ap (λ t. t +⟨ o ⟩ b) ea ∙ ap (plus o a') eb
 
 -- the values at the nodes 0 and 2
 pub two_values : {X : Type 0} (o : Ops) (number : X → ℕ) (cs ds : List ℕ) (items : List X) (v w : X) (x y : ℕ) → ds ≡ cs → number v ≡ poly_at o ds x → x ≡ 0 → number w ≡ poly_at o ds y → y ≡ 2 →
@@ -100,5 +100,5 @@ two_values o number cs ds items v w x y same first x_is second y_is are =
     ∙ ap (λ n. n ∷ number w ∷ []) (first ∙ ap (poly_at o ds) x_is ∙ ap (λ t. poly_at o t 0) same)
     ∙ ap (λ n. poly_at o cs 0 ∷ n ∷ []) (second ∙ ap (poly_at o ds) y_is ∙ ap (λ t. poly_at o t 2) same)
 
-pub three_same : (a b c a' b' c' : ℕ) → a ≡ a' → b ≡ b' → c ≡ c' → a ∷ b ∷ c ∷ [] ≡ a' ∷ b' ∷ c' ∷ []
-three_same a b c a' b' c' ea eb ec = rw (ea, eb, ec) refl
+pub three_same : {a b c a' b' c' : ℕ} → a ≡ a' → b ≡ b' → c ≡ c' → a ∷ b ∷ c ∷ [] ≡ a' ∷ b' ∷ c' ∷ []
+three_same ea eb ec = rw (ea, eb, ec) refl

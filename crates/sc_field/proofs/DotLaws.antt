@@ -14,5 +14,5 @@ module _ (o : Ops) (f w : ℕ → ℕ) where
   products-more i s s' so_far is =
       is ∙ ap (λ k. plus o k (times o (f i) (w i))) so_far ∙ sym (sum-next o i (λ b. times o (f b) (w b)))
 
-  pub products-all : (i n s : ℕ) → i ≡ n → s ≡ products o i f w → s ≡ products o n f w
-  products-all i n s e done = done ∙ ap (λ k. products o k f w) e
+  pub products-all : {i n s : ℕ} → i ≡ n → s ≡ products o i f w → s ≡ products o n f w
+  products-all e done = done ∙ ap (λ k. products o k f w) e

@@ -126,11 +126,11 @@ module _ (q : Asked) (ring : IsRing q.ops) (even : q.case.problem.basis ≡ eval
 
   module _ (b : Batch) (setting : b.setting ≡ setting_for) (start : b.start ≡ start_for) (rounds_are : b.rounds ≡ q.case.problem.variables) (after : Standing) where
     -- that was played whole
-    pub built_case : (rs : List ℕ) (claim x y : ℕ) (grids : List (List ℕ × List ℕ)) → PlaysWhole b after rs → claim ≡ claim_of q.ops q.case.problem →
+    pub built_case : {rs : List ℕ} {claim x y : ℕ} {grids : List (List ℕ × List ℕ)} → PlaysWhole b after rs → claim ≡ claim_of q.ops q.case.problem →
         after.evals ≡ x ∷ [] → after.weights ≡ y ∷ [] → x < q.ops.size → y < q.ops.size → grids ≡ grids_for q →
         IsBuiltCase q (record { claim = claim; wire = after.wire; challenges = rs; eval = x; weight = y; grids = grids })
     unfolding eval_of weight_value_of
-    built_case rs claim x y grids whole claimed ex ey low high grids_are =
+    built_case {rs} {claim} {x} {y} {grids} whole claimed ex ey low high grids_are =
         let p = q.case.problem in
         let played : IsPlayed setting_for start_for after rs =
         subst (λ t. IsPlayed setting_for t after rs) start (subst (λ s. IsPlayed s b.start after rs) setting whole.played) in
@@ -183,7 +183,7 @@ module _ (q : Asked) (ring : IsRing q.ops) (even : q.case.problem.basis ≡ eval
 
   -- ---- the batch that a prover of it plays
 
-  module _ (shown : Shown) (R : Rules) (h : List Event) (on : Wire) (degree k : ℕ) (rules : R ≡ q.channel.rules) (history : h ≡ q.history) (shows : shown ≡ prover_for q.ops q.case.problem)
+  module _ {shown : Shown} {R : Rules} {h : List Event} {on : Wire} {degree k : ℕ} (rules : R ≡ q.channel.rules) (history : h ≡ q.history) (shows : shown ≡ prover_for q.ops q.case.problem)
       (none_sent : on ≡ empty_wire) (degree_is : degree ≡ q.channel.extension.degree) (count : k ≡ q.case.problem.variables) where
     abbrev pub batch_here : Batch
     batch_here =
@@ -248,7 +248,7 @@ module _ (q : Asked) (ring : IsRing q.ops) (even : q.case.problem.basis ≡ eval
             count = b.count;
             passes = moved.passes;
             history = moved.history;
-            is = figures-are o p k.wire.messages (messages_of b.rounds) k.wire.witnesses (witnesses_of q.channel.bits b.rounds) k.challenges rs k.claim end.claim k.eval k.weight holds
+            is = figures-are o p (messages_of b.rounds) (witnesses_of q.channel.bits b.rounds) rs
                 (ap (λ (w : Wire). w.messages) b.wire) (ap (λ (w : Wire). w.witnesses) b.wire) b.drawn b.claim moved.claim
                 (b.eval ∙ ap (eval_of o p) b.drawn) (b.weight ∙ ap (weight_value_of o p) b.drawn) finding;
           };

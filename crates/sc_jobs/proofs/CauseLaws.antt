@@ -62,9 +62,9 @@ pub no_earlier : (q : Asked) → shape_refusal q ≡ None → task_refusal q ≡
 no_earlier q shape = sym (ap (λ t. or_later t (task_refusal q)) shape)
 
 -- a shape by other names of the number of rows and of the greatest difficulty
-pub shape_as : (rows rows' most most' bits n : ℕ) (first : Option AuditError) → rows ≡ rows' → most ≡ most' → shape_by (arity_of rows) most rows bits n ≡ first →
+pub shape_as : {rows rows' most most' : ℕ} (bits n : ℕ) (first : Option AuditError) → rows ≡ rows' → most ≡ most' → shape_by (arity_of rows) most rows bits n ≡ first →
     shape_by (arity_of rows') most' rows' bits n ≡ first
-shape_as rows rows' most most' bits n first er em is = rw (er, em) at is
+shape_as bits n first er em is = rw (er, em) at is
 
 -- ---- a strategy that does not fit
 

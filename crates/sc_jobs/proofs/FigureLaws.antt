@@ -24,13 +24,13 @@ module _ (o : Ops) (p : Problem) where
   weights-batched b x is = is
 
   -- the figures are determined
-  pub figures-are : (messages ms : List (List ℕ)) (witnesses ws : List ℕ) (challenges rs : List ℕ) (claim residual eval weight : ℕ) (finding : Finding) →
+  pub figures-are : {messages : List (List ℕ)} (ms : List (List ℕ)) {witnesses : List ℕ} (ws : List ℕ) {challenges : List ℕ} (rs : List ℕ) {claim residual eval weight : ℕ} {finding : Finding} →
       messages ≡ ms → witnesses ≡ ws → challenges ≡ rs → claim ≡ claim_of o p → residual ≡ residual_of o p ms rs → eval ≡ eval_of o p rs → weight ≡ weight_value_of o p rs →
       finding ≡ finding_by (is_matched o p ms rs) (false_claim_of o p) (luck_of o p ms rs) →
       ◌≡◌ {A = Figures} (record { claim = claim; messages = messages; witnesses = witnesses; challenges = challenges; residual = residual; eval = eval; weight = weight; finding = finding })
       (figures_of o p ms ws rs)
   unfolding figures_of
-  figures-are messages ms witnesses ws challenges rs claim residual eval weight finding em ew er ec es ee et ef = rw (em, ew, er, ec, es, ee, et, ef) refl
+  figures-are ms ws rs em ew er ec es ee et ef = rw (em, ew, er, ec, es, ee, et, ef) refl
 
   pub matched-by : (b : Bool) (x y z : ℕ) (ms : List (List ℕ)) (rs : List ℕ) → x ≡ residual_of o p ms rs → y ≡ eval_of o p rs → z ≡ weight_value_of o p rs →
       b ≡ (x == times o y z) → b ≡ is_matched o p ms rs

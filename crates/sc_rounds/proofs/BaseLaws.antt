@@ -43,10 +43,10 @@ pub base_rows : {F EF : Type 0} (of : F → ℕ) (number : EF → ℕ) (xs : Lis
 base_rows of number xs w same = (length-map xs of ∙ same, sized number w.evals.items _ _ w.evals.ok.0 w.sized)
 
 -- the round
-pub base_round : (o : Ops) (c : Channel) (s : Shown) (hist hist' : List Event) (w w' : Wire) (values : List ℕ) (witness r : ℕ) → values ≡ message_shown o s → 0 < s.variables →
+pub base_round : {o : Ops} {c : Channel} {s : Shown} {hist hist' : List Event} {w w' : Wire} {values : List ℕ} (witness : ℕ) {r : ℕ} → values ≡ message_shown o s → 0 < s.variables →
     IsSent c hist (round_of values witness) r hist' → w' ≡ with_rounds c.bits w (round_of values witness ∷ []) →
     IsRound (setting_at c o s) (standing_at s hist w) (standing_at (with_bound o s r) hist' w') r
-base_round o c s hist hist' w w' values witness r message left sent wire =
+base_round {o} {c} {s} {hist} {hist'} {w} {w'} {values} witness {r} message left sent wire =
     let n = s.variables - 1 in
     let more : s.variables ≡ n + 1 = omega (arith, left) in
     let next : s.variables ≡ suc n = omega (arith, left) in
@@ -121,9 +121,9 @@ err_as (Ok x) e P is p = elim is [ ]
 err_as (Err x) e P is p = subst P (sym is) p
 
 -- a comparison of the sum tells whether tables agree that have as many rows
-pub base_agrees : {F EF : Type 0} (o : Ops) (of : F → ℕ) (number : EF → ℕ) (xs : List F) (w : Poly EF) (sum total left right : ℕ) (b : Bool) → length xs ≡ 2 ^ variables_of w →
+pub base_agrees : {F EF : Type 0} (o : Ops) {of : F → ℕ} (number : EF → ℕ) {xs : List F} (w : Poly EF) {sum total left right : ℕ} {b : Bool} → length xs ≡ 2 ^ variables_of w →
     total ≡ inner o (variables_of w) (entries of xs) (table_of number w) → left ≡ total → right ≡ sum → b ≡ nat_eq left right → IsTrue b ↔ BaseAgrees o of number xs w sum
-base_agrees o of number xs w sum total left right b rows is first second test = (
+base_agrees o number w {left} {right} rows is first second test = (
   λ t. record { rows = rows; sum_is = sym second ∙ sym (eqb-true left right (sym test ∙ t)) ∙ first ∙ is },
   λ a. test ∙ eq-eqb left right (first ∙ is ∙ sym a.sum_is ∙ sym second),
 )
@@ -143,13 +143,13 @@ module _ (s : Setting) (ring : IsRing s.ops) (offered : IsOffered s.basis s.orde
         left = omega (arith, counts, none, variables);
         within = omega (arith, counts, some, size);
         some = inr (omega (arith, counts, some, size));
-        stopped = stops s s t t v [] d.played d'.played e refl (sym counts) (played_none s t sized) why;
+        stopped = stops _ e refl (sym counts) (played_none s t sized) why;
       }
 
   module _ (r : ℕ) (counts : d'.played ≡ d.played + 1) (round : IsRound s t v r) where
     -- one round is played
     pub first_played : IsPlayed s t v (r ∷ [])
-    first_played = one_round_more s s ring offered t t v [] (r ∷ []) r refl refl (played_none s t sized) round
+    first_played = one_round_more ring offered refl refl (played_none s t sized) round
 
     -- and there is no memory for what it leaves
     pub first_wants : v.history ≡ d'.history → StopsFrom s t d' v.wire NoMemory
@@ -168,14 +168,14 @@ module _ (s : Setting) (ring : IsRing s.ops) (offered : IsOffered s.basis s.orde
     -- the rounds behind it, in the same setting by another name
     module _ (s' : Setting) (is : s' ≡ s) (v' u u' : Standing) (here : v ≡ v') (d2 : Driver) (left : u.variables + d2.played ≡ v.variables + d'.played) where
       pub first_before : (rs : List ℕ) → rs ≡ r ∷ [] → IsPlayed s' t v' rs
-      first_before rs one = played_at s s' t t v v' (r ∷ []) rs (sym is) refl here (sym one) first_played
+      first_before rs one = played_at (sym is) refl here (sym one) first_played
 
       -- are all played
       pub rest_played : u ≡ u' → (rs : List ℕ) → IsDone d2 × IsPlayed s' t u rs → PlaysFrom s t u' rs d2
       rest_played end rs all = record {
         left = ap (λ (k : Standing). k.variables + d2.played) (sym end) ∙ omega (arith, left, counts, none, round.fewer);
         done = all.0;
-        played = played_at s' s t t u u' rs rs is refl end refl all.1;
+        played = played_at is refl end refl all.1;
       }
 
       -- or stop
@@ -202,8 +202,8 @@ breaks_batch b s t u i n (NoWitness k) es et left within some size why = elim so
 breaks_batch b s t u i n e es et left within some size why = absurd why
 
 -- a batch, by other names of it and of what it leaves
-pub whole_as : (b b' : Batch) (u u' : Standing) (rs rs' : List ℕ) → b ≡ b' → u ≡ u' → rs ≡ rs' → PlaysWhole b u rs → PlaysWhole b' u' rs'
-whole_as b b' u u' rs rs' eb eu er p = rw (← eb, ← eu, ← er) p
+pub whole_as : (b : Batch) {b' : Batch} {u u' : Standing} {rs rs' : List ℕ} → b ≡ b' → u ≡ u' → rs ≡ rs' → PlaysWhole b u rs → PlaysWhole b' u' rs'
+whole_as b eb eu er p = rw (← eb, ← eu, ← er) p
 
-pub breaks_as : (b b' : Batch) (h h' : List Event) (w : Wire) (e : SumcheckError) → b ≡ b' → h ≡ h' → BreaksOffAt b h w e → BreaksOffAt b' h' w e
-breaks_as b b' h h' w e eb eh p = rw (← eb, ← eh) p
+pub breaks_as : (b : Batch) {b' : Batch} {h h' : List Event} {w : Wire} {e : SumcheckError} → b ≡ b' → h ≡ h' → BreaksOffAt b h w e → BreaksOffAt b' h' w e
+breaks_as b eb eh p = rw (← eb, ← eh) p

@@ -13,10 +13,10 @@ pub same_length : {X Y : Type 0} (f : X → ℕ) (g : Y → ℕ) (xs : List X) (
 same_length f g xs ys e = sym (length-map xs f) ∙ ap length e ∙ length-map ys g
 
 -- whether tables agree, by the sum that was computed
-pub agree : {A B : Type 0} (o : Ops) (number : A → ℕ) (represented : B → ℕ) (evals : Poly A) (weights : Poly B) (sum a b : ℕ) →
+pub agree : {A B : Type 0} (o : Ops) {number : A → ℕ} {represented : B → ℕ} {evals : Poly A} {weights : Poly B} {sum a b : ℕ} →
     variables_of evals ≡ variables_of weights → a ≡ inner o (variables_of evals) (table_of number evals) (table_of represented weights) → b ≡ sum →
     IsTrue (nat_eq a b) ↔ TablesAgree o number represented evals weights sum
-agree o number represented evals weights sum a b same a_is b_is = (
+agree o {a} {b} same a_is b_is = (
   λ t. let e : a ≡ b = eqb-true a b t in record { variables = same; true_sum = sym b_is ∙ sym e ∙ a_is },
   λ agrees. let e : a ≡ b = a_is ∙ sym agrees.true_sum ∙ sym b_is in eq-eqb a b e,
 )

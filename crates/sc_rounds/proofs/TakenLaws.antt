@@ -21,17 +21,17 @@ same_footing eh ec = λ i. record { history = eh i; claim = ec i }
 
 module _ (o : Ops) (ring : IsRing o) where
   -- the claim with a true constraint stays the sum
-  pub sum_taken : (n c p : ℕ) (ss : List Statement) (f w w' : ℕ → ℕ) (s s' : ℕ) → s ≡ inner o n f w → inner o n f (batched_weight o c p ss) ≡ batched_claim o c p ss →
+  pub sum_taken : {n c p : ℕ} {ss : List Statement} (f : ℕ → ℕ) {w w' : ℕ → ℕ} {s s' : ℕ} → s ≡ inner o n f w → inner o n f (batched_weight o c p ss) ≡ batched_claim o c p ss →
       AddsBatch o n c p ss (gathered w s) (gathered w' s') → s' ≡ inner o n f w'
-  sum_taken n c p ss f w w' s s' true_sum claim added =
+  sum_taken {n} {c} {p} {ss} f {w} {w'} true_sum claim added =
       added.sum ∙ ap (λ x. plus o x (batched_claim o c p ss)) true_sum ∙ ap (plus o (inner o n f w)) (sym claim)
       ∙ sym (inner-parts_of o ring n f w (batched_weight o c p ss) w' added.weights)
 
   -- and only with a true one
-  pub claim_taken : (n c p : ℕ) (ss : List Statement) (f w w' : ℕ → ℕ) (s s' : ℕ) → s ≡ inner o n f w → s' ≡ inner o n f w' →
+  pub claim_taken : {n c p : ℕ} {ss : List Statement} (f : ℕ → ℕ) {w w' : ℕ → ℕ} {s s' : ℕ} → s ≡ inner o n f w → s' ≡ inner o n f w' →
       AddsBatch o n c p ss (gathered w s) (gathered w' s') → inner o n f (batched_weight o c p ss) ≡ batched_claim o c p ss
   unfolding batched_claim inner
-  claim_taken n c p ss f w w' s s' true_sum after added =
+  claim_taken {n} {c} {p} {ss} f {w} {w'} true_sum after added =
       let v = batched_weight o c p ss in
       let whole : plus o (inner o n f w) (inner o n f v) ≡ plus o (inner o n f w) (batched_claim o c p ss) =
       sym (inner-parts_of o ring n f w v w' added.weights) ∙ sym after ∙ added.sum ∙ ap (λ x. plus o x (batched_claim o c p ss)) true_sum in

@@ -91,10 +91,10 @@ pub second_replaced : (a b i x : ℕ) → a < 257 → i ≢ 0 → i < 2 →
 second_replaced a b i x p n h = parts-pair a x p ∙ second_set a b i x n h ∙ sym (ap (λ xs. slice_set xs i x) (parts-pair a b p))
 
 -- the norm, by steps
-pub norm_is : (a b three square triple first n : ℕ) → three ≡ 3 → square ≡ times (residues 257) b b → triple ≡ times (residues 257) three square →
+pub norm_is : (a b : ℕ) {three square triple first n : ℕ} → three ≡ 3 → square ≡ times (residues 257) b b → triple ≡ times (residues 257) three square →
     first ≡ times (residues 257) a a → n ≡ minus (residues 257) first triple →
     n ≡ minus (residues 257) (times (residues 257) a a) (times (residues 257) 3 (times (residues 257) b b))
-norm_is a b three square triple first n is_three is_square is_triple is_first is_norm =
+norm_is a b {square} {triple} is_three is_square is_triple is_first is_norm =
     let o = residues 257 in
     is_norm ∙ ap (λ m. minus o m triple) is_first
     ∙ ap (minus o (times o a a)) (is_triple ∙ ap (λ m. times o m square) is_three ∙ ap (times o 3) is_square)

@@ -91,10 +91,10 @@ arity-of arity n groups all i x fits same low is =
 
 module _ {G : Type 0} (statements_of : G → List Statement) (o : Ops) (ring : IsRing o) (c p : ℕ) (groups : List G) (i : ℕ) (x : G) where
   -- the sum of one group more
-  pub sum-group : (old total total' factor factor' : ℕ) → IsSummed o c p (flat_map statements_of (take i groups)) old total factor → i < length groups → x ≡ get_or groups i x →
+  pub sum-group : {old total total' factor factor' : ℕ} → IsSummed o c p (flat_map statements_of (take i groups)) old total factor → i < length groups → x ≡ get_or groups i x →
       ((q : ℕ) → factor ≡ power o c q → total' ≡ plus o total (batched_claim o c q (statements_of x))) → ((q : ℕ) → factor ≡ power o c q → factor' ≡ power o c (q + length (statements_of x))) →
       IsSummed o c p (flat_map statements_of (take (i + 1) groups)) old total' factor'
-  sum-group old total total' factor factor' so_far low at added next =
+  sum-group {old} {total} {total'} {factor} {factor'} so_far low at added next =
       let q = p + length (flat_map statements_of (take i groups)) in
       IsSummed-group o ring c p _ (statements_of x) _ old total total' factor factor' (groups-more statements_of groups i x low at) so_far (added q so_far.next) (next q so_far.next)
 
@@ -104,17 +104,17 @@ pub record IsCombined {G : Type 0} (statements_of : G → List Statement) (o : O
   pub next : factor ≡ power o c (p + length (flat_map statements_of (take i groups)))
 
 module _ {G : Type 0} (statements_of : G → List Statement) (o : Ops) (ring : IsRing o) (n c p : ℕ) (groups : List G) where
-  pub IsCombined-none : (table : ℕ → ℕ) (total factor : ℕ) → ((b : ℕ) → table b < o.size) → total < o.size → factor ≡ power o c p →
+  pub IsCombined-none : {table : ℕ → ℕ} {total factor : ℕ} → ((b : ℕ) → table b < o.size) → total < o.size → factor ≡ power o c p →
       IsCombined statements_of o n c p groups 0 table table total total factor
-  IsCombined-none table total factor low below is =
+  IsCombined-none low below is =
       let none : p ≡ p + 0 = omega arith in
-      record { added = AddsBatch-none o ring n c p [] table total refl low below; next = is ∙ ap (power o c) none }
+      record { added = AddsBatch-none o ring refl low below; next = is ∙ ap (power o c) none }
 
-  pub IsCombined-more : (arity : G → ℕ) (all : List G) (i : ℕ) (x : G) (old table table' : ℕ → ℕ) (old_sum total total' factor factor' : ℕ) →
+  pub IsCombined-more : (arity : G → ℕ) {all : List G} (i : ℕ) (x : G) {old table table' : ℕ → ℕ} {old_sum total total' factor factor' : ℕ} →
       IsCombined statements_of o n c p groups i old table old_sum total factor → All (λ y. arity y ≡ n) all → groups ≡ all → i < length groups → x ≡ get_or groups i x →
       ((q : ℕ) → factor ≡ power o c q → AddsBatch o (arity x) c q (statements_of x) (gathered table total) (gathered table' total')) → ((q : ℕ) → factor ≡ power o c q → factor' ≡ power o c (q + length (statements_of x))) →
       IsCombined statements_of o n c p groups (i + 1) old table' old_sum total' factor'
-  IsCombined-more arity all i x old table table' old_sum total total' factor factor' so_far fits same low at added next =
+  IsCombined-more arity {all} i x {old} {table} {table'} {old_sum} {total} {total'} so_far fits same low at added next =
       let done = flat_map statements_of (take i groups) in
       let q = p + length done in
       let longer = groups-more statements_of groups i x low at in

@@ -11,13 +11,13 @@ use Rattle.sc_statements.proofs.GroupSteps.{sum-group}
 
 module _ {G : Type 0} (statements_of : G → List Statement) (o : Ops) (ring : IsRing o) (c p : ℕ) (zs : List ℕ) where
   -- one group more
-  pub value-group : (groups : List G) (i : ℕ) (x : G) (old total total' factor factor' : ℕ) → IsSummed o c p (flat_map (λ g. map (valued o zs) (statements_of g)) (take i groups)) old total factor →
+  pub value-group : (groups : List G) (i : ℕ) (x : G) {old total total' factor factor' : ℕ} → IsSummed o c p (flat_map (λ g. map (valued o zs) (statements_of g)) (take i groups)) old total factor →
       i < length groups → x ≡ get_or groups i x →
       ((q : ℕ) → factor ≡ power o c q → total' ≡ plus o total (value o (batched_weight o c q (statements_of x)) zs)) →
       ((q : ℕ) → factor ≡ power o c q → factor' ≡ power o c (q + length (statements_of x))) →
       IsSummed o c p (flat_map (λ g. map (valued o zs) (statements_of g)) (take (i + 1) groups)) old total' factor'
-  value-group groups i x old total total' factor factor' so_far low at added next =
-      sum-group (λ g. map (valued o zs) (statements_of g)) o ring c p groups i x old total total' factor factor' so_far low at
+  value-group groups i x {total} so_far low at added next =
+      sum-group (λ g. map (valued o zs) (statements_of g)) o ring c p groups i x so_far low at
       (λ q is. added q is ∙ ap (plus o total) (value-batched o ring c q (statements_of x) zs))
       (λ q is. next q is ∙ ap (λ k. power o c (q + k)) (sym (length-map (statements_of x) (valued o zs))))
 
@@ -30,6 +30,6 @@ module _ {G : Type 0} (statements_of : G → List Statement) (o : Ops) (ring : I
   pub value-groups : (groups all : List G) (i old total factor : ℕ) → IsSummed o c p (flat_map (λ g. map (valued o zs) (statements_of g)) (take i groups)) old total factor →
       old ≡ 0 → groups ≡ all → length groups ≤ i → total ≡ value o (batched_weight o c p (flat_map statements_of all)) zs
   value-groups groups all i old total factor so_far none same past =
-      claim-alone o ring c p (flat_map (λ g. map (valued o zs) (statements_of g)) (take i groups)) old total none so_far.summed
+      claim-alone o ring _ _ _ none so_far.summed
       ∙ ap (λ l. batched_claim o c p (flat_map (λ g. map (valued o zs) (statements_of g)) l)) (take_all i groups past ∙ same)
       ∙ ap (batched_claim o c p) (flat-valued all) ∙ sym (value-batched o ring c p (flat_map statements_of all) zs)

@@ -52,11 +52,11 @@ module _ (o : Ops) (size n half from : ℕ) (whole : size ≡ n) (f w : ℕ → 
       ∙ sum-same o n _ _ (λ k low. let a = f0_is k low in let b = f1_is k low in let c = w0_is k low in let d = w1_is k low in cc (a, b, c, d))
 
 -- a block more of a message
-pub message-block : (basis : Basis) (order : Order) (o : Ops) → IsRing o → (half i n : ℕ) (f w : ℕ → ℕ) (c q c' q' : ℕ) → IsMessageSoFar basis order o half i f w c q →
+pub message-block : (basis : Basis) (order : Order) (o : Ops) → IsRing o → {half i : ℕ} (n : ℕ) {f w : ℕ → ℕ} {c q c' q' : ℕ} → IsMessageSoFar basis order o half i f w c q →
     c' ≡ plus o c (sum_from o i n (first_term basis order o half f w)) → q' ≡ plus o q (sum_from o i n (leading_term basis order o half f w)) →
     IsMessageSoFar basis order o half (i + n) f w c' q'
 unfolding sum_from
-message-block basis order o ring half i n f w c q c' q' so_far c_is q_is =
+message-block basis order o ring {half} {i} n {f} {w} so_far c_is q_is =
     let F = first_term basis order o half f w in
     let L = leading_term basis order o half f w in
     record {

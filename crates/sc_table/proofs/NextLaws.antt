@@ -44,12 +44,12 @@ module _ (o : Ops) (ring : IsRing o) where
   }
 
   -- one coordinate more is passed
-  pub passed-more : (all_z all_x zs xs : List ℕ) (z x equal carry done last : ℕ) (equal' carry' done' last' : ℕ) → IsPassed o all_z all_x (z ∷ zs) (x ∷ xs) equal carry done last →
+  pub passed-more : (all_z all_x zs xs : List ℕ) (z x : ℕ) {equal carry done last : ℕ} {equal' carry' done' last' : ℕ} → IsPassed o all_z all_x (z ∷ zs) (x ∷ xs) equal carry done last →
       equal' ≡ times o equal (plus o (times o z x) (times o (minus o 1 z) (minus o 1 x))) → carry' ≡ times o carry (times o z (minus o 1 x)) →
       done' ≡ plus o (times o done (times o z (minus o 1 x))) (times o equal (times o (minus o 1 z) x)) → last' ≡ times o last (times o z x) →
       IsPassed o all_z all_x zs xs equal' carry' done' last'
   unfolding Agree
-  passed-more all_z all_x zs xs z x equal carry done last equal' carry' done' last' so_far equal_is carry_is done_is last_is =
+  passed-more all_z all_x zs xs z x {equal} {carry} {done} {last} {done'} so_far equal_is carry_is done_is last_is =
       let size : length zs ≡ length xs = omega (arith, so_far.size) in
       let C = next_carry o zs xs in let D = next_done o zs xs in let W = next_omega o zs xs in
       let Z = atom 0 in let X = atom 1 in let E = atom 2 in let F = atom 3 in let G = atom 4 in let H = atom 5 in

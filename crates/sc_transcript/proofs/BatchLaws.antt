@@ -14,22 +14,22 @@ use Rattle.sc_definitions.specs.Shown.{Stored, HoldsIfAny}
 
 -- ---- rounds, by other names of what they move
 
-pub same_setting : (c c' : Channel) (o : Ops) (order order' : Order) → c ≡ c' → order ≡ order' →
+pub same_setting : {c c' : Channel} {o : Ops} {order order' : Order} → c ≡ c' → order ≡ order' →
     ◌≡◌ {A = Setting} (record { channel = c; ops = o; basis = evaluation; order = order }) (record { channel = c'; ops = o; basis = evaluation; order = order' })
-same_setting c c' o order order' ec eo = rw (ec, eo) refl
+same_setting ec eo = rw (ec, eo) refl
 
-pub played_at : (s s' : Setting) (t t' u u' : Standing) (rs rs' : List ℕ) → s ≡ s' → t ≡ t' → u ≡ u' → rs ≡ rs' → IsPlayed s t u rs → IsPlayed s' t' u' rs'
-played_at s s' t t' u u' rs rs' es et eu er p = rw (← es, ← et, ← eu, ← er) p
+pub played_at : {s s' : Setting} {t t' : Standing} {u u' : Standing} {rs rs' : List ℕ} → s ≡ s' → t ≡ t' → u ≡ u' → rs ≡ rs' → IsPlayed s t u rs → IsPlayed s' t' u' rs'
+played_at es et eu er p = rw (← es, ← et, ← eu, ← er) p
 
 -- what is held, by other names of the rounds
-pub holds_at : (s s' : Setting) (t t' : Standing) (rs rs' : List ℕ) (kept : Stored) → s ≡ s' → t ≡ t' → rs ≡ rs' → HoldsIfAny s t rs kept → HoldsIfAny s' t' rs' kept
-holds_at s s' t t' rs rs' kept es et er p = rw (← es, ← et, ← er) p
+pub holds_at : {s s' : Setting} {t t' : Standing} {rs rs' : List ℕ} {kept : Stored} → s ≡ s' → t ≡ t' → rs ≡ rs' → HoldsIfAny s t rs kept → HoldsIfAny s' t' rs' kept
+holds_at es et er p = rw (← es, ← et, ← er) p
 
 -- a batch that got no memory before it began
-pub never_begun : {X : Type 0} (result : Result X SumcheckError) (challenges : X → List ℕ) (b : Batch) (u : Standing) →
+pub never_begun : {X : Type 0} (result : Result X SumcheckError) (challenges : X → List ℕ) (b : Batch) {u : Standing} →
     IsErrAnd result (λ e. e ≡ NoMemory) → u ≡ b.taken → LeavesBatch challenges b u result
-never_begun (Ok x) challenges b u memory none = elim memory [ ]
-never_begun (Err e) challenges b u memory none = rw memory (inl none)
+never_begun (Ok x) challenges b memory none = elim memory [ ]
+never_begun (Err e) challenges b memory none = rw memory (inl none)
 
 -- a batch, by other names of it and of what it leaves
 pub batch_as : {X : Type 0} (result : Result X SumcheckError) (challenges : X → List ℕ) (b b' : Batch) (u u' : Standing) → b ≡ b' → u ≡ u' →
@@ -45,26 +45,26 @@ pub as_none : (s : Setting) (t : Standing) (rs : List ℕ) → rs ≡ [] → IsP
 as_none s t rs none p = rw none p
 
 -- one round more, in a setting by another name
-pub one_round_more : (s s₁ : Setting) → IsRing s.ops → IsOffered s.basis s.order → (t u v : Standing) (rs rs' : List ℕ) (r : ℕ) →
+pub one_round_more : {s s₁ : Setting} → IsRing s.ops → IsOffered s.basis s.order → {t u v : Standing} {rs rs' : List ℕ} {r : ℕ} →
     s₁ ≡ s → rs' ≡ rs ++ r ∷ [] → IsPlayed s t u rs → IsRound s₁ u v r → IsPlayed s t v rs'
-one_round_more s s₁ ring offered t u v rs rs' r same drawn p q =
+one_round_more {s} ring offered {t} {u} {v} {rs} {r} same drawn p q =
     rw drawn (played_more s ring offered t u v rs r p (subst (λ k. IsRound k u v r) same q))
 
 -- a round that is refused stops the rounds
-pub stops : (s s₁ : Setting) (t u v : Standing) (rs : List ℕ) (i j : ℕ) (e : SumcheckError) → s₁ ≡ s → i ≡ j → IsPlayed s t u rs → IsHalted s₁ u v i e → IsStopped s t v j e
-stops s s₁ t u v rs i j NoMemory same place p why = record { rs = rs; played = rw why p }
-stops s s₁ t u v rs i j (NoWitness k) same place p why =
+pub stops : {s s₁ : Setting} {t u : Standing} (v : Standing) {rs : List ℕ} {i j : ℕ} (e : SumcheckError) → s₁ ≡ s → i ≡ j → IsPlayed s t u rs → IsHalted s₁ u v i e → IsStopped s t v j e
+stops v {rs} NoMemory same place p why = record { rs = rs; played = rw why p }
+stops {u} v {rs} (NoWitness k) same place p why =
     (why.0 ∙ place, record { rs = rs; last = u; played = p; ends = subst (λ k. IsRoundWithoutWitness k u v) same why.1 })
-stops s s₁ t u v rs i j e same place p why = absurd why
+stops v e same place p why = absurd why
 
 -- rounds that stop, as a batch that was begun
-pub stops_batch : (b : Batch) (s : Setting) (t u u' : Standing) (i n : ℕ) (e : SumcheckError) → s ≡ b.setting → t ≡ b.start → u ≡ u' →
+pub stops_batch : (b : Batch) {s : Setting} {t u u' : Standing} {i n : ℕ} (e : SumcheckError) → s ≡ b.setting → t ≡ b.start → u ≡ u' →
     u'.variables + i ≡ b.start.variables → i < n → n ≡ b.rounds → IsStopped s t u i e → BreaksOff b u' e
-stops_batch b s t u u' i n NoMemory es et eu left less size why =
+stops_batch b NoMemory es et eu left less size why =
     inr (record { within = omega (arith, left, less, size); part = rw (← es, ← et, ← eu) why })
-stops_batch b s t u u' i n (NoWitness k) es et eu left less size why =
+stops_batch b {i} (NoWitness k) es et eu left less size why =
     let place : k ≡ i = why.0 in (omega arith, omega arith, rw (← es, ← et, ← eu) why.1)
-stops_batch b s t u u' i n e es et eu left less size why = absurd why
+stops_batch b e es et eu left less size why = absurd why
 
 -- ---- results and counts
 
@@ -84,8 +84,8 @@ all_played p k n m same size low high = omega arith
 pub less_at : (p k n m : ℕ) → p ≡ k → k < n → n ≡ m → p < m
 less_at p k n m same less size = omega arith
 
-pub room_at : (p k n m r : ℕ) → p ≡ k → k < n → n ≡ m → m ≤ r → p < r
-room_at p k n m r same less size room = omega arith
+pub room_at : {p k n m r : ℕ} → p ≡ k → k < n → n ≡ m → m ≤ r → p < r
+room_at same less size room = omega arith
 
 pub sum_at : (v p k s : ℕ) → p ≡ k → v + k ≡ s → v + p ≡ s
 sum_at v p k s same is = omega arith
@@ -99,8 +99,8 @@ pub less_by_one : (v v₀ p s : ℕ) → v₀ ≡ suc v → v₀ + p ≡ s → v
 less_by_one v v₀ p s fewer is = omega arith
 
 -- rounds begin within a batch, by other names
-pub begun_within : (k len p n m : ℕ) → k ≡ len → len ≡ p → p ≤ m → n ≡ m → k ≤ n
-begun_within k len p n m is count low size = omega arith
+pub begun_within : {k len p n m : ℕ} → k ≡ len → len ≡ p → p ≤ m → n ≡ m → k ≤ n
+begun_within is count low size = omega arith
 
 -- no round was played before
 pub none_before : (v p s z : ℕ) → v + p ≡ s + z → z ≡ 0 → v + p ≡ s
@@ -111,8 +111,8 @@ pub enough_left : (n m v p : ℕ) → n ≡ m → m ≤ v → p ≡ 0 → n ≤ 
 enough_left n m v p size enough none = omega arith
 
 -- what is held where no round was played before
-pub held_if_any : (s : Setting) (t : Standing) (rs all : List ℕ) (kept : Stored) → rs ≡ [] → IsPlayed s t t [] → HoldsIfMore (record { setting = s; now = t; drawn = rs }) all kept → HoldsIfAny s t all kept
-held_if_any s t rs all kept none played holds = elim (holds t (as_none s t rs none played)) [
+pub held_if_any : {s : Setting} {t : Standing} {rs all : List ℕ} {kept : Stored} → rs ≡ [] → IsPlayed s t t [] → HoldsIfMore (record { setting = s; now = t; drawn = rs }) all kept → HoldsIfAny s t all kept
+held_if_any {s} {t} {rs} none played holds = elim (holds t (as_none s t rs none played)) [
   | inl same ↦ inl (same ∙ none)
   | inr last ↦ inr last
 ]
@@ -120,12 +120,12 @@ held_if_any s t rs all kept none played holds = elim (holds t (as_none s t rs no
 -- ---- one round
 
 -- a round that is refused leaves all but the history
-pub halts : (s : Setting) (t u : Standing) (i : ℕ) (values : List ℕ) (e : SumcheckError) →
+pub halts : (s : Setting) (t : Standing) {u : Standing} (i : ℕ) {values : List ℕ} (e : SumcheckError) →
     IsRefused s.channel i t.history values u.history e → values ≡ message_in s t → u ≡ record t { history = u.history } → IsHalted s t u i e
-halts s t u i values NoMemory why message kept = kept ∙ ap (λ h. record t { history = h }) why
-halts s t u i values (NoWitness j) why message kept =
+halts s t i NoMemory why message kept = kept ∙ ap (λ h. record t { history = h }) why
+halts s t {u} i (NoWitness j) why message kept =
     (why.0, record { none = subst (λ vs. NoWitnessFound s.channel t.history vs u.history) message why.1; kept = kept })
-halts s t u i values e why message kept = absurd why
+halts s t i e why message kept = absurd why
 
 -- a round as the tables before it tell it
 pub moved-honest : {X : Type 0} (number : X → ℕ) (s : Setting) → IsRing s.ops → IsOffered s.basis s.order → (t u : Standing) (i : ℕ) (r : Result X SumcheckError) →

@@ -20,25 +20,25 @@ use Rattle.sc_transcript.specs.Replayed.{Leaves, Replay, IsCounted, LeavesReplay
 -- ---- the loop over the rounds
 
 -- the same rules at the same difficulty are the same channel
-pub same_channel : (R R' : Rules) (E : Extension) (size bits bits' : ℕ) → R ≡ R' → bits ≡ bits' → channel R E size bits ≡ channel R' E size bits'
-same_channel R R' E size bits bits' er eb = rw (er, eb) refl
+pub same_channel : {R R' : Rules} {E : Extension} (size : ℕ) {bits bits' : ℕ} → R ≡ R' → bits ≡ bits' → channel R E size bits ≡ channel R' E size bits'
+same_channel size er eb = rw (er, eb) refl
 
 pub replays_begin : (next : ℕ → List ℕ → ℕ → ℕ) (c : Channel) (h₀ h : List Event) (claim : ℕ) (rs : List ℕ) → h ≡ h₀ → rs ≡ [] →
     IsReplayed next c (footing h₀ claim) (footing h claim) [] rs
 replays_begin next c h₀ h claim rs eh er = rw (eh, er) (replayed-none next c (footing h₀ claim))
 
-pub replays_step : {X : Type 0} (number : X → ℕ) (next : ℕ → List ℕ → ℕ → ℕ) (c c₁ : Channel) (before at after : Footing) (rounds : List Round) (i : ℕ) (r : Round) (out out₁ : List X) (x : X) →
+pub replays_step : {X : Type 0} (number : X → ℕ) {next : ℕ → List ℕ → ℕ → ℕ} {c c₁ : Channel} {before : Footing} (at after : Footing) (rounds : List Round) (i : ℕ) (r : Round) (out out₁ : List X) (x : X) →
     slice_get rounds i ≡ Some r → c₁ ≡ c → IsReplayed next c before at (take i rounds) (map number out) →
     IsTaken c₁ at.history r (number x) after.history → after.claim ≡ next at.claim r.values (number x) → out₁ ≡ out ++ x ∷ [] →
     IsReplayed next c before after (take (i + 1) rounds) (map number out₁)
-replays_step number next c c₁ before at after rounds i r out out₁ x is same p q ec eo =
+replays_step number {next} {c} {before} at after rounds i r out out₁ x is same p q ec eo =
     let taken = subst (λ k. IsTaken k at.history r (number x) after.history) same q in
     subst (IsReplayed next c before after (take (i + 1) rounds)) (sym (ap (map number) eo ∙ map-append number out (x ∷ [])))
     (replayed-more next c before at after rounds i r (map number out) (number x) (slice_get_within rounds i r is) (get_or_from_slice_get rounds i r r is) p taken ec)
 
-pub replays_end : (next : ℕ → List ℕ → ℕ → ℕ) (c : Channel) (before : Footing) (rs : List Round) (i : ℕ) (h h' : List Event) (claim : ℕ) (out out' : List ℕ) →
+pub replays_end : {next : ℕ → List ℕ → ℕ → ℕ} (c : Channel) {before : Footing} {rs : List Round} (i : ℕ) {h h' : List Event} {claim : ℕ} {out out' : List ℕ} →
     i ≡ length rs → h' ≡ h → out' ≡ out → IsReplayed next c before (footing h claim) (take i rs) out → IsReplayed next c before (footing h' claim) rs out'
-replays_end next c before rs i h h' claim out out' e eh eo p =
+replays_end {next} c {before} {rs} i {h} {claim} {out} e eh eo p =
     let p' : IsReplayed next c before (footing h claim) rs out = rw (take_whole rs i e) at p in
     rw (eh, eo) p'
 
@@ -65,17 +65,17 @@ error_is : (Y : Type 0) (e e' : SumcheckError) → Is Y e e' → e ≡ e'
 error_is Y e e' p = cc
 
 -- a round is rejected
-pub leaves_rejected : {X W : Type 0} (number : X → ℕ) (next : ℕ → List ℕ → ℕ → ℕ) (E : Extension) (d d' : Driver) (c : Channel) (before : Footing) (rs : List Round) (i n k : ℕ) (r : Round)
-    (claim : ℕ) (out : List ℕ) (error : SumcheckError) (came : Option W) (h : List Event) →
+pub leaves_rejected : {X W : Type 0} (number : X → ℕ) {next : ℕ → List ℕ → ℕ → ℕ} {E : Extension} {d d' : Driver} {c : Channel} {before : Footing} {rs : List Round} (i n : ℕ) {k : ℕ} {r : Round}
+    {claim : ℕ} {out : List ℕ} (error : SumcheckError) {came : Option W} {h : List Event} →
     channel_of E d ≡ c → d.played ≡ i → IsReplayed next c before (footing d.history claim) (take i rs) out → slice_get rs i ≡ Some r →
     (i < k → IsSome came) → k ≡ witness_count c.bits n → i < n → RejectsRound E d d' r came error → h ≡ d'.history →
     Leaves number next c before rs (Err error) (footing h claim)
-leaves_rejected number next E d d' c before rs i n k r claim out NoMemory came h same ei p is some count lt told left =
+leaves_rejected number {rs} i n {out} NoMemory same ei p is some count lt told left =
     inl (refl, record { count = i; rs = out; replays = rw (left ∙ told.why) p })
-leaves_rejected number next E d d' c before rs i n k r claim out (MissingPowWitness j b) came h same ei p is some count lt told left =
+leaves_rejected number {c} i n {k} (MissingPowWitness j b) {came} same ei p is some count lt told left =
     let positive : 0 < c.bits = subst (λ t. 0 < t) (ap (λ (ch : Channel). ch.bits) same) told.why.2 in
     absurd (some_is_some came (some (witness_due c.bits n i k positive count lt)) told.why.3)
-leaves_rejected number next E d d' c before rs i n k r claim out (InvalidPowWitness j b) came h same ei p is some count lt told left =
+leaves_rejected number {d} {d'} {rs} i n {r} {out} (InvalidPowWitness j b) same ei p is some count lt told left =
     let place : j ≡ i = told.why.0 ∙ ei in
     let fails = subst (λ ch. WitnessFails ch d.history r d'.history) same told.why.3 in
     inr (
@@ -83,13 +83,13 @@ leaves_rejected number next E d d' c before rs i n k r claim out (InvalidPowWitn
       ap (InvalidPowWitness j) (told.why.1 ∙ ap (λ (ch : Channel). ch.bits) same),
       record { rs = out; last = d.history; replays = rw place p; round = r; is = rw place is; test = record { fails = fails.fails; history = left ∙ fails.history } },
     )
-leaves_rejected number next E d d' c before rs i n k r claim out error came h same ei p is some count lt told left = absurd told.why
+leaves_rejected number i n error same ei p is some count lt told left = absurd told.why
 
 -- ---- by the result, where the replay may not have begun
 
-pub leaves_at : {X : Type 0} (number : X → ℕ) (next : ℕ → List ℕ → ℕ → ℕ) (c c' : Channel) (before before' after : Footing) (rs : List Round) (result : Result (List X) SumcheckError) →
+pub leaves_at : {X : Type 0} (number : X → ℕ) (next : ℕ → List ℕ → ℕ → ℕ) {c c' : Channel} {before before' : Footing} (after : Footing) (rs : List Round) (result : Result (List X) SumcheckError) →
     c ≡ c' → before ≡ before' → Leaves number next c before rs result after → Leaves number next c' before' rs result after
-leaves_at number next c c' before before' after rs result ec eb p = rw (← ec, ← eb) p
+leaves_at number next after rs result ec eb p = rw (← ec, ← eb) p
 
 -- a replay that may not have begun, of what was counted
 pub begun_left : {X : Type 0} (untouched : Type 0) (number : X → ℕ) (p : Replay) (result : Result (List X) SumcheckError) (after : Footing) → IsCounted p →
@@ -130,16 +130,16 @@ abbrev Counts : Type 0 → SumcheckError → ℕ → ℕ → ℕ → ℕ → Typ
 Counts Y e m n k w = (Is Y e (RoundCountMismatch n m) × (m ≢ n)) ⊎ (Is Y e (PowWitnessCountMismatch w k) × (m ≡ n) × (k ≢ w))
 
 -- the result that passes such an error on
-pub counts_passed : {X : Type 0} (Y : Type 0) (result : Result X SumcheckError) (e : SumcheckError) (m n k w : ℕ) → result ≡ Err e → Counts Y e m n k w →
+pub counts_passed : {X : Type 0} {Y : Type 0} {result : Result X SumcheckError} {e : SumcheckError} {m n k w : ℕ} → result ≡ Err e → Counts Y e m n k w →
     IsMiscounted result m n k w
-counts_passed Y result e m n k w is counts = elim counts [
+counts_passed {Y} is counts = elim counts [
   | inl p ↦ inl (is ∙ ap Err (error_is Y _ _ p.0), p.1)
   | inr p ↦ inr (is ∙ ap Err (error_is Y _ _ p.0), p.1, p.2)
 ]
 
 -- the same by other names of the counts
-pub counts_as : {X : Type 0} (result : Result X SumcheckError) (m m' n k k' w : ℕ) → m' ≡ m → k' ≡ k → IsMiscounted result m n k w → IsMiscounted result m' n k' w
-counts_as result m m' n k k' w em ek p = rw (em, ek) p
+pub counts_as : {X : Type 0} {result : Result X SumcheckError} {m m' n k k' w : ℕ} → m' ≡ m → k' ≡ k → IsMiscounted result m n k w → IsMiscounted result m' n k' w
+counts_as em ek p = rw (em, ek) p
 
 -- how many rounds and witnesses data puts on the wire
 pub rounds_came : {F EF : Type 0} (number : EF → ℕ) (d : SumcheckData F EF) → length (messages_in number d) ≡ vec_len d.polynomial_evaluations

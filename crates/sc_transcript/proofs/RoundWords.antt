@@ -13,8 +13,8 @@ use Rattle.sc_definitions.specs.Tables.{Basis}
 use Rattle.sc_definitions.proofs.ReplayLaws.{sent-pair}
 
 -- the words of two values that are observed one after the other
-pub pair_sent : (E : Extension) (c q : ℕ) (h h₁ h₂ : List Event) → h₁ ≡ h ++ words (E.parts c) → h₂ ≡ h₁ ++ words (E.parts q) → h₂ ≡ h ++ sent E (c ∷ q ∷ [])
-pair_sent E c q h h₁ h₂ first second =
+pub pair_sent : (E : Extension) (c q : ℕ) (h : List Event) {h₁ h₂ : List Event} → h₁ ≡ h ++ words (E.parts c) → h₂ ≡ h₁ ++ words (E.parts q) → h₂ ≡ h ++ sent E (c ∷ q ∷ [])
+pair_sent E c q h first second =
     second ∙ ap (λ t. t ++ words (E.parts q)) first ∙ append_assoc h (words (E.parts c)) (words (E.parts q)) ∙ ap (λ t. h ++ t) (sym (sent-pair E c q))
 
 -- the words of one value more
@@ -116,10 +116,10 @@ finds_none R E size bits h h₁ h₂ values absorbed kept positive none =
 -- ---- the seed
 
 -- no rounds have no seed
-pub seed_none : (degree : ℕ) (basis : Basis) (bits n : ℕ) (h : List Event) → n ≡ 0 → h ≡ h ++ words (quadratic_seed degree basis bits n)
+pub seed_none : (degree : ℕ) (basis : Basis) (bits : ℕ) (n : ℕ) {h : List Event} → n ≡ 0 → h ≡ h ++ words (quadratic_seed degree basis bits n)
 unfolding quadratic_seed
-seed_none degree basis bits zero h none = simp append-nil
-seed_none degree basis bits (suc n) h none = absurd (omega (arith, none))
+seed_none degree basis bits zero none = simp append-nil
+seed_none degree basis bits (suc n) none = absurd (omega (arith, none))
 
 -- rounds have the separator's
 pub seed_some : (degree : ℕ) (basis : Basis) (bits n : ℕ) → 0 < n → seed_words (quadratic_separator degree basis bits n) ≡ quadratic_seed degree basis bits n

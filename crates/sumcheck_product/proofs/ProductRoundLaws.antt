@@ -191,6 +191,6 @@ module _ (q : ProductCase) where
   passed_on {F = F} {EF = EF} base number (Err x) e is left = subst (λ t. LeavesBuilt {F = F} {EF = EF} base number q (Err t)) (sym is) left
 
   -- the play of a challenger's copy
-  pub play-is : (R : Rules) (h : List Event) (n degree claimed : ℕ) → R ≡ q.channel.rules → h ≡ q.history → n ≡ q.variables → degree ≡ length q.tables → claimed ≡ true_sum q →
+  pub play-is : {R : Rules} {h : List Event} {n degree claimed : ℕ} → R ≡ q.channel.rules → h ≡ q.history → n ≡ q.variables → degree ≡ length q.tables → claimed ≡ true_sum q →
       play_of q.ops (record { rules = R; extension = q.channel.extension; base_size = q.channel.base_size; bits = q.channel.bits }) (shape_of n degree q.channel.bits) claimed h ≡ play_for
-  play-is R h n degree claimed rules history count width is = rw (rules, history, count, width, is) refl
+  play-is rules history count width is = rw (rules, history, count, width, is) refl

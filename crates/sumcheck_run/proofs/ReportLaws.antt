@@ -26,7 +26,7 @@ use Rattle.sumcheck_replies.proofs.NumberLaws.{entries-numbers}
 use Rattle.sumcheck_replies.proofs.WitnessLaws.{AreLow, honest_rounds-whole, honest_rounds-none, none_passes, first_failing-at, first_failing-none}
 
 -- what elements ask is what their numbers do
-pub asked-same : {X : Type 0} (k : Fields) (number : X → ℕ) (xs : List X) (bits n : ℕ) (ss : List Statement) (c i : ℕ) (t : Task) (job : Job) (R : Rules) (h : List Event) →
+pub asked-same : {X : Type 0} (k : Fields) (number : X → ℕ) (xs : List X) {bits n : ℕ} {ss : List Statement} {c i : ℕ} {t : Task} (job : Job) (R : Rules) (h : List Event) →
     map number xs ≡ job.table → bits ≡ job.bits → n ≡ job.variables → ss ≡ all_claims k.embedding job.groups → c ≡ job.batching → i ≡ 0 → t ≡ task_of job.mode →
     ◌≡◌ {A = Asked} (record {
       case = record {
@@ -38,7 +38,7 @@ pub asked-same : {X : Type 0} (k : Fields) (number : X → ℕ) (xs : List X) (b
       channel = channel R k.extension k.base_size bits;
       history = h;
     }) (asked_with k job R h)
-asked-same k number xs bits n ss c i t job R h is eb en es ec ei et =
+asked-same k number xs job R h is eb en es ec ei et =
     let rows : length xs ≡ length job.table = sym (length-map xs number) ∙ ap length is in
     rw (rows, eb, entries-numbers number xs job.table is, en, es, ec, ei, et) refl
 

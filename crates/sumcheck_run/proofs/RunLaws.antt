@@ -54,16 +54,16 @@ same_reply (Some Product) left left' old new xs input read is = json_same produc
 
 -- ---- a reply that is written
 
-pub responds_whole : {K : Type 0} (taken : K → Option (List ℕ)) (faults : K → ℕ) (reply answer : Reply) (sink sink' : K) (outcome : Outcome) (text : List ℕ) (code : ℕ) →
+pub responds_whole : {K : Type 0} (taken : K → Option (List ℕ)) (faults : K → ℕ) {reply answer : Reply} {sink sink' : K} {outcome : Outcome} {text : List ℕ} {code : ℕ} →
     answer ≡ reply → outcome ≡ answer.outcome → text ≡ answer.text → code ≡ code_of outcome → Appends (taken sink) (taken sink') text → faults sink' ≡ faults sink →
     Responds taken faults reply sink sink' code
-responds_whole taken faults reply answer sink sink' outcome text code is ends says status appends quiet =
+responds_whole taken faults {outcome} {text} is ends says status appends quiet =
     inl (status ∙ ap code_of (ends ∙ ap (λ (a : Reply). a.outcome) is), rw (says ∙ ap (λ (a : Reply). a.text) is) at appends, quiet)
 
-pub responds_part : {K : Type 0} (taken : K → Option (List ℕ)) (faults : K → ℕ) (reply answer : Reply) (sink sink' : K) (text : List ℕ) →
+pub responds_part : {K : Type 0} (taken : K → Option (List ℕ)) (faults : K → ℕ) {reply answer : Reply} {sink sink' : K} {text : List ℕ} →
     answer ≡ reply → text ≡ answer.text → (count : ℕ) × (count < length text) × Appends (taken sink) (taken sink') (take count text) → HasRisen (faults sink) (faults sink') →
     Responds taken faults reply sink sink' 7
-responds_part taken faults reply answer sink sink' text is says part risen =
+responds_part taken faults {text} is says part risen =
     inr (inl (refl, rw (says ∙ ap (λ (a : Reply). a.text) is) at part, risen))
 
 pub responds_nothing : {K : Type 0} (taken : K → Option (List ℕ)) (faults : K → ℕ) (reply : Reply) (sink : K) → Responds taken faults reply sink sink 8
@@ -77,10 +77,10 @@ pub record Ran {K : Type 0} (taken : K → Option (List ℕ)) (faults : K → �
   pub read : IsRead (reads_input command) left left' input
   pub reply : Responds taken faults (reply_of command input) sink sink' code
 
-pub ran : {K : Type 0} (taken : K → Option (List ℕ)) (faults : K → ℕ) (command command' : Option Command) (reads : Bool) (left left' : Option (List ℕ)) (sink sink' : K) (code : ℕ) (input : List ℕ) →
+pub ran : {K : Type 0} (taken : K → Option (List ℕ)) (faults : K → ℕ) {command command' : Option Command} {reads : Bool} {left left' : Option (List ℕ)} {sink sink' : K} {code : ℕ} {input : List ℕ} →
     command ≡ command' → reads ≡ reads_input command → IsRead reads left left' input → Responds taken faults (reply_of command input) sink sink' code →
     Ran taken faults command' left left' sink sink' code
-ran taken faults command command' reads left left' sink sink' code input is needs read reply = record {
+ran taken faults {input} is needs read reply = record {
   input = input;
   read = rw (needs ∙ ap reads_input is) at read;
   reply = rw is at reply;
@@ -215,11 +215,11 @@ no_input : {Z : Type 0} (reads : Bool) (left : Option (List ℕ)) (old new : ℕ
 no_input true left old new input reading risen is = absurd (is.1 risen)
 no_input false left old new input reading risen is = absurd (reading refl)
 
-pub untold : {Z : Type 0} (command command' : Option Command) (reads : Bool) (left : Option (List ℕ)) (old new : ℕ) (input : List ℕ) → command ≡ command' → reads ≡ reads_input command →
+pub untold : {Z : Type 0} {command command' : Option Command} {reads : Bool} (left : Option (List ℕ)) {old new : ℕ} (input : List ℕ) → command ≡ command' → reads ≡ reads_input command →
     (reads ≡ false → false ≡ true) → HasRisen old new → IsInput (reads_input command') left old new input → Z
-untold command command' reads left old new input is needs reading risen given =
+untold {command'} left {old} {new} input is needs reading risen given =
     no_input (reads_input command') left old new input (λ none. false≢true (reading (needs ∙ ap reads_input is ∙ none))) risen given
 
 -- Nothing was read, so the command reads.
-pub must_read : {Z : Type 0} (command command' : Option Command) (reads : Bool) → command ≡ command' → reads ≡ reads_input command → (reads ≡ false → false ≡ true) → command' ≡ None → Z
-must_read command command' reads is needs reading none = absurd (false≢true (reading (needs ∙ ap reads_input (is ∙ none))))
+pub must_read : {Z : Type 0} {command command' : Option Command} {reads : Bool} → command ≡ command' → reads ≡ reads_input command → (reads ≡ false → false ≡ true) → command' ≡ None → Z
+must_read is needs reading none = absurd (false≢true (reading (needs ∙ ap reads_input (is ∙ none))))

@@ -22,7 +22,7 @@ returns-in-Some-clause-answer g c =
     let given = given-way job _ way c.in-Some.is c.requires in
     let same : asked_to (job_in c.in_ok-fitting.fitting) (build (strategy_by way)) R H ≡ q =
     ap (λ j. asked_to j (build (strategy_by way)) R H) c.in_ok-fitting.ensures.same ∙ ap (λ m. asked_to job (task_in B N m) R H) (sym given.mode) in
-    let shape = shape_as _ _ _ _ _ _ None job.table.ok.0 c.max_bits.ensures c.in_ok-fitting.ensures.shape in
+    let shape = shape_as _ _ None job.table.ok.0 c.max_bits.ensures c.in_ok-fitting.ensures.shape in
     let none = way-unrefused job way R H given shape in
     let answers = answers_as B N _ _ _ _ c.play.result _ (sym none) same c.play.ensures.answers in
     let task : task_in B N job.mode ≡ build (strategy_by way) = ap (task_in B N) given.mode in
@@ -47,7 +47,7 @@ returns-in-None-clause-answer g c =
     let task = build c.in-Build.strategy in
     let same : asked_to (job_in c.in_ok-fitting.fitting) task R H ≡ q =
     ap (λ j. asked_to j task R H) c.in_ok-fitting.ensures.same ∙ ap (λ m. asked_to job (task_in B N m) R H) (sym c.in-Build.is) in
-    let shape = shape_as _ _ _ _ _ _ None job.table.ok.0 c.max_bits.ensures c.in_ok-fitting.ensures.shape in
+    let shape = shape_as _ _ None job.table.ok.0 c.max_bits.ensures c.in_ok-fitting.ensures.shape in
     let first = ap task_refusal same ∙ no_earlier q shape in
     let answers = answers_as B N _ _ _ _ c.build.result _ first same c.build.ensures.task.answers in
     let is : task_in B N job.mode ≡ task = ap (task_in B N) c.in-Build.is in
@@ -73,7 +73,7 @@ returns-in-Check-clause-answer g c =
     let task = check proof in
     let same : asked_to (job_in c.in_ok-fitting.fitting) task R H ≡ q =
     ap (λ j. asked_to j task R H) c.in_ok-fitting.ensures.same ∙ ap (λ m. asked_to job (task_in B N m) R H) (sym c.in-Check.is) in
-    let shape = shape_as _ _ _ _ _ _ None job.table.ok.0 c.max_bits.ensures c.in_ok-fitting.ensures.shape in
+    let shape = shape_as _ _ None job.table.ok.0 c.max_bits.ensures c.in_ok-fitting.ensures.shape in
     let first = ap task_refusal same ∙ no_earlier q shape in
     let answers = answers_as B N _ _ _ _ c.check.result _ first same c.check.ensures.task.answers in
     let is : task_in B N job.mode ≡ task = ap (task_in B N) c.in-Check.is in

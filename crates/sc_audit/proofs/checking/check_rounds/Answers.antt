@@ -13,7 +13,7 @@ use Rattle.sc_audit.proofs.checking.check_rounds.Goals as goal
 -- the claim that the replay begins with
 pub report_on-requires-clause-claim : goal.report_on-requires-clause-claim
 report_on-requires-clause-claim g c =
-    claim-batched g.EF.Field.ops _ _ (claim-alone g.EF.Field.ops g.met.EF.Field.is_field.ring _ _ _ _ _ (ap g.EF.Field.number c.ZERO-claim.ensures ∙ g.met.EF.Field.zero_is) c.combine_evals.ensures)
+    claim-batched g.EF.Field.ops _ _ (claim-alone g.EF.Field.ops g.met.EF.Field.is_field.ring _ _ _ (ap g.EF.Field.number c.ZERO-claim.ensures ∙ g.met.EF.Field.zero_is) c.combine_evals.ensures)
 
 pub report_on-requires-clause-count : goal.report_on-requires-clause-count
 report_on-requires-clause-count g c =
@@ -22,7 +22,7 @@ report_on-requires-clause-count g c =
     let q = asked_of job (g.C.Challenger.rules c.args.challenger.now) (g.C.Challenger.history c.args.challenger.now) in
     let given = given_in g.F.Field.number N c.args.proof.now in
     let claim : N c.combine_evals.new.eval ≡ claim_of g.EF.Field.ops (problem_in job) =
-    claim-batched g.EF.Field.ops _ _ (claim-alone g.EF.Field.ops g.met.EF.Field.is_field.ring _ _ _ _ _ (ap N c.ZERO-claim.ensures ∙ g.met.EF.Field.zero_is) c.combine_evals.ensures) in
+    claim-batched g.EF.Field.ops _ _ (claim-alone g.EF.Field.ops g.met.EF.Field.is_field.ring _ _ _ (ap N c.ZERO-claim.ensures ∙ g.met.EF.Field.zero_is) c.combine_evals.ensures) in
     let start = start_is q _ _ _ (sym g.met.EF.ExtensionField.degree_is) c.num_variables.ensures claim in
     let end = footing (g.C.Challenger.history c.verify_rounds.new.challenger) (N c.verify_rounds.new.claimed_sum) in
     let out = map N c.in-Ok.challenges in
@@ -36,7 +36,7 @@ report_on-requires-clause-residual g c =
     let q = asked_of job (g.C.Challenger.rules c.args.challenger.now) (g.C.Challenger.history c.args.challenger.now) in
     let given = given_in g.F.Field.number N c.args.proof.now in
     let claim : N c.combine_evals.new.eval ≡ claim_of g.EF.Field.ops (problem_in job) =
-    claim-batched g.EF.Field.ops _ _ (claim-alone g.EF.Field.ops g.met.EF.Field.is_field.ring _ _ _ _ _ (ap N c.ZERO-claim.ensures ∙ g.met.EF.Field.zero_is) c.combine_evals.ensures) in
+    claim-batched g.EF.Field.ops _ _ (claim-alone g.EF.Field.ops g.met.EF.Field.is_field.ring _ _ _ (ap N c.ZERO-claim.ensures ∙ g.met.EF.Field.zero_is) c.combine_evals.ensures) in
     let start = start_is q _ _ _ (sym g.met.EF.ExtensionField.degree_is) c.num_variables.ensures claim in
     let end = footing (g.C.Challenger.history c.verify_rounds.new.challenger) (N c.verify_rounds.new.claimed_sum) in
     let out = map N c.in-Ok.challenges in
@@ -51,7 +51,7 @@ returns-clause-task g c =
     let q = asked_of job (g.C.Challenger.rules c.args.challenger.now) (g.C.Challenger.history c.args.challenger.now) in
     let given = given_in g.F.Field.number N c.args.proof.now in
     let claim : N c.combine_evals.new.eval ≡ claim_of g.EF.Field.ops (problem_in job) =
-    claim-batched g.EF.Field.ops _ _ (claim-alone g.EF.Field.ops g.met.EF.Field.is_field.ring _ _ _ _ _ (ap N c.ZERO-claim.ensures ∙ g.met.EF.Field.zero_is) c.combine_evals.ensures) in
+    claim-batched g.EF.Field.ops _ _ (claim-alone g.EF.Field.ops g.met.EF.Field.is_field.ring _ _ _ (ap N c.ZERO-claim.ensures ∙ g.met.EF.Field.zero_is) c.combine_evals.ensures) in
     let start = start_is q _ _ _ (sym g.met.EF.ExtensionField.degree_is) c.num_variables.ensures claim in
     let end = footing (g.C.Challenger.history c.verify_rounds.new.challenger) (N c.verify_rounds.new.claimed_sum) in
     let out = map N c.in-Ok.challenges in
@@ -69,7 +69,7 @@ returns-in-Err-clause-task g c =
     let q = asked_of job (g.C.Challenger.rules c.args.challenger.now) (g.C.Challenger.history c.args.challenger.now) in
     let given = given_in g.F.Field.number N c.args.proof.now in
     let claim : N c.combine_evals.new.eval ≡ claim_of g.EF.Field.ops (problem_in job) =
-    claim-batched g.EF.Field.ops _ _ (claim-alone g.EF.Field.ops g.met.EF.Field.is_field.ring _ _ _ _ _ (ap N c.ZERO-claim.ensures ∙ g.met.EF.Field.zero_is) c.combine_evals.ensures) in
+    claim-batched g.EF.Field.ops _ _ (claim-alone g.EF.Field.ops g.met.EF.Field.is_field.ring _ _ _ (ap N c.ZERO-claim.ensures ∙ g.met.EF.Field.zero_is) c.combine_evals.ensures) in
     let start = start_is q _ _ _ (sym g.met.EF.ExtensionField.degree_is) c.num_variables.ensures claim in
     let end = footing (g.C.Challenger.history c.verify_rounds.new.challenger) (N c.verify_rounds.new.claimed_sum) in
     record {

@@ -28,7 +28,7 @@ returns g c =
     let matched : (c.index.result == c.index-2.result) ≡ is_matched o p ms rs =
     matched-by o p _ (N c.args.residual) (N c.eval_slice-eval.result) (N c.eval_at-weight.result) ms rs c.requires.residual eval weight (cc (c.index.ensures, c.index-2.ensures, c.mul.ensures)) in
     record {
-      figures_are = figures-are o p _ ms _ (witnesses_in g.F.Field.number c.args.proof.now) _ rs _ _ _ _ _ (ap (λ (w : Wire). w.messages) c.in_ok-rounds.ensures) (ap (λ (w : Wire). w.witnesses) c.in_ok-rounds.ensures) refl
+      figures_are = figures-are o p ms (witnesses_in g.F.Field.number c.args.proof.now) rs (ap (λ (w : Wire). w.messages) c.in_ok-rounds.ensures) (ap (λ (w : Wire). w.witnesses) c.in_ok-rounds.ensures) refl
           c.requires.claim c.requires.residual eval weight (c.in_ok-verdict.ensures ∙ ap (λ t. finding_by t (false_claim_of o p) (luck_of o p ms rs)) matched);
       grids = ap (map (grid_shown N)) c.empty.ensures;
     }

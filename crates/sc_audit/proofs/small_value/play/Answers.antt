@@ -5,7 +5,6 @@ use Rattle.sc_definitions.specs.Combined.{combined_weight}
 use Rattle.sc_transcript.specs.Data.{wire_in}
 use Rattle.sc_transcript.specs.Drivers.{driver_in, channel_of}
 use Rattle.sc_transcript.specs.declared.transcript.SumcheckShape.{SumcheckShape}
-use Rattle.sc_transcript.specs.declared.error.SumcheckError.TheVariants.{NoMemory}
 use Rattle.sc_transcript.proofs.ReplayedLaws.{same_channel}
 use Rattle.sc_rounds.specs.Provers.{shown_of}
 use Rattle.sc_rounds.specs.HeldProducts.{standing_over}
@@ -19,7 +18,7 @@ use Rattle.sc_audit.proofs.small_value.play.Goals as goal
 -- a small-value round was refused
 pub returns-in_err-play_small-clause-played : goal.returns-in_err-play_small-clause-played
 returns-in_err-play_small-clause-played g c =
-    plays_stopped _ _ _ _ _ _ c.from_residual.result _ c.from_residual.ensures.1
+    plays_stopped _ _ c.from_residual.result c.from_residual.ensures.1
     (c.in_err-play_small.ensures.drawn (problem_in c.args.fitting.now.job.now) c.requires.batch c.requires.claim)
 
 -- there is no memory for what they leave
@@ -32,7 +31,7 @@ returns-in_err-evals-clause-played g c =
     let d = driver_in c.play_small.new.transcript in
     let rs = map N c.play_small.new.challenges.items in
     let count : length rs ≡ length (batch_in c.args.batch.now).grids = length-map c.play_small.new.challenges.items N ∙ small.counts.count in
-    plays_stopped _ _ _ _ _ _ c.from_residual-in_err-evals.result NoMemory c.from_residual-in_err-evals.ensures.1
+    plays_stopped _ _ c.from_residual-in_err-evals.result c.from_residual-in_err-evals.ensures.1
     (drawn_wants (setting_for g.EF.ExtensionField.extension o p c.args.transcript.now) g.met.EF.Field.is_field.ring tt (begun_for N o p c.args.transcript.now c.args.sumcheck_data.now) rs d
     (N c.play_small.new.sum) (wire_in g.F.Field.number N c.play_small.new.sumcheck_data) (small.drawn p c.requires.batch c.requires.claim)
     (omega (arith, count, c.requires.batch.within)) (small.counts.played ∙ sym count)
@@ -68,7 +67,7 @@ returns-in_err-play_rest-clause-played g c =
     let small = c.in_ok-play_small.ensures in
     let count : length (map N c.play_small.new.challenges.items) ≡ length b.grids = length-map c.play_small.new.challenges.items N ∙ small.counts.count in
     let rest = c.in_err-play_rest.ensures in
-    plays_stopped _ _ _ _ _ _ c.from_residual-in_err-play_rest.result _ c.from_residual-in_err-play_rest.ensures.1
+    plays_stopped _ _ c.from_residual-in_err-play_rest.result c.from_residual-in_err-play_rest.ensures.1
     (left_stops o N p b c.requires.batch (map N c.play_small.new.challenges.items) c.new_unpacked-left.result c.play_small.new.sum c.in_ok-evals.evals c.in_ok-evals.weights
     (bound_as o N b c.in_ok-evals.evals _ p.table _ _ (ap (λ xs k. g.EF.Algebra.embedding (entries g.F.Field.number xs k)) c.deref.ensures.value) (ap (map N) c.as_slice.ensures.value)
     c.in_ok-evals.ensures.evals)
@@ -76,7 +75,7 @@ returns-in_err-play_rest-clause-played g c =
     made.variables made.evals made.weights (channel_of g.EF.ExtensionField.extension (driver_in c.args.transcript.now)) t.history (driver_in c.play_small.new.transcript).history t.wire
     (wire_in g.F.Field.number N c.play_small.new.sumcheck_data) (small.drawn p c.requires.batch c.requires.claim)
     (channel_of g.EF.ExtensionField.extension (driver_in c.play_small.new.transcript))
-    (same_channel _ _ _ g.F.Field.ops.size _ _ small.continues.rules (ap (λ (k : SumcheckShape). k.pow_bits) small.continues.shape)) made.order
+    (same_channel g.F.Field.ops.size small.continues.rules (ap (λ (k : SumcheckShape). k.pow_bits) small.continues.shape)) made.order
     (driver_in c.play_small.new.transcript) (driver_in c.play_rest.new.transcript) (small.counts.played ∙ sym count)
     (standing_over N (shown_of N c.play_rest.new.left c.play_rest.new.sum) c.play_rest.new.transcript c.play_rest.new.sumcheck_data) rest.left _ refl rest.rounds)
 
@@ -99,6 +98,6 @@ returns-clause-played g c =
     made.variables made.evals made.weights (channel_of g.EF.ExtensionField.extension (driver_in c.args.transcript.now)) t.history (driver_in c.play_small.new.transcript).history t.wire
     (wire_in g.F.Field.number N c.play_small.new.sumcheck_data) (small.drawn p c.requires.batch c.requires.claim)
     (channel_of g.EF.ExtensionField.extension (driver_in c.play_small.new.transcript))
-    (same_channel _ _ _ g.F.Field.ops.size _ _ small.continues.rules (ap (λ (k : SumcheckShape). k.pow_bits) small.continues.shape)) made.order
+    (same_channel g.F.Field.ops.size small.continues.rules (ap (λ (k : SumcheckShape). k.pow_bits) small.continues.shape)) made.order
     (driver_in c.play_small.new.transcript) (driver_in c.play_rest.new.transcript) (small.counts.played ∙ sym count)
     (standing_over N (shown_of N c.play_rest.new.left c.play_rest.new.sum) c.play_rest.new.transcript c.play_rest.new.sumcheck_data) rest.left _ rest.rounds

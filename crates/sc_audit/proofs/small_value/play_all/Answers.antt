@@ -24,7 +24,7 @@ returns-in_err-challenges g c =
     let N = g.EF.Field.number in
     let H = g.C.Challenger.history in
     let on = wire_in g.F.Field.number N c.args.sumcheck_data.now in
-    rounds_broken _ _ _ _ _ c.from_residual.result NoMemory c.from_residual.ensures.1
+    rounds_broken _ _ c.from_residual.result NoMemory c.from_residual.ensures.1
     (record { after = standing_at (prover_for g.EF.Field.ops (problem_in c.args.fitting.now.job.now)) (H c.args.challenger.now) on; history = refl; wire_is = refl; breaks = inl refl })
 
 pub returns-in_err-seed : goal.returns-in_err-seed
@@ -32,7 +32,7 @@ returns-in_err-seed g c =
     let N = g.EF.Field.number in
     let H = g.C.Challenger.history in
     let on = wire_in g.F.Field.number N c.args.sumcheck_data.now in
-    rounds_broken _ _ _ _ _ c.from_residual-in_err-seed.result NoMemory c.from_residual-in_err-seed.ensures.1
+    rounds_broken _ _ c.from_residual-in_err-seed.result NoMemory c.from_residual-in_err-seed.ensures.1
     (record {
       after = standing_at (prover_for g.EF.Field.ops (problem_in c.args.fitting.now.job.now)) (H c.args.challenger.now) on;
       history = sym c.in_err-seed.ensures.err;
@@ -56,17 +56,17 @@ returns-in-Ok g c =
     let shape : c.new-shape.result ≡ shape_of (problem_in job).variables job.pow_bits Evaluation =
     c.new-shape.ensures ∙ ap (λ k. shape_of k job.pow_bits Evaluation) c.num_variables-variables.ensures in
     let begun = c.over-transcript.ensures in
-    let setting = same_setting _ _ o _ _
-    (same_channel _ _ _ g.F.Field.ops.size _ _ (ap R begun.lent.same ∙ c.in_ok-seed.ensures.rules) (ap (λ (s : SumcheckShape). s.pow_bits) begun.fresh.shape)) refl in
+    let setting = same_setting
+    (same_channel g.F.Field.ops.size (ap R begun.lent.same ∙ c.in_ok-seed.ensures.rules) (ap (λ (s : SumcheckShape). s.pow_bits) begun.fresh.shape)) refl in
     let start = ap (λ h. standing_at shown h on) (ap H begun.lent.same ∙ c.in_ok-seed.ensures.ok) in
     let all = c.in-Ok.ensures.played in
-    whole_as (at c.new-shape.result) _ _ _ _ _ (ap at shape)
+    whole_as (at c.new-shape.result) (ap at shape)
     (ap (λ h. standing_at (shown_of N c.in-Ok.left c.play.new.sum) h (wire_in g.F.Field.number N c.play.new.sumcheck_data))
-    (sym (ap H (returned _ _ _ _ _ _ (search rules) c.in-Ok.ensures.continues.lender begun.lent.lender c.finish.ensures))))
+    (sym (ap H (returned (search rules) c.in-Ok.ensures.continues.lender begun.lent.lender c.finish.ensures))))
     (ap (map N) (sym c.new.ensures))
     (record {
       whole = sum_at _ _ _ _ (sym (all.done ∙ ap (λ (s : SumcheckShape). s.num_rounds) (c.in-Ok.ensures.continues.shape ∙ begun.fresh.shape))) all.left;
-      played = played_at _ _ _ _ _ _ _ _ setting start refl refl all.played;
+      played = played_at setting start refl refl all.played;
     })
 
 -- they stopped
@@ -85,13 +85,13 @@ returns-in-Err g c =
     let shape : c.new-shape.result ≡ shape_of (problem_in job).variables job.pow_bits Evaluation =
     c.new-shape.ensures ∙ ap (λ k. shape_of k job.pow_bits Evaluation) c.num_variables-variables.ensures in
     let begun = c.over-transcript.ensures in
-    let setting = same_setting _ _ o _ _
-    (same_channel _ _ _ g.F.Field.ops.size _ _ (ap R begun.lent.same ∙ c.in_ok-seed.ensures.rules) (ap (λ (s : SumcheckShape). s.pow_bits) begun.fresh.shape)) refl in
+    let setting = same_setting
+    (same_channel g.F.Field.ops.size (ap R begun.lent.same ∙ c.in_ok-seed.ensures.rules) (ap (λ (s : SumcheckShape). s.pow_bits) begun.fresh.shape)) refl in
     let start = ap (λ h. standing_at shown h on) (ap H begun.lent.same ∙ c.in_ok-seed.ensures.ok) in
     let stopped = c.in-Err.ensures.played in
     let size = ap (λ (s : SumcheckShape). s.num_rounds) (c.in-Err.ensures.continues.shape ∙ begun.fresh.shape) in
-    breaks_as (at c.new-shape.result) _ _ _ _ _ (ap at shape)
-    (sym (ap H (returned _ _ _ _ _ _ (search rules) c.in-Err.ensures.continues.lender begun.lent.lender c.abort.ensures)))
+    breaks_as (at c.new-shape.result) (ap at shape)
+    (sym (ap H (returned (search rules) c.in-Err.ensures.continues.lender begun.lent.lender c.abort.ensures)))
     (record {
       after = stopped.after;
       history = stopped.history;

@@ -39,8 +39,8 @@ loop-round-preserved g c =
       sum = round.sum;
       len = c.push_reserved.ensures.len ∙ ap (λ n. n + 1) inv.len;
       room = fits _ _ _ _ (ap (λ (s : SumcheckShape). s.num_rounds) round.continues.shape) c.push_reserved.ensures.capacity inv.room;
-      batch = λ start before. one_round_more _ _ g.met.EF.Field.is_field.ring tt _ _ _ _ _ _
-          (same_setting _ _ _ _ _ (same_channel _ _ _ g.F.Field.ops.size _ _ inv.continues.rules (ap (λ (s : SumcheckShape). s.pow_bits) inv.continues.shape)) inv.order)
+      batch = λ start before. one_round_more g.met.EF.Field.is_field.ring tt
+          (same_setting (same_channel g.F.Field.ops.size inv.continues.rules (ap (λ (s : SumcheckShape). s.pow_bits) inv.continues.shape)) inv.order)
           drawn (inv.batch start before) round.round.0;
     }
 
@@ -63,7 +63,7 @@ round-requires-clause-sum g c = c.loop-round.invariant.sum
 pub push_reserved-requires : goal.push_reserved-requires
 push_reserved-requires g c =
     let inv = c.loop-round.invariant in
-    room_at _ _ _ _ _ inv.len c.loop-round-test.true (ap (λ (s : SumcheckShape). s.num_rounds) (c.shape-round-end.ensures ∙ sym inv.continues.shape)) inv.room
+    room_at inv.len c.loop-round-test.true (ap (λ (s : SumcheckShape). s.num_rounds) (c.shape-round-end.ensures ∙ sym inv.continues.shape)) inv.room
 
 -- all rounds are played, and what the invariant says of them holds of all
 pub returns : goal.returns
@@ -71,7 +71,7 @@ returns g c =
     let inv = c.loop-round.invariant in
     let count : vec_len c.args.challenges.now ≡ c.args.transcript.now.played = c.args.challenges.now.ok.0 ∙ c.requires.begun.count in
     let enough : c.args.transcript.now.played ≤ c.args.transcript.now.shape.num_rounds = omega (arith, c.requires.variables) in
-    let below : c.len-round.result ≤ c.shape-round-end.result.num_rounds = begun_within _ _ _ _ _ c.len-round.ensures count enough (ap (λ (s : SumcheckShape). s.num_rounds) c.shape-round-end.ensures) in
+    let below : c.len-round.result ≤ c.shape-round-end.result.num_rounds = begun_within c.len-round.ensures count enough (ap (λ (s : SumcheckShape). s.num_rounds) c.shape-round-end.ensures) in
     record {
       continues = inv.continues;
       left = sum_at _ _ _ _ inv.played inv.left;
@@ -96,8 +96,8 @@ returns-in-Err g c =
       left = sum_at _ _ _ _ (round.counts ∙ inv.played) (ap (λ (p : ProductPolynomial g.row.F.Denot g.row.EF.Denot). variables_in p + c.loop-round._round) round.kept.0 ∙ inv.left);
       rounds = λ start before. (
         less_at _ _ _ _ (round.counts ∙ inv.played) c.loop-round-test.true (ap (λ (s : SumcheckShape). s.num_rounds) (c.shape-round-end.ensures ∙ sym inv.continues.shape ∙ sym round.continues.shape)),
-        stops _ _ _ _ _ _ _ _ c.in-Err.error
-            (same_setting _ _ _ _ _ (same_channel _ _ _ g.F.Field.ops.size _ _ inv.continues.rules (ap (λ (s : SumcheckShape). s.pow_bits) inv.continues.shape)) inv.order)
+        stops _ c.in-Err.error
+            (same_setting (same_channel g.F.Field.ops.size inv.continues.rules (ap (λ (s : SumcheckShape). s.pow_bits) inv.continues.shape)) inv.order)
             (sym round.counts) (inv.batch start before) round.round,
       );
     }

@@ -68,7 +68,7 @@ returns-in_err-r-clause-drawn g c = λ p of is.
     let size = ap (λ (k : SumcheckShape). k.num_rounds) (c.in_err-r.ensures.continues.shape ∙ inv.continues.shape) in
     leaves_stopped s t rs (N c.loop-round.sum) d' (wire_in g.F.Field.number N c.observe_and_sample.new.self) c.from_residual-in_err-r.result _ c.from_residual-in_err-r.ensures.1
     (drawn_refused s ring tt t rs (footing d.history (N c.loop-round.sum)) on played (omega (arith, low, of.within)) values message (channel_of g.EF.ExtensionField.extension d)
-    (same_channel _ _ _ g.F.Field.ops.size _ _ inv.continues.rules (ap (λ (k : SumcheckShape). k.pow_bits) inv.continues.shape)) d' _ d.played _ refused.why c.in_err-r.ensures.kept
+    (same_channel g.F.Field.ops.size inv.continues.rules (ap (λ (k : SumcheckShape). k.pow_bits) inv.continues.shape)) d' _ d.played _ refused.why c.in_err-r.ensures.kept
     (inv.played ∙ sym count) refused.played (omega (arith, refused.played, inv.played, count, low, c.requires.within, size)))
 
 -- one is played
@@ -103,6 +103,6 @@ loop-round-preserved g c =
           let message = read_message o ring p (batch_in c.args.batch.now) of s.channel t.history t.wire rs (footing d.history (N c.loop-round.sum)) on values low played
           (c.in_ok-message.ensures.honest p.table of.grids ∙ ap (λ xs. honest_of o (batch_in c.args.batch.now) p.table (map N xs)) c.as_slice.ensures.value) in
           drawn_more s ring tt t rs (footing d.history (N c.loop-round.sum)) on played (omega (arith, low, of.within)) values message (channel_of g.EF.ExtensionField.extension d)
-          (same_channel _ _ _ g.F.Field.ops.size _ _ inv.continues.rules (ap (λ (k : SumcheckShape). k.pow_bits) inv.continues.shape)) round.puts.witness (N c.in_ok-r.r) _ _ _ _
+          (same_channel g.F.Field.ops.size inv.continues.rules (ap (λ (k : SumcheckShape). k.pow_bits) inv.continues.shape)) round.puts.witness (N c.in_ok-r.r) _ _ _ _
           (ap (map N) c.push_reserved.ensures.items ∙ map-append N _ _) round.puts.plays.sent round.puts.wire c.reduce_claim.ensures.claim;
     }

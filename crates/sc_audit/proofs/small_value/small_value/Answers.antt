@@ -10,7 +10,6 @@ use Rattle.sc_rounds.specs.Products.{variables_in}
 use Rattle.sc_rounds.specs.Standings.{standing_in}
 use Rattle.sc_svo.specs.Batches.{batch_in}
 use Rattle.sc_jobs.specs.Cases.{build, asked_to, problem_in}
-use Rattle.sc_jobs.specs.BuiltCases.{prover_for}
 use Rattle.sc_jobs.proofs.BuiltReports.{one_entry, same_setting, same_start, built_case}
 use Rattle.sc_audit.proofs.RefusedBuilds.{build_refused}
 use Rattle.sc_jobs.proofs.FigureLaws.{claim-batched}
@@ -20,7 +19,7 @@ use Rattle.sc_audit.proofs.small_value.small_value.Goals as goal
 -- the claim that the rounds begin with
 pub play_all-requires-clause-claim : goal.play_all-requires-clause-claim
 play_all-requires-clause-claim g c =
-    claim-batched g.EF.Field.ops _ _ (claim-alone g.EF.Field.ops g.met.EF.Field.is_field.ring _ _ _ _ _ (ap g.EF.Field.number c.ZERO-claim.ensures ∙ g.met.EF.Field.zero_is) c.combine_evals.ensures)
+    claim-batched g.EF.Field.ops _ _ (claim-alone g.EF.Field.ops g.met.EF.Field.is_field.ring _ _ _ (ap g.EF.Field.number c.ZERO-claim.ensures ∙ g.met.EF.Field.zero_is) c.combine_evals.ensures)
 
 -- the rounds were built
 pub returns : goal.returns
@@ -32,8 +31,8 @@ returns g c =
     let q = asked_to job (build (SmallValue (length (batch_in c.args.batch).grids))) (g.C.Challenger.rules c.args.challenger.now) (g.C.Challenger.history c.args.challenger.now) in
     let ring = g.met.EF.Field.is_field.ring in
     let degree = sym g.met.EF.ExtensionField.degree_is in
-    let setting = same_setting q ring refl (prover_for o p) _ _ _ _ p.variables c.in_ok-copied.ensures.rules c.in_ok-copied.ensures.history refl c.new-rounds.ensures degree refl in
-    let start = same_start q ring refl (prover_for o p) _ _ _ _ p.variables c.in_ok-copied.ensures.rules c.in_ok-copied.ensures.history refl c.new-rounds.ensures degree refl in
+    let setting = same_setting q ring refl c.in_ok-copied.ensures.rules c.in_ok-copied.ensures.history refl c.new-rounds.ensures degree refl in
+    let start = same_start q ring refl c.in_ok-copied.ensures.rules c.in_ok-copied.ensures.history refl c.new-rounds.ensures degree refl in
     let left = c.in-Ok.played.0 in
     let after = standing_in N left c.play_all.new.sum (g.C.Challenger.history c.play_all.new.challenger) (wire_in g.F.Field.number N c.play_all.new.sumcheck_data) in
     let whole = c.in-Ok.ensures in
@@ -48,8 +47,8 @@ returns g c =
     (ap (λ t. t 0) (sym (c.as_slice.ensures.numbers ∙ c.in_ok-weights.ensures.table))
     ∙ entry-read N c.as_slice.result.now 0 c.index-as_slice-0.result (omega (arith, weights_one)) c.index-as_slice-0.is) in
     let claim : N c.combine_evals.new.eval ≡ claim_of o p =
-    claim-batched o _ _ (claim-alone o ring _ _ _ _ _ (ap N c.ZERO-claim.ensures ∙ g.met.EF.Field.zero_is) c.combine_evals.ensures) in
-    built_case q ring refl _ setting start refl after _ _ _ _ _ whole claim evals weights (g.met.EF.Field.number_below _) (g.met.EF.Field.number_below _)
+    claim-batched o _ _ (claim-alone o ring _ _ _ (ap N c.ZERO-claim.ensures ∙ g.met.EF.Field.zero_is) c.combine_evals.ensures) in
+    built_case q ring refl _ setting start refl after whole claim evals weights (g.met.EF.Field.number_below _) (g.met.EF.Field.number_below _)
     (c.into_grids.ensures ∙ batch_grids o p (batch_in c.args.batch) c.requires.batch _ refl)
 
 -- they were refused
@@ -62,8 +61,8 @@ returns-in-Err g c =
     let q = asked_to job (build (SmallValue (length (batch_in c.args.batch).grids))) (g.C.Challenger.rules c.args.challenger.now) (g.C.Challenger.history c.args.challenger.now) in
     let ring = g.met.EF.Field.is_field.ring in
     let degree = sym g.met.EF.ExtensionField.degree_is in
-    let setting = same_setting q ring refl (prover_for o p) _ _ _ _ p.variables c.in_ok-copied.ensures.rules c.in_ok-copied.ensures.history refl c.new-rounds.ensures degree refl in
-    let start = same_start q ring refl (prover_for o p) _ _ _ _ p.variables c.in_ok-copied.ensures.rules c.in_ok-copied.ensures.history refl c.new-rounds.ensures degree refl in
+    let setting = same_setting q ring refl c.in_ok-copied.ensures.rules c.in_ok-copied.ensures.history refl c.new-rounds.ensures degree refl in
+    let start = same_start q ring refl c.in_ok-copied.ensures.rules c.in_ok-copied.ensures.history refl c.new-rounds.ensures degree refl in
     let stopped = c.in-Err.ensures in
     build_refused q ring refl _ setting start refl stopped.after g.F.Field.number N c.in-Err.error c.refusal.result c.refusal.ensures
     (subst (λ (w : Wire). All (λ n. n < g.F.Field.ops.size) w.witnesses) (sym stopped.wire_is)

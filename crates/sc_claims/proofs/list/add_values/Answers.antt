@@ -5,7 +5,7 @@ use Rattle.sc_claims.proofs.list.add_values.Goals as goal
 
 pub loop-i-init : goal.loop-i-init
 loop-i-init g c = λ p is.
-    IsSummed-none g.EF.Field.ops g.met.EF.Field.is_field.ring _ p _ _ _ (g.met.EF.Field.number_below c.args.sum.now) refl is
+    IsSummed-none g.EF.Field.ops g.met.EF.Field.is_field.ring (g.met.EF.Field.number_below c.args.sum.now) refl is
 
 pub loop-i-preserved : goal.loop-i-preserved
 loop-i-preserved g c = λ p is.

@@ -32,10 +32,10 @@ loop-round-preserved g c =
         shape = round.continues.shape ∙ inv.continues.shape;
       };
       count = round.count ∙ ap (λ n. n + 1) inv.count;
-      filled = filled_as _ _ _ _ _ inv.continues.shape (ap (λ n. n + 1) inv.count) round.filled;
+      filled = filled_as inv.continues.shape (ap (λ n. n + 1) inv.count) round.filled;
       claimed = round.claimed ∙ inv.claimed;
-      played = more_at _ _ _ _ _ _ _
-          (same_channel _ _ g.EF.ExtensionField.extension g.F.Field.ops.size _ _ inv.continues.rules (ap (λ (s : GenericDegreeShape). s.pow_bits) inv.continues.shape))
+      played = more_at
+          (same_channel g.F.Field.ops.size inv.continues.rules (ap (λ (s : GenericDegreeShape). s.pow_bits) inv.continues.shape))
           inv.played round.round;
     }
 
@@ -43,7 +43,7 @@ loop-round-preserved g c =
 pub returns-in-Err-clause-rounds : goal.returns-in-Err-clause-rounds
 returns-in-Err-clause-rounds g c =
     let inv = c.loop-round.invariant in
-    stops_after g.F.Field.number g.EF.Field.number g.EF.Field.ops _ _ _ _ _ _ _ _ c.loop-round.played _ c.in-Err.error
-    (same_channel _ _ g.EF.ExtensionField.extension g.F.Field.ops.size _ _ inv.continues.rules (ap (λ (s : GenericDegreeShape). s.pow_bits) inv.continues.shape))
+    stops_after g.F.Field.number g.EF.Field.number g.EF.Field.ops c.loop-round.played c.in-Err.error
+    (same_channel g.F.Field.ops.size inv.continues.rules (ap (λ (s : GenericDegreeShape). s.pow_bits) inv.continues.shape))
     g.met.F.Field.number_below inv.played (length-map _ _ ∙ sym c.loop-round.played.challenges.ok.0 ∙ inv.filled.drawn ∙ sym inv.count)
     (omega (arith, inv.count, c.loop-round-test.true, ap (λ (s : GenericDegreeShape). s.num_rounds) c.shape-shape.ensures)) c.in-Err.ensures.round

@@ -17,12 +17,12 @@ returns-in-Ok-clause-left g c =
     let begun = c.over-transcript.ensures in
     let told = c.in-Ok.ensures in
     let q : Play = play_of g.EF.Field.ops (channel (R c.args.challenger.now) E g.F.Field.ops.size c.args.shape.pow_bits) c.args.shape (N c.args.claimed_sum) (H c.args.challenger.now) in
-    let same = same_channel _ _ E g.F.Field.ops.size _ _ (ap R begun.lent.same ∙ c.in_ok-begin.ensures.rules) (ap (λ (s : GenericDegreeShape). s.pow_bits) begun.fresh.shape) in (
+    let same = same_channel g.F.Field.ops.size (ap R begun.lent.same ∙ c.in_ok-begin.ensures.rules) (ap (λ (s : GenericDegreeShape). s.pow_bits) begun.fresh.shape) in (
       told.claimed ∙ c.in_ok-played.ensures.claimed,
       all_played q (g.P.RoundProver.meaning c.args.prover.now) _ _ _ _
-          (played_at _ _ _ _ _ _ _ same (ap H begun.lent.same ∙ c.in_ok-begin.ensures.ok) told.rounds.0)
+          (played_at same (ap H begun.lent.same ∙ c.in_ok-begin.ensures.ok) told.rounds.0)
           (told.rounds.1 ∙ ap (λ (s : GenericDegreeShape). s.num_rounds) begun.fresh.shape) refl (ap (map N) c.new-in-Ok.ensures)
-          (ap H (returned _ _ _ _ _ _ (search rules) told.continues.lender begun.lent.lender c.finish.ensures)),
+          (ap H (returned (search rules) told.continues.lender begun.lent.lender c.finish.ensures)),
     )
 
 -- some are, and the next one is refused
@@ -35,14 +35,14 @@ returns-in-Err-clause-left g c =
     let begun = c.over-transcript.ensures in
     let told = c.in-Err.ensures in
     let q : Play = play_of g.EF.Field.ops (channel (R c.args.challenger.now) E g.F.Field.ops.size c.args.shape.pow_bits) c.args.shape (N c.args.claimed_sum) (H c.args.challenger.now) in
-    let same = same_channel _ _ E g.F.Field.ops.size _ _ (ap R begun.lent.same ∙ c.in_ok-begin.ensures.rules) (ap (λ (s : GenericDegreeShape). s.pow_bits) begun.fresh.shape) in
+    let same = same_channel g.F.Field.ops.size (ap R begun.lent.same ∙ c.in_ok-begin.ensures.rules) (ap (λ (s : GenericDegreeShape). s.pow_bits) begun.fresh.shape) in
     stopped q (g.P.RoundProver.meaning c.args.prover.now) g.F.Field.number N _ _ c.in-Err.error c.requires.variables
-    (stops_at _ _ _ _ _ _ _ _ _ _ same (ap (λ (s : GenericDegreeShape). s.num_rounds) begun.fresh.shape) (ap H begun.lent.same ∙ c.in_ok-begin.ensures.ok) told.rounds)
-    (ap H (returned _ _ _ _ _ _ (search rules) told.continues.lender begun.lent.lender c.abort.ensures))
+    (stops_at same (ap (λ (s : GenericDegreeShape). s.num_rounds) begun.fresh.shape) (ap H begun.lent.same ∙ c.in_ok-begin.ensures.ok) told.rounds)
+    (ap H (returned (search rules) told.continues.lender begun.lent.lender c.abort.ensures))
 
 -- without memory for the proof, the challenges or the seed nothing is
 pub returns-in_err-played-clause-left : goal.returns-in_err-played-clause-left
-returns-in_err-played-clause-left g c = never_begun _ _ _ _ _ _ _ (search rules) refl refl
+returns-in_err-played-clause-left g c = never_begun _ _ _ (search rules) refl refl
 
 pub returns-in_err-begin-clause-left : goal.returns-in_err-begin-clause-left
-returns-in_err-begin-clause-left g c = never_begun _ _ _ _ _ _ _ (search rules) refl c.in_err-begin.ensures.err
+returns-in_err-begin-clause-left g c = never_begun _ _ _ (search rules) refl c.in_err-begin.ensures.err

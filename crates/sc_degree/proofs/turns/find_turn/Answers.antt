@@ -110,7 +110,7 @@ returns-clause-found g c =
     let e = g.EF.Field in
     let N = e.number in
     let ms = c.args.messages.now in
-    sym (finds-none e.ops _ _ _ _ _ _ _ c.loop-i.i (map (λ v. map N v.items) ms) _ c.loop-i.invariant.finds
+    sym (finds-none e.ops c.loop-i.i (map (λ v. map N v.items) ms) c.loop-i.invariant.finds
     (omega (arith, c.loop-i-test.false, c.requires.messages, c.requires.challenges, length-map ms (λ v. map N v.items))))
 
 pub returns-clause-bound : goal.returns-clause-bound

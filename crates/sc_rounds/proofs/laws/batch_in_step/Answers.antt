@@ -5,7 +5,6 @@ use Rattle.sc_definitions.specs.Seeds.{quadratic_seed}
 use Rattle.sc_definitions.specs.declared.events.Event.{Event}
 use Rattle.sc_definitions.specs.Channels.{channel}
 use Rattle.sc_rounds.proofs.TakenLaws.{claim_begun, same_footing}
-use Rattle.sc_transcript.specs.declared.error.SumcheckError.TheVariants.{NoMemory}
 use Rattle.sc_transcript.proofs.InStep.{message_count, found_count, same_challenges, same_ends, wants_memory, step_as, not_begun}
 use Rattle.sc_rounds.specs.ProverViews.{stated_to}
 use Rattle.sc_rounds.proofs.laws.batch_in_step.Goals as goal
@@ -27,7 +26,7 @@ verify_rounds-requires g c = rw c.requires.rules c.requires.difficulty
 -- the prover's refusal: the verifier has not begun
 pub returns-in_err-drawn : goal.returns-in_err-drawn
 returns-in_err-drawn g c = record {
-  step = step_as (map g.EF.Field.number) g.EF.Field.number _ _ _ _ _ _ c.from_residual.ensures.1 (not_begun _ _ _ _ c.in_err-drawn.ensures.batch);
+  step = step_as (map g.EF.Field.number) g.EF.Field.number _ _ _ _ c.from_residual.result _ c.from_residual.ensures.1 (not_begun _ _ _ _ c.in_err-drawn.ensures.batch);
   prover_rules = c.in_err-drawn.ensures.rules;
   verifier_rules = refl;
   order = c.in_err-drawn.ensures.order;
@@ -48,7 +47,7 @@ returns-in_err-replayed g c =
     let witnessed = found_count _ _ _ _ C _ c.requires.empty same begun played c.args.folding_factor whole in
     let told = wants_memory _ _ _ _ C _ c.requires.empty same begun played N _ _ c.args.folding_factor _ _ c.in_err-replayed.field-0.0 _ counted witnessed c.in_err-replayed.ensures.left in
     record {
-      step = step_as (map N) N _ _ _ _ _ NoMemory (rw told.0 at c.from_residual-in_err-replayed.ensures.1)
+      step = step_as (map N) N _ _ _ _ c.from_residual-in_err-replayed.result _ (rw told.0 at c.from_residual-in_err-replayed.ensures.1)
           (inr (record { rs = _; played = c.in_ok-drawn.ensures.batch; left = told.1 }));
       prover_rules = c.in_ok-drawn.ensures.rules;
       verifier_rules = c.in_err-replayed.ensures.rules;

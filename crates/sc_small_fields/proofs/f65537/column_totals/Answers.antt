@@ -40,4 +40,4 @@ loop-a-preserved c =
 pub returns : goal.returns
 returns c = λ k low.
     let done : c.loop-a.a ≡ length c.args.factors.now = omega (arith, c.loop-a.auto, c.loop-a-test) in
-    products-all (residues 65537) _ _ _ _ _ done (c.loop-a.invariant.totals.sums k low)
+    products-all (residues 65537) _ _ done (c.loop-a.invariant.totals.sums k low)

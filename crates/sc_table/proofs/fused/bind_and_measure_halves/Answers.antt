@@ -16,7 +16,7 @@ loop-from-init g c =
       within = omega arith;
       evals = quarters-none a.number a.ops r quarter (2 * quarter) whole c.args.evals.now;
       weights = quarters-none a.number a.ops r quarter (2 * quarter) whole c.args.weights.now;
-      so_far = message-none _ _ _ _ _ _ _ _ c.zero-message.ensures.first c.zero-message.ensures.leading;
+      so_far = message-none c.zero-message.ensures.first c.zero-message.ensures.leading;
     }
 
 pub loop-from-preserved : goal.loop-from-preserved
@@ -46,7 +46,7 @@ loop-from-preserved g c =
       within = within;
       evals = evals;
       weights = weights;
-      so_far = message-block evaluation prefix a.ops g.met.A.Field.is_field.ring quarter from rows f w _ _ _ _ c.loop-from.invariant.so_far
+      so_far = message-block evaluation prefix a.ops g.met.A.Field.is_field.ring _ c.loop-from.invariant.so_far
           (c.with_halves-message.ensures.first ∙ ap (plus a.ops (a.number c.loop-from.message.c_a)) same.0)
           (c.with_halves-message.ensures.leading ∙ ap (plus a.ops (a.number c.loop-from.message.c_inf)) same.1);
     }

@@ -12,7 +12,7 @@ loop-from-init g c = record {
   within = omega arith;
   evals = written-none g.A.Field.number _ 0 c.args.evals.now;
   weights = written-none g.A.Field.number _ 0 c.args.weights.now;
-  so_far = message-none _ _ _ _ _ _ _ _ c.zero-message.ensures.first c.zero-message.ensures.leading;
+  so_far = message-none c.zero-message.ensures.first c.zero-message.ensures.leading;
 }
 
 pub loop-from-preserved : goal.loop-from-preserved
@@ -40,7 +40,7 @@ loop-from-preserved g c =
       within = within;
       evals = evals;
       weights = weights;
-      so_far = message-block evaluation suffix a.ops g.met.A.Field.is_field.ring c.args.quarter from pairs f w _ _ _ _ c.loop-from.invariant.so_far
+      so_far = message-block evaluation suffix a.ops g.met.A.Field.is_field.ring _ c.loop-from.invariant.so_far
           (c.with_pairs-message.ensures.first c.args.quarter ∙ ap (plus a.ops (a.number c.loop-from.message.c_a)) same.0)
           (c.with_pairs-message.ensures.leading c.args.quarter ∙ ap (plus a.ops (a.number c.loop-from.message.c_inf)) same.1);
     }

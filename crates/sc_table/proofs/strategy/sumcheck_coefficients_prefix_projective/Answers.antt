@@ -6,7 +6,7 @@ use Rattle.sc_table.proofs.HonestLaws.{message-honest}
 use Rattle.sc_table.proofs.strategy.sumcheck_coefficients_prefix_projective.Goals as goal
 
 pub loop-i-init : goal.loop-i-init
-loop-i-init g c = message-none _ _ _ _ _ _ _ _ c.zero-message.ensures.first c.zero-message.ensures.leading
+loop-i-init g c = message-none c.zero-message.ensures.first c.zero-message.ensures.leading
 
 pub loop-i-preserved : goal.loop-i-preserved
 unfolding low_entry high_entry first_term leading_term

@@ -8,7 +8,7 @@ use Rattle.sc_table.proofs.strategy.sumcheck_coefficients_suffix.Goals as goal
 pub loop-from-init : goal.loop-from-init
 loop-from-init g c = record {
   within = omega arith;
-  so_far = message-none _ _ _ _ _ _ _ _ c.zero-message.ensures.first c.zero-message.ensures.leading;
+  so_far = message-none c.zero-message.ensures.first c.zero-message.ensures.leading;
 }
 
 pub loop-from-preserved : goal.loop-from-preserved
@@ -16,7 +16,7 @@ loop-from-preserved g c =
     let a = g.A.Field in
     record {
       within = omega arith;
-      so_far = message-block evaluation suffix a.ops g.met.A.Field.is_field.ring _ _ _ _ _ _ _ _ _ c.loop-from.invariant.so_far
+      so_far = message-block evaluation suffix a.ops g.met.A.Field.is_field.ring _ c.loop-from.invariant.so_far
           (c.with_pairs-message.ensures.first (length c.args.evals.now / 2)) (c.with_pairs-message.ensures.leading (length c.args.evals.now / 2));
     }
 

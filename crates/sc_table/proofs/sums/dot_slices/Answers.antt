@@ -39,6 +39,5 @@ pub returns : goal.returns
 returns g c =
     let e = g.E.Field in
     let all : c.loop-from.from ≡ length c.args.xs.now = omega (arith, c.loop-from.invariant.within, c.loop-from-test) in
-    products-all e.ops (entries (λ x. g.E.Algebra.embedding (g.A.Field.number x)) c.args.xs.now) (entries e.number c.args.ys.now) c.loop-from.from
-    (length c.args.xs.now) _ all
+    products-all e.ops (entries (λ x. g.E.Algebra.embedding (g.A.Field.number x)) c.args.xs.now) (entries e.number c.args.ys.now) all
     c.loop-from.invariant.so_far

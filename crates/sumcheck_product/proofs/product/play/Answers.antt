@@ -14,7 +14,7 @@ returns-in_err-proof g c =
     let q : ProductCase = case_over e.ops (tables_of e.number c.args.product) (arity_of c.args.product)
     (channel (g.C.Challenger.rules c.args.challenger.now) g.EF.ExtensionField.extension g.F.Field.ops.size c.args.pow_bits) (g.C.Challenger.history c.args.challenger.now) in
     let after = prover_of e.ops (tables_of e.number c.prove.new.self) (arity_of c.prove.new.self) in
-    let same = play-is q _ _ _ _ _ c.in_ok-copied.ensures.rules c.in_ok-copied.ensures.history c.num_variables-variables.ensures c.degree-degree.ensures c.requires.sum in
+    let same = play-is q c.in_ok-copied.ensures.rules c.in_ok-copied.ensures.history c.num_variables-variables.ensures c.degree-degree.ensures c.requires.sum in
     passed_on q g.F.Field.number e.number _ c.in_err-proof.field-0.0 c.from_residual-in_err-proof.ensures.1
     (built-refused q g.F.Field.number e.number after c.in_err-proof.field-0.0 (g.C.Challenger.history c.prove.new.challenger) (subst (λ p. LeavesPlay g.F.Field.number e.number p (prover_for q) after (Err c.in_err-proof.field-0.0) (g.C.Challenger.history c.prove.new.challenger)) same c.in_err-proof.ensures.left))
 
@@ -24,7 +24,7 @@ returns g c =
     let q : ProductCase = case_over e.ops (tables_of e.number c.args.product) (arity_of c.args.product)
     (channel (g.C.Challenger.rules c.args.challenger.now) g.EF.ExtensionField.extension g.F.Field.ops.size c.args.pow_bits) (g.C.Challenger.history c.args.challenger.now) in
     let after = prover_of e.ops (tables_of e.number c.prove.new.self) (arity_of c.prove.new.self) in
-    let same = play-is q _ _ _ _ _ c.in_ok-copied.ensures.rules c.in_ok-copied.ensures.history c.num_variables-variables.ensures c.degree-degree.ensures c.requires.sum in
+    let same = play-is q c.in_ok-copied.ensures.rules c.in_ok-copied.ensures.history c.num_variables-variables.ensures c.degree-degree.ensures c.requires.sum in
     let came = wire_in g.F.Field.number e.number c.in_ok-proof.proof in
     built-played q g.met.EF.Field.is_field.ring (tables_of e.number c.prove.new.self) (arity_of c.prove.new.self) came (map e.number c.in_ok-proof.field-0-1)
     (g.C.Challenger.history c.prove.new.challenger) (e.number c.in_ok-proof.proof.claimed_sum) (e.number c.sum.result)

@@ -11,7 +11,7 @@ returns g c =
     let read = c.in-Ok.ensures in
     let is = c.read_command-command.ensures.command in
     let needs = c.needs_input.ensures in
-    let r = ran g.K.Sink.taken g.K.Sink.faults _ _ _ _ _ _ _ _ _ is needs read.read c.respond.ensures.responds in
+    let r = ran g.K.Sink.taken g.K.Sink.faults is needs read.read c.respond.ensures.responds in
     record {
       answered = ran_answered r;
       cut_short = ran_cut_short r;
@@ -39,8 +39,8 @@ returns-in-Err-Failed g c =
       silent = λ _. refl;
       no_other = leb-true 6 8 refl;
       untouched = λ none. (read.unread (needs ∙ ap reads_input is ∙ none)).0;
-      usage = record { only = differ 6 2 refl; told = must_read _ _ _ is needs (λ none. (read.unread none).1) };
-      headline = λ input given _. untold _ _ _ _ _ _ input is needs (λ none. (read.unread none).1) risen given;
+      usage = record { only = differ 6 2 refl; told = must_read is needs (λ none. (read.unread none).1) };
+      headline = λ input given _. untold _ input is needs (λ none. (read.unread none).1) risen given;
       made = λ recipe make. made-holds recipe (subst CommandFits (is ∙ make) c.read_command-command.ensures.fits);
       sparing = read.sparing;
       reading = record { only = λ _. risen; told = λ _. refl; stops = read.late };

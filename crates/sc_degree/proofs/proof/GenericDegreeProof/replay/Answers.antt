@@ -45,8 +45,8 @@ rounds-preserved g c =
         rules = told.continues.rules ∙ before.continues.rules;
         shape = told.continues.shape ∙ before.continues.shape;
       };
-      replays = replays_step N _ _ _ _ _ _ _ c.rounds.i r c.rounds.challenges.items c.push_reserved.new.self.items c.in-Ok.r came
-          (same_channel _ _ _ _ _ _ (before.continues.rules ∙ ap g.C.Challenger.rules begun.lent.same) (ap (λ (s : GenericDegreeShape). s.pow_bits) shape))
+      replays = replays_step N _ _ _ c.rounds.i r c.rounds.challenges.items c.push_reserved.new.self.items c.in-Ok.r came
+          (same_channel _ (before.continues.rules ∙ ap g.C.Challenger.rules begun.lent.same) (ap (λ (s : GenericDegreeShape). s.pow_bits) shape))
           before.replays told.takes.taken c.eval-claim.ensures c.push_reserved.ensures.items;
       wide = wide_more c.args.shape.degree (rounds_of g.F.Field.number N proof) c.rounds.i r came
           (told.takes.width ∙ ap (λ (s : GenericDegreeShape). s.degree) shape) before.wide;
@@ -64,8 +64,8 @@ returns-clause-left g c = λ h begun.
     (channel (g.C.Challenger.rules c.args.challenger.now) g.EF.ExtensionField.extension g.F.Field.ops.size c.args.shape.pow_bits) c.args.shape proof h in
     let inv = c.rounds.invariant in (
       counted g.F.Field.number N p proof refl refl c.requires.counted,
-      replayed_all p c.rounds.i _ _ _ _ _ (le_antisymm c.rounds.auto.i-end c.rounds-test.false) (ap (map N) c.new.ensures)
-          (ap H (returned _ _ _ _ _ _ (search rules) inv.continues.lender c.over-transcript.ensures.lent.lender c.finish.ensures))
+      replayed_all p c.rounds.i (le_antisymm c.rounds.auto.i-end c.rounds-test.false) (ap (map N) c.new.ensures)
+          (ap H (returned (search rules) inv.continues.lender c.over-transcript.ensures.lent.lender c.finish.ensures))
           (replayed_to p c.rounds.i _ _ _ (ap (λ t. footing t (N proof.claimed_sum)) (sym begun)) inv.wide inv.replays),
     )
 
@@ -87,8 +87,8 @@ returns-in-Err-clause-left g c = λ h begun.
     let shape = inv.continues.shape ∙ first.fresh.shape in
     rejected N p _ _ _ c.rounds.i _ _ _ c.witness_at.result _ c.in-Err.error
     (counted g.F.Field.number N p proof refl refl c.requires.counted)
-    (same_channel _ _ _ _ _ _ (inv.continues.rules ∙ ap g.C.Challenger.rules first.lent.same) (ap (λ (s : GenericDegreeShape). s.pow_bits) shape))
+    (same_channel _ (inv.continues.rules ∙ ap g.C.Challenger.rules first.lent.same) (ap (λ (s : GenericDegreeShape). s.pow_bits) shape))
     shape inv.played c.rounds-test.true
     (replayed_to p c.rounds.i _ _ _ (ap (λ t. footing t (N proof.claimed_sum)) (sym begun)) inv.wide inv.replays)
     came (λ few. c.witness_at.ensures.some (within_items g.F.Field.number _ _ _ c.deref.ensures.value few)) told.rejected
-    (ap H (returned _ _ _ _ _ _ (search rules) (told.continues.lender ∙ inv.continues.lender) first.lent.lender c.abort.ensures))
+    (ap H (returned (search rules) (told.continues.lender ∙ inv.continues.lender) first.lent.lender c.abort.ensures))

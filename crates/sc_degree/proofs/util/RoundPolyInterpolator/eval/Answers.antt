@@ -10,7 +10,7 @@ use Rattle.sc_degree.proofs.util.RoundPolyInterpolator.eval.Goals as goal
 pub loop-node-init : goal.loop-node-init
 loop-node-init g c =
     let e = g.EF.Field in
-    interpolated-none e.ops g.met.EF.Field.is_field _ _ _ _ _ (ap e.number c.ONE-product.ensures ∙ g.met.EF.Field.one_is) (ap e.number c.ZERO-sum.ensures ∙ g.met.EF.Field.zero_is)
+    interpolated-none e.ops g.met.EF.Field.is_field _ _ _ (ap e.number c.ONE-product.ensures ∙ g.met.EF.Field.one_is) (ap e.number c.ZERO-sum.ensures ∙ g.met.EF.Field.zero_is)
 
 pub loop-node-preserved : goal.loop-node-preserved
 unfolding entries

@@ -22,4 +22,4 @@ loop-i-preserved g c =
 pub returns : goal.returns
 returns g c =
     let done : c.loop-i.i ≡ length c.args.x0.now = omega (arith, c.loop-i.auto, c.loop-i-test) in
-    products-all _ _ _ _ _ _ done c.loop-i.invariant
+    products-all _ _ _ done c.loop-i.invariant

@@ -32,6 +32,6 @@ pub returns : goal.returns
 returns g c =
     let done : c.loop-b.b ≡ c.args.pairs = omega (arith, c.loop-b.auto, c.loop-b-test) in
     record {
-      even = products-all _ _ _ _ _ _ done c.loop-b.invariant.even;
-      difference = products-all _ _ _ _ _ _ done c.loop-b.invariant.difference;
+      even = products-all _ _ _ done c.loop-b.invariant.even;
+      difference = products-all _ _ _ done c.loop-b.invariant.difference;
     }

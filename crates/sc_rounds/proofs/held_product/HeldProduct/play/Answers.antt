@@ -37,8 +37,8 @@ loop-round-preserved g c =
       order = round.order ∙ inv.order;
       len = c.push_reserved.ensures.len ∙ ap (λ n. n + 1) inv.len;
       room = fits _ _ _ _ (ap (λ (s : SumcheckShape). s.num_rounds) round.continues.shape) c.push_reserved.ensures.capacity inv.room;
-      batch = λ start before. one_round_more _ _ g.met.EG.Field.is_field.ring tt _ _ _ _ _ _
-          (same_setting _ _ _ _ _ (same_channel _ _ _ g.G.Field.ops.size _ _ inv.continues.rules (ap (λ (s : SumcheckShape). s.pow_bits) inv.continues.shape)) inv.order)
+      batch = λ start before. one_round_more g.met.EG.Field.is_field.ring tt
+          (same_setting (same_channel g.G.Field.ops.size inv.continues.rules (ap (λ (s : SumcheckShape). s.pow_bits) inv.continues.shape)) inv.order)
           drawn (inv.batch start before) round.round;
       holds = λ start before. inr (record {
         others = _;
@@ -67,13 +67,13 @@ round-requires-clause-left g c =
 pub push_reserved-requires : goal.push_reserved-requires
 push_reserved-requires g c =
     let inv = c.loop-round.invariant in
-    room_at _ _ _ _ _ inv.len c.loop-round-test.true (ap (λ (s : SumcheckShape). s.num_rounds) (c.shape-round-end.ensures ∙ sym inv.continues.shape)) inv.room
+    room_at inv.len c.loop-round-test.true (ap (λ (s : SumcheckShape). s.num_rounds) (c.shape-round-end.ensures ∙ sym inv.continues.shape)) inv.room
 
 -- all rounds are played, and what the invariant says of them holds of all
 pub returns : goal.returns
 returns g c =
     let inv = c.loop-round.invariant in
-    let below : c.len-round.result ≤ c.shape-round-end.result.num_rounds = begun_within _ _ _ _ _ c.len-round.ensures c.requires.count c.requires.begun (ap (λ (s : SumcheckShape). s.num_rounds) c.shape-round-end.ensures) in
+    let below : c.len-round.result ≤ c.shape-round-end.result.num_rounds = begun_within c.len-round.ensures c.requires.count c.requires.begun (ap (λ (s : SumcheckShape). s.num_rounds) c.shape-round-end.ensures) in
     record {
       continues = inv.continues;
       order = inv.order;
@@ -98,8 +98,8 @@ returns-in-Err g c =
       left = sum_at _ _ _ _ (round.counts ∙ inv.played) (ap (λ (s : Shown). s.variables + c.loop-round._round) round.kept ∙ inv.left);
       rounds = λ start before. (
         less_at _ _ _ _ (round.counts ∙ inv.played) c.loop-round-test.true (ap (λ (s : SumcheckShape). s.num_rounds) (c.shape-round-end.ensures ∙ sym inv.continues.shape ∙ sym round.continues.shape)),
-        stops _ _ _ _ _ _ _ _ c.in-Err.error
-            (same_setting _ _ _ _ _ (same_channel _ _ _ g.G.Field.ops.size _ _ inv.continues.rules (ap (λ (s : SumcheckShape). s.pow_bits) inv.continues.shape)) inv.order)
+        stops _ c.in-Err.error
+            (same_setting (same_channel g.G.Field.ops.size inv.continues.rules (ap (λ (s : SumcheckShape). s.pow_bits) inv.continues.shape)) inv.order)
             (sym round.counts) (inv.batch start before) round.round,
       );
       holds = tt;

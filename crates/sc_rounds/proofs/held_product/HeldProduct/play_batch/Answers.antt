@@ -25,10 +25,10 @@ returns-in-Ok-clause-batch g c =
     record {
       whole = sum_at _ _ _ _ (sym (all.0 ∙ ap (λ (s : SumcheckShape). s.num_rounds) (c.in-Ok.ensures.continues.shape ∙ begun.fresh.shape)))
           (none_before _ _ _ _ c.in-Ok.ensures.left begun.fresh.played);
-      played = played_at _ _ _ _ _ _ _ _
-          (same_setting _ _ _ _ _ (same_channel _ _ _ g.G.Field.ops.size _ _ (ap R begun.lent.same ∙ c.in_ok-seed.ensures.rules) (ap (λ s. s.pow_bits) begun.fresh.shape)) refl)
+      played = played_at
+          (same_setting (same_channel g.G.Field.ops.size (ap R begun.lent.same ∙ c.in_ok-seed.ensures.rules) (ap (λ s. s.pow_bits) begun.fresh.shape)) refl)
           (ap (λ h. standing_at (image_in to c.args.self.now) h (W c.args.sumcheck_data.now)) (ap H begun.lent.same ∙ c.in_ok-seed.ensures.ok))
-          (ap (λ h. standing_at (image_in to c.play.new.self) h (W c.play.new.sumcheck_data)) (sym (ap H (returned _ _ _ _ _ _ (search rules) c.in-Ok.ensures.continues.lender begun.lent.lender c.finish.ensures))))
+          (ap (λ h. standing_at (image_in to c.play.new.self) h (W c.play.new.sumcheck_data)) (sym (ap H (returned (search rules) c.in-Ok.ensures.continues.lender begun.lent.lender c.finish.ensures))))
           (ap (map g.EG.Field.number) (sym c.new.ensures)) all.1;
     }
 
@@ -42,11 +42,11 @@ returns-in-Ok-clause-holds g c =
     let t = c.args.self.now in
     let size = held_sized g.EF.Field.ops g.EF.Field.number t.poly t.sum t.held in
     let none = played_none _ _ (record { evals = length-map _ to ∙ size.0; weights = length-map _ to ∙ size.1 }) in
-    holds_at _ _ _ _ _ _ _
-    (same_setting _ _ _ _ _ (same_channel _ _ _ g.G.Field.ops.size _ _ (ap R begun.lent.same ∙ c.in_ok-seed.ensures.rules) (ap (λ s. s.pow_bits) begun.fresh.shape)) refl)
+    holds_at
+    (same_setting (same_channel g.G.Field.ops.size (ap R begun.lent.same ∙ c.in_ok-seed.ensures.rules) (ap (λ s. s.pow_bits) begun.fresh.shape)) refl)
     (ap (λ h. standing_at (image_in to c.args.self.now) h (W c.args.sumcheck_data.now)) (ap H begun.lent.same ∙ c.in_ok-seed.ensures.ok))
     (ap (map g.EG.Field.number) (sym c.new.ensures))
-    (held_if_any _ _ _ _ _ (ap (map g.EG.Field.number) c.in_ok-challenges.ensures.empty) none c.in-Ok.ensures.holds)
+    (held_if_any (ap (map g.EG.Field.number) c.in_ok-challenges.ensures.empty) none c.in-Ok.ensures.holds)
 
 pub returns-in-Err-clause-batch : goal.returns-in-Err-clause-batch
 returns-in-Err-clause-batch g c =
@@ -59,33 +59,33 @@ returns-in-Err-clause-batch g c =
     let size = held_sized g.EF.Field.ops g.EF.Field.number t.poly t.sum t.held in
     let none = played_none _ _ (record { evals = length-map _ to ∙ size.0; weights = length-map _ to ∙ size.1 }) in
     let some = c.in-Err.ensures.rounds _ (as_none _ _ _ (ap (map g.EG.Field.number) c.in_ok-challenges.ensures.empty) none) in
-    stops_batch _ _ _ _ _ _ _ c.in-Err.error
-    (same_setting _ _ _ _ _ (same_channel _ _ _ g.G.Field.ops.size _ _ (ap R begun.lent.same ∙ c.in_ok-seed.ensures.rules) (ap (λ s. s.pow_bits) begun.fresh.shape)) refl)
+    stops_batch _ c.in-Err.error
+    (same_setting (same_channel g.G.Field.ops.size (ap R begun.lent.same ∙ c.in_ok-seed.ensures.rules) (ap (λ s. s.pow_bits) begun.fresh.shape)) refl)
     (ap (λ h. standing_at (image_in to c.args.self.now) h (W c.args.sumcheck_data.now)) (ap H begun.lent.same ∙ c.in_ok-seed.ensures.ok))
-    (ap (λ h. standing_at (image_in to c.play.new.self) h (W c.play.new.sumcheck_data)) (sym (ap H (returned _ _ _ _ _ _ (search rules) c.in-Err.ensures.continues.lender begun.lent.lender c.abort.ensures))))
+    (ap (λ h. standing_at (image_in to c.play.new.self) h (W c.play.new.sumcheck_data)) (sym (ap H (returned (search rules) c.in-Err.ensures.continues.lender begun.lent.lender c.abort.ensures))))
     (none_before _ _ _ _ c.in-Err.ensures.left begun.fresh.played) some.0 (ap (λ (s : SumcheckShape). s.num_rounds) (c.in-Err.ensures.continues.shape ∙ begun.fresh.shape)) some.1
 
 -- the transcript keeps the challenger's rules
 pub returns-in-Ok-clause-rules : goal.returns-in-Ok-clause-rules
 returns-in-Ok-clause-rules g c =
     let begun = c.over-transcript.ensures in
-    ap g.C.Challenger.rules (returned _ _ _ _ _ _ (search rules) c.in-Ok.ensures.continues.lender begun.lent.lender c.finish.ensures) ∙ c.in-Ok.ensures.continues.rules
+    ap g.C.Challenger.rules (returned (search rules) c.in-Ok.ensures.continues.lender begun.lent.lender c.finish.ensures) ∙ c.in-Ok.ensures.continues.rules
     ∙ ap g.C.Challenger.rules begun.lent.same ∙ c.in_ok-seed.ensures.rules
 
 pub returns-in-Err-clause-rules : goal.returns-in-Err-clause-rules
 returns-in-Err-clause-rules g c =
     let begun = c.over-transcript.ensures in
-    ap g.C.Challenger.rules (returned _ _ _ _ _ _ (search rules) c.in-Err.ensures.continues.lender begun.lent.lender c.abort.ensures) ∙ c.in-Err.ensures.continues.rules
+    ap g.C.Challenger.rules (returned (search rules) c.in-Err.ensures.continues.lender begun.lent.lender c.abort.ensures) ∙ c.in-Err.ensures.continues.rules
     ∙ ap g.C.Challenger.rules begun.lent.same ∙ c.in_ok-seed.ensures.rules
 
 -- without memory for the challenges or the seed nothing has begun
 pub returns-in_err-challenges-clause-batch : goal.returns-in_err-challenges-clause-batch
-returns-in_err-challenges-clause-batch g c = never_begun _ _ _ _ c.from_residual.ensures.1 refl
+returns-in_err-challenges-clause-batch g c = never_begun _ _ _ c.from_residual.ensures.1 refl
 
 pub returns-in_err-seed-clause-batch : goal.returns-in_err-seed-clause-batch
 returns-in_err-seed-clause-batch g c =
     let to = g.EF.FromTable.to_number in
-    never_begun _ _ _ _ c.from_residual-in_err-seed.ensures.1
+    never_begun _ _ _ c.from_residual-in_err-seed.ensures.1
     (ap (λ h. standing_at (image_in to c.args.self.now) h (wire_in g.G.Field.number g.EG.Field.number c.args.sumcheck_data.now)) c.in_err-seed.ensures.err)
 
 -- no round was played, and there is no challenge yet

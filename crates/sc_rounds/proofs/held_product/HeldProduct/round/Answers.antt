@@ -34,9 +34,9 @@ returns-clause-round g c =
       weights = below_entries a b ra rb to represents.back N below t.poly.weights.evals.items;
       claim = below t.sum;
     } in
-    round_as b to _ _ _ _ _ drawn s _ (with_bound a s r) _ same
+    round_as b to drawn s (with_bound a s r) same
     (ap (λ q. with_bound a q r) (sym (none_held a N t.poly t.sum t.held e.settled)) ∙ sym c.bind.ensures.bound)
-    (image_round a b ra rb to represents.back s low _ _ _ _ _ _ puts.witness r drawn
+    (image_round a b ra rb to represents.back s low puts.witness r drawn
     (record {
       first = N m.c_a;
       leading = N m.c_inf;
@@ -76,7 +76,7 @@ returns-in-Err-clause-round g c =
     }) in
     let T' = c.observe_and_sample.new.transcript in
     let D = c.args.sumcheck_data.now in
-    halts _ _ _ _ _ c.in-Err.error c.in-Err.ensures.refused.why (message ∙ ap (λ q. message_shown b (imaged to q)) same)
+    halts _ _ _ c.in-Err.error c.in-Err.ensures.refused.why (message ∙ ap (λ q. message_shown b (imaged to q)) same)
     (ap (λ w. standing_at (imaged to (held_shown a N t.poly t.held t.sum)) (driver_in T').history w) c.in-Err.ensures.kept
     ∙ ap (λ q. standing_at (imaged to q) (driver_in T').history (wire_in g.G.Field.number g.EG.Field.number D)) e.kept)
 

@@ -2,4 +2,4 @@ use Rattle.sc_definitions.proofs.PairMoves.{dot_sum}
 use Rattle.sc_rounds.proofs.product_polynomial.ProductPolynomial.dot_product.Goals as goal
 
 pub returns : goal.returns
-returns g c = dot_sum g.EF.Field.ops _ _ _ _ _ _ _ c.dot.ensures c.as_slice.ensures.size c.as_slice.ensures.numbers c.as_slice-2.ensures.numbers
+returns g c = dot_sum g.EF.Field.ops _ c.dot.ensures c.as_slice.ensures.size c.as_slice.ensures.numbers c.as_slice-2.ensures.numbers

@@ -37,7 +37,7 @@ returns-clause-round g c =
       evals = sized T c.fix_var.new.poly.evals.items _ m c.fix_var.new.poly.evals.ok.0 c.fix_var.new.poly.sized;
       weights = sized T c.fix_var-2.new.poly.evals.items _ m c.fix_var-2.new.poly.evals.ok.0 (c.fix_var-2.new.poly.sized ∙ ap (λ n. 2 ^ n) same);
     })
-    (image_message a b ra rb to image order (2 ^ m) _ _ _ _ _ _ _ _ evals_low weights_low (mapped a b ra rb to image N _) (mapped a b ra rb to image N _)
+    (image_message a b ra rb to image order (2 ^ m) evals_low weights_low (mapped a b ra rb to image N _) (mapped a b ra rb to image N _)
     c.into_transcript-c_a.ensures c.into_transcript-c_inf.ensures message)
     (image_bound a b ra rb to image order m r s _ _ _ _ evals_low (g.met.EF.Field.number_below c.from_element-r.result) r_is
     (mapped a b ra rb to image N _) (mapped a b ra rb to image N _) (λ k low. c.fix_var.ensures.bound k low))
@@ -45,7 +45,7 @@ returns-clause-round g c =
     (mapped a b ra rb to image N _) (mapped a b ra rb to image N _)
     (λ k low. (let P : ℕ → Type 0 = λ n. k < 2 ^ n → table_of N c.fix_var-2.new.poly k ≡ bound_in evaluation order a n r (table_of N c.args.self.now.weights) k in
     subst P same (c.fix_var-2.ensures.bound k)) low))
-    (image_next a b ra rb to image _ _ _ _ _ r s _ (g.met.EF.Field.number_below _) (g.met.EF.Field.number_below _) (g.met.EF.Field.number_below _) (g.met.EF.Field.number_below _)
+    (image_next a b ra rb to image r s (g.met.EF.Field.number_below _) (g.met.EF.Field.number_below _) (g.met.EF.Field.number_below _) (g.met.EF.Field.number_below _)
     c.into_transcript-c_a.ensures c.into_transcript-c_inf.ensures r_is c.reduce_claim.ensures.claim)
 
 pub returns-clause-sum : goal.returns-clause-sum
@@ -79,8 +79,8 @@ returns-in-Err-clause-round g c =
     let more = one_more _ c.requires.variables in
     let message = message_halves order a _ _ more.0 _ _ _ _ (N c.sumcheck_coefficients-message.result.c_a) (N c.sumcheck_coefficients-message.result.c_inf) c.as_slice.ensures.size more.1
     c.as_slice.ensures.numbers c.as_slice-2.ensures.numbers c.sumcheck_coefficients-message.ensures.first c.sumcheck_coefficients-message.ensures.leading in
-    halts _ _ _ _ _ c.in-Err.error c.in-Err.ensures.refused.why
-    (halved order b _ _ _ _ more (image_message a b ra rb to image order (2 ^ more.0) _ _ _ _ _ _ _ _ evals_low weights_low (mapped a b ra rb to image N _) (mapped a b ra rb to image N _)
+    halts _ _ _ c.in-Err.error c.in-Err.ensures.refused.why
+    (halved order b _ _ _ _ more (image_message a b ra rb to image order (2 ^ more.0) evals_low weights_low (mapped a b ra rb to image N _) (mapped a b ra rb to image N _)
     c.into_transcript-c_a.ensures c.into_transcript-c_inf.ensures message))
     (ap (λ w. standing_in T c.args.self.now c.args.sum.now (driver_in c.observe_and_sample.new.transcript).history w) c.in-Err.ensures.kept)
 

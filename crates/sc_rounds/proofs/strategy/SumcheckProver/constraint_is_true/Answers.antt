@@ -37,9 +37,9 @@ returns-clause-exact g c =
     let added = c.combine.ensures.added in (
       λ told. record {
         arity = arity ∙ ap (λ (s : Shown). s.variables) same;
-        claim = ap (λ (s : Shown). sum_with o s v) (sym same) ∙ sum_shown N o old.poly old.sum v ∙ sym there ∙ claim_taken o ring _ _ _ _ _ _ _ _ _ begun (c.sum_is_true.ensures.0 told ∙ moved) added;
+        claim = ap (λ (s : Shown). sum_with o s v) (sym same) ∙ sum_shown N o old.poly old.sum v ∙ sym there ∙ claim_taken o ring _ begun (c.sum_is_true.ensures.0 told ∙ moved) added;
       },
-      λ true_one. c.sum_is_true.ensures.1 (sum_taken o ring _ _ _ _ _ _ _ _ _ begun (there ∙ sym (sum_shown N o old.poly old.sum v) ∙ ap (λ (s : Shown). sum_with o s v) same ∙ true_one.claim) added ∙ sym moved),
+      λ true_one. c.sum_is_true.ensures.1 (sum_taken o ring _ begun (there ∙ sym (sum_shown N o old.poly old.sum v) ∙ ap (λ (s : Shown). sum_with o s v) same ∙ true_one.claim) added ∙ sym moved),
     )
 
 -- a refusal tells nothing of an answer

@@ -15,7 +15,7 @@ inverted c =
     let o = residues 257 in let ring = f257_field.ring in
     let a = c.args.self.low.value in let b = c.args.self.high.value in let i = c.in-Some.scale.value in
     let is_norm : c.sub-norm.result.value ≡ minus o (times o a a) (times o 3 (times o b b)) =
-    norm_is a b _ _ _ _ _ c.element.ensures c.square.ensures c.mul-triple.ensures c.square-2.ensures c.sub-norm.ensures in
+    norm_is a b c.element.ensures c.square.ensures c.mul-triple.ensures c.square-2.ensures c.sub-norm.ensures in
     ap (times (quadratic o 3) (pair o a b)) (same_pair o ring c.mul.ensures (c.neg.ensures ∙ ap (opposite o) c.mul-in-Some.ensures))
     ∙ inverse-pair o ring 3 a b i c.args.self.low.below c.args.self.high.below
     (ap (λ n. times o n i) (sym is_norm) ∙ c.in-Some.ensures.product)
@@ -32,7 +32,7 @@ returns-in-None-clause-none c =
     let o = residues 257 in
     let a = c.args.self.low.value in let b = c.args.self.high.value in
     let is_norm : c.sub-norm.result.value ≡ minus o (times o a a) (times o 3 (times o b b)) =
-    norm_is a b _ _ _ _ _ c.element.ensures c.square.ensures c.mul-triple.ensures c.square-2.ensures c.sub-norm.ensures in (
+    norm_is a b c.element.ensures c.square.ensures c.mul-triple.ensures c.square-2.ensures c.sub-norm.ensures in (
       λ e. zero-from_norm o f257_field.ring f257_field 3 no_root a b c.args.self.low.below c.args.self.high.below (sym is_norm ∙ c.in-None.ensures.none.0 refl),
       λ e. refl,
     )

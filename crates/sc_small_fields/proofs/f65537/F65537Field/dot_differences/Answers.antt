@@ -32,4 +32,4 @@ loop-i-preserved c =
 pub returns : goal.returns
 returns c =
     let done : c.loop-i.i ≡ length c.args.x0.now = omega (arith, c.loop-i.auto, c.loop-i-test) in
-    c.reduced.ensures ∙ products-all (residues 65537) _ _ _ _ _ done c.loop-i.invariant.total
+    c.reduced.ensures ∙ products-all (residues 65537) _ _ done c.loop-i.invariant.total

@@ -53,6 +53,6 @@ pub returns : goal.returns
 returns c =
     let done : c.loop-b.b ≡ c.args.pairs = omega (arith, c.loop-b.auto, c.loop-b-test) in
     record {
-      even = c.reduced.ensures ∙ products-all (residues 65537) _ _ _ _ _ done c.loop-b.invariant.even;
-      difference = c.reduced-2.ensures ∙ products-all (residues 65537) _ _ _ _ _ done c.loop-b.invariant.difference;
+      even = c.reduced.ensures ∙ products-all (residues 65537) _ _ done c.loop-b.invariant.even;
+      difference = c.reduced-2.ensures ∙ products-all (residues 65537) _ _ done c.loop-b.invariant.difference;
     }

@@ -9,12 +9,12 @@ use Rattle.sc_statements.proofs.constraint.Constraint.combine_evals.Goals as goa
 
 pub loop-group-init : goal.loop-group-init
 loop-group-init g c =
-    IsSummed-none g.EF.Field.ops g.met.EF.Field.is_field.ring _ _ _ _ _ (g.met.EF.Field.number_below c.args.eval.now) refl c.first_coefficient-coefficient.ensures
+    IsSummed-none g.EF.Field.ops g.met.EF.Field.is_field.ring (g.met.EF.Field.number_below c.args.eval.now) refl c.first_coefficient-coefficient.ensures
 
 pub loop-group-preserved : goal.loop-group-preserved
 loop-group-preserved g c =
     let f = g.EF.Field in
-    sum-group (group_statements (λ x. g.EF.Algebra.embedding (g.F.Field.number x)) f.number) f.ops g.met.EF.Field.is_field.ring _ _ c.deref-group-items.result.now c.loop-group.group-index c.group-item.result _ _ _ _ _
+    sum-group (group_statements (λ x. g.EF.Algebra.embedding (g.F.Field.number x)) f.number) f.ops g.met.EF.Field.is_field.ring _ _ c.deref-group-items.result.now c.loop-group.group-index c.group-item.result
     c.loop-group.invariant c.loop-group-test.true c.group-item.is c.add_values-coefficient.ensures.added c.add_values-coefficient.ensures.next
 
 -- at the end the groups taken are all of them

@@ -12,7 +12,7 @@ returns-clause-weights g c =
 pub returns-clause-claim : goal.returns-clause-claim
 returns-clause-claim g c =
     let f = g.EF.Field in
-    claim-alone f.ops g.met.EF.Field.is_field.ring _ _ _ _ _ (ap f.number c.ZERO-eval.ensures ∙ g.met.EF.Field.zero_is) c.in_ok-combine.ensures.ok.sum
+    claim-alone f.ops g.met.EF.Field.is_field.ring _ _ _ (ap f.number c.ZERO-eval.ensures ∙ g.met.EF.Field.zero_is) c.in_ok-combine.ensures.ok.sum
 
 -- a refusal tells nothing of an answer
 pub returns-in_err-combined-clause-variables : goal.returns-in_err-combined-clause-variables

@@ -8,12 +8,12 @@ pub loop-group-init : goal.loop-group-init
 loop-group-init g c =
     let f = g.EF.Field in
     let ring = g.met.EF.Field.is_field.ring in
-    IsSummed-none f.ops ring _ _ 0 _ _ (omega (arith, ring.at_least_two)) (ap f.number c.ZERO-sum.ensures ∙ g.met.EF.Field.zero_is) c.first_coefficient-coefficient.ensures
+    IsSummed-none f.ops ring (omega (arith, ring.at_least_two)) (ap f.number c.ZERO-sum.ensures ∙ g.met.EF.Field.zero_is) c.first_coefficient-coefficient.ensures
 
 pub loop-group-preserved : goal.loop-group-preserved
 loop-group-preserved g c =
     let f = g.EF.Field in
-    value-group (group_statements (λ x. g.EF.Algebra.embedding (g.F.Field.number x)) f.number) f.ops g.met.EF.Field.is_field.ring _ _ _ c.deref-group-items.result.now c.loop-group.group-index c.group-item.result _ _ _ _ _
+    value-group (group_statements (λ x. g.EF.Algebra.embedding (g.F.Field.number x)) f.number) f.ops g.met.EF.Field.is_field.ring _ _ _ c.deref-group-items.result.now c.loop-group.group-index c.group-item.result
     c.loop-group.invariant c.loop-group-test.true c.group-item.is c.add_weights_at-coefficient.ensures.added c.add_weights_at-coefficient.ensures.next
 
 pub returns : goal.returns

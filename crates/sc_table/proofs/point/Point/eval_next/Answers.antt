@@ -43,7 +43,7 @@ loop-z_i-preserved g c =
     let so_far : IsPassed f.ops all_z all_x (z ∷ zs) (x ∷ xs) (f.number l.equal) (f.number l.carry) (f.number l.done) (f.number l.omega) =
     subst (λ t. IsPassed f.ops all_z all_x (z ∷ zs) (map f.number t) (f.number l.equal) (f.number l.carry) (f.number l.done) (f.number l.omega)) parts.1
     (subst (λ t. IsPassed f.ops all_z all_x (map f.number t) (map f.number l.z_i-iterator.b.rest.now) (f.number l.equal) (f.number l.carry) (f.number l.done) (f.number l.omega)) parts.0 l.invariant) in
-    passed-more f.ops met.is_field.ring all_z all_x zs xs z x _ _ _ _ _ _ _ _ so_far
+    passed-more f.ops met.is_field.ring all_z all_x zs xs z x so_far
     (c.mul-equal.ensures ∙ ap (times f.ops (f.number l.equal)) (c.add.ensures ∙ is.1.1))
     (c.mul-carry.ensures ∙ ap (times f.ops (f.number l.carry)) is.0)
     (cc (c.add-done.ensures, c.mul.ensures, c.mul-in-loop-z_i.ensures, is.0, is.1.0))

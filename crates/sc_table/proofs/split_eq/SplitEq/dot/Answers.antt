@@ -16,7 +16,7 @@ pub loop-a-init : goal.loop-a-init
 loop-a-init g c =
     let f = g.EF.Field in
     let none : 0 ≡ min (0 * length c.as_slice-inner.result.now) (length c.args.xs.now) = omega arith in
-    record { so_far = products-all f.ops _ _ 0 _ _ none (products-none f.ops _ _ _ (ap f.number c.ZERO-sum.ensures ∙ g.met.EF.Field.zero_is)) }
+    record { so_far = products-all f.ops _ _ none (products-none f.ops _ _ _ (ap f.number c.ZERO-sum.ensures ∙ g.met.EF.Field.zero_is)) }
 
 pub overflow_mul-a : goal.overflow_mul-a
 overflow_mul-a g c =
@@ -62,4 +62,4 @@ returns g c =
     let whole : c.loop-a.a * inner ≡ 2 ^ split_variables s = ap (λ k. k * inner) all
     ∙ all-rows s outer inner c.as_slice-outer.ensures.size c.as_slice-inner.ensures.size in
     let size : min (c.loop-a.a * inner) (length c.args.xs.now) ≡ length c.args.xs.now = omega (arith, whole, c.requires) in
-    products-all f.ops _ _ _ _ _ size c.loop-a.invariant.so_far
+    products-all f.ops _ _ size c.loop-a.invariant.so_far

@@ -46,11 +46,11 @@ rounds-preserved g c =
         values = round.continues.values ∙ before.continues.values;
         shape = round.continues.shape ∙ before.continues.shape;
       };
-      replays = replays_step g.EF.Field.number _ _ _ _ _ _ _ c.rounds.i
+      replays = replays_step g.EF.Field.number _ _ _ c.rounds.i
           (pair_round (g.EF.Field.number c.round_at.result.0.c_a) (g.EF.Field.number c.round_at.result.0.c_inf) (option_map_or g.F.Field.number c.round_at.result.1 0))
           c.rounds.challenges.items c.push_reserved.new.self.items c.in-Ok.r
           c.round_at.ensures.round
-          (same_channel _ _ _ _ _ _ (before.continues.rules ∙ ap g.C.Challenger.rules begun.lent.same) (ap (λ s. s.pow_bits) (before.continues.shape ∙ begun.fresh.shape)))
+          (same_channel _ (before.continues.rules ∙ ap g.C.Challenger.rules begun.lent.same) (ap (λ s. s.pow_bits) (before.continues.shape ∙ begun.fresh.shape)))
           before.replays round.takes.taken c.reduce_claim.ensures.claim c.push_reserved.ensures.items;
       played = round.takes.played ∙ ap (λ n. n + 1) before.played;
       len = rw (c.push_reserved.ensures.len, before.len) refl;
@@ -59,29 +59,29 @@ rounds-preserved g c =
 
 pub returns-clause-leaves : goal.returns-clause-leaves
 returns-clause-leaves g c =
-    replays_end _ (channel (g.C.Challenger.rules c.args.challenger.now) g.EF.ExtensionField.extension g.F.Field.ops.size c.args.shape.pow_bits) _ _ c.rounds.i _ _ _ _ _
+    replays_end (channel (g.C.Challenger.rules c.args.challenger.now) g.EF.ExtensionField.extension g.F.Field.ops.size c.args.shape.pow_bits) c.rounds.i
     (counted_whole c.rounds.i c.args.shape.num_rounds (length c.args.self.now.polynomial_evaluations.items) _ c.rounds.auto.i-end c.rounds-test.false (sym c.args.self.now.polynomial_evaluations.ok.0 ∙ c.requires.counted) (length-given_rounds _ _ ∙ length-map _ _))
-    (ap g.C.Challenger.history (returned _ _ _ _ _ _ (search rules) c.rounds.invariant.continues.lender c.over-transcript.ensures.lent.lender c.finish.ensures)) (ap (map g.EF.Field.number) c.new.ensures) c.rounds.invariant.replays
+    (ap g.C.Challenger.history (returned (search rules) c.rounds.invariant.continues.lender c.over-transcript.ensures.lent.lender c.finish.ensures)) (ap (map g.EF.Field.number) c.new.ensures) c.rounds.invariant.replays
 
 pub returns-in-Err-clause-leaves : goal.returns-in-Err-clause-leaves
 returns-in-Err-clause-leaves g c =
     let before = c.rounds.invariant in
     let begun = c.over-transcript.ensures in
     let refused = c.in-Err.ensures in
-    leaves_rejected g.EF.Field.number _ _ _ _ _ _ _ c.rounds.i c.args.shape.num_rounds _ _ _ _ c.in-Err.error _ _
-    (same_channel _ _ _ _ _ _ (before.continues.rules ∙ ap g.C.Challenger.rules begun.lent.same) (ap (λ s. s.pow_bits) (before.continues.shape ∙ begun.fresh.shape)))
+    leaves_rejected g.EF.Field.number c.rounds.i c.args.shape.num_rounds c.in-Err.error
+    (same_channel _ (before.continues.rules ∙ ap g.C.Challenger.rules begun.lent.same) (ap (λ s. s.pow_bits) (before.continues.shape ∙ begun.fresh.shape)))
     before.played before.replays c.round_at.ensures.round c.round_at.ensures.witness c.requires.witnessed c.rounds-test.true refused.rejected
-    (ap g.C.Challenger.history (returned _ _ _ _ _ _ (search rules) (refused.continues.lender ∙ before.continues.lender) begun.lent.lender c.abort.ensures))
+    (ap g.C.Challenger.history (returned (search rules) (refused.continues.lender ∙ before.continues.lender) begun.lent.lender c.abort.ensures))
 
 -- the calls of the rounds keep the rules
 pub returns-clause-rules : goal.returns-clause-rules
 returns-clause-rules g c =
     let begun = c.over-transcript.ensures in
-    ap g.C.Challenger.rules (returned _ _ _ _ _ _ (search rules) c.rounds.invariant.continues.lender begun.lent.lender c.finish.ensures)
+    ap g.C.Challenger.rules (returned (search rules) c.rounds.invariant.continues.lender begun.lent.lender c.finish.ensures)
     ∙ c.rounds.invariant.continues.rules ∙ ap g.C.Challenger.rules begun.lent.same
 
 pub returns-in-Err-clause-rules : goal.returns-in-Err-clause-rules
 returns-in-Err-clause-rules g c =
     let begun = c.over-transcript.ensures in
-    ap g.C.Challenger.rules (returned _ _ _ _ _ _ (search rules) (c.in-Err.ensures.continues.lender ∙ c.rounds.invariant.continues.lender) begun.lent.lender c.abort.ensures)
+    ap g.C.Challenger.rules (returned (search rules) (c.in-Err.ensures.continues.lender ∙ c.rounds.invariant.continues.lender) begun.lent.lender c.abort.ensures)
     ∙ c.in-Err.ensures.continues.rules ∙ c.rounds.invariant.continues.rules ∙ ap g.C.Challenger.rules begun.lent.same

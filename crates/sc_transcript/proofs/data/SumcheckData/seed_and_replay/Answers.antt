@@ -22,5 +22,5 @@ returns-in_err-seed g c = record { rules = c.in_err-seed.ensures.rules; leaves =
 pub returns : goal.returns
 returns g c = record {
   rules = c.replay.ensures.rules ∙ c.in_ok-seed.ensures.rules;
-  leaves = inr (leaves_at g.EF.Field.number _ _ _ _ _ _ (rounds_in g.F.Field.number g.EF.Field.number c.args.self.now) _ (same_channel _ _ _ g.F.Field.ops.size _ _ c.in_ok-seed.ensures.rules refl) (ap (λ h. footing h (g.EF.Field.number c.args.claimed_sum.now)) c.in_ok-seed.ensures.ok) c.replay.ensures.leaves);
+  leaves = inr (leaves_at g.EF.Field.number _ _ (rounds_in g.F.Field.number g.EF.Field.number c.args.self.now) _ (same_channel g.F.Field.ops.size c.in_ok-seed.ensures.rules refl) (ap (λ h. footing h (g.EF.Field.number c.args.claimed_sum.now)) c.in_ok-seed.ensures.ok) c.replay.ensures.leaves);
 }

@@ -16,4 +16,4 @@ returns-in_err-check_counts-clause-left g c =
     let is : c.from_residual.result ≡ Err c.in_err-check_counts.field-0.0 = search rules in
     let d = c.args.self.now in
     counted_left _ g.EF.Field.number _ _ _ (refl, refl)
-    (counts_as _ _ _ _ _ _ _ (rounds_came g.EF.Field.number d) (witnesses_came g.F.Field.number d) (counts_passed _ _ _ _ _ _ _ is c.in_err-check_counts.ensures.err))
+    (counts_as (rounds_came g.EF.Field.number d) (witnesses_came g.F.Field.number d) (counts_passed is c.in_err-check_counts.ensures.err))

@@ -27,7 +27,7 @@ returns-clause-spare_err g c = c.seed.ensures.spare_err
 
 -- no rounds have no seed
 pub returns-then-self-eq0-clause-ok : goal.returns-then-self-eq0-clause-ok
-returns-then-self-eq0-clause-ok g c = seed_none _ _ _ _ _ c.if-self-eq0.true
+returns-then-self-eq0-clause-ok g c = seed_none _ _ _ _ c.if-self-eq0.true
 
 pub returns-then-self-eq0-clause-spare : goal.returns-then-self-eq0-clause-spare
 returns-then-self-eq0-clause-spare g c = le-add_right _ _

@@ -13,7 +13,7 @@ pub returns-then-is_empty-clause-added : goal.returns-then-is_empty-clause-added
 returns-then-is_empty-clause-added g c = λ _.
     let f = g.EF.Field in
     let met = g.met.EF.Field in
-    AddsBatch-none f.ops met.is_field.ring _ _ _ _ _ _ (c.is_empty.ensures.0 c.if-is_empty.true)
+    AddsBatch-none f.ops met.is_field.ring (c.is_empty.ensures.0 c.if-is_empty.true)
     (entry-below f.ops f.number met.is_field.ring met.number_below c.args.acc_weights.now.evals.items) (met.number_below c.args.acc_sum.now)
 
 pub returns-clause-overwritten : goal.returns-clause-overwritten

@@ -70,8 +70,8 @@ returns-in_err-play-clause-stopped g c =
     let v = standing_over N bound Drawn c.round.new.sumcheck_data in
     let one : map N c.push_reserved.new.self.items ≡ N c.in_ok-message.r ∷ [] = ap (map N) c.push_reserved.ensures.items ∙ ap (λ l. map N (l ++ c.in_ok-message.r ∷ [])) c.requires.empty in
     let rest = c.in_ok-rest.rest in
-    let is = same_setting _ _ o _ _
-    (same_channel _ _ _ g.F.Field.ops.size _ _ first.continues.rules (ap (λ (s : SumcheckShape). s.pow_bits) first.continues.shape))
+    let is = same_setting
+    (same_channel g.F.Field.ops.size first.continues.rules (ap (λ (s : SumcheckShape). s.pow_bits) first.continues.shape))
     (ap (λ (s : Shown). s.order) c.in_ok-rest.ensures) in
     let here = ap (λ s. standing_over N s Drawn c.round.new.sumcheck_data) (sym c.in_ok-rest.ensures ∙ sym (imaged_same (shown_in rest))) in
     let u = standing_over N (image_in (λ n. n) c.play.new.self) c.play.new.transcript c.play.new.sumcheck_data in
@@ -103,8 +103,8 @@ returns-clause-played g c =
     let v = standing_over N bound Drawn c.round.new.sumcheck_data in
     let one : map N c.push_reserved.new.self.items ≡ N c.in_ok-message.r ∷ [] = ap (map N) c.push_reserved.ensures.items ∙ ap (λ l. map N (l ++ c.in_ok-message.r ∷ [])) c.requires.empty in
     let rest = c.in_ok-rest.rest in
-    let is = same_setting _ _ o _ _
-    (same_channel _ _ _ g.F.Field.ops.size _ _ first.continues.rules (ap (λ (s : SumcheckShape). s.pow_bits) first.continues.shape))
+    let is = same_setting
+    (same_channel g.F.Field.ops.size first.continues.rules (ap (λ (s : SumcheckShape). s.pow_bits) first.continues.shape))
     (ap (λ (s : Shown). s.order) c.in_ok-rest.ensures) in
     let here = ap (λ s. standing_over N s Drawn c.round.new.sumcheck_data) (sym c.in_ok-rest.ensures ∙ sym (imaged_same (shown_in rest))) in
     let u = standing_over N (image_in (λ n. n) c.play.new.self) c.play.new.transcript c.play.new.sumcheck_data in
