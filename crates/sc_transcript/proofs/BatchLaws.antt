@@ -6,6 +6,7 @@ use Rattle.sc_definitions.specs.Channels.{Channel, NoWitnessFound}
 use Rattle.sc_definitions.specs.Standings.{Setting, Standing, IsRound, IsPlayed, IsRoundWithoutWitness, message_in}
 use Rattle.sc_definitions.proofs.StandingLaws.{played_more}
 use Rattle.sc_definitions.proofs.HonestRounds.{honest-round}
+use Rattle.sc_transcript.specs.Causes.{cause_of}
 use Rattle.sc_transcript.specs.Drivers.{IsRefused}
 use Rattle.sc_transcript.specs.Batches.{Moves, MovesHonestly, HoldsIfMore, HoldsBatch, IsHalted, IsStopped, Batch, BreaksOff, LeavesBatch}
 use Rattle.sc_transcript.specs.declared.error.SumcheckError.{SumcheckError}
@@ -121,7 +122,7 @@ held_if_any {s} {t} {rs} none played holds = elim (holds t (as_none s t rs none 
 
 -- a round that is refused leaves all but the history
 pub halts : (s : Setting) (t : Standing) {u : Standing} (i : ℕ) {values : List ℕ} (e : SumcheckError) →
-    IsRefused s.channel i t.history values u.history e → values ≡ message_in s t → u ≡ record t { history = u.history } → IsHalted s t u i e
+    IsRefused s.channel i t.history values u.history (cause_of e) → values ≡ message_in s t → u ≡ record t { history = u.history } → IsHalted s t u i e
 halts s t i NoMemory why message kept = kept ∙ ap (λ h. record t { history = h }) why
 halts s t {u} i (NoWitness j) why message kept =
     (why.0, record { none = subst (λ vs. NoWitnessFound s.channel t.history vs u.history) message why.1; kept = kept })

@@ -3,6 +3,8 @@ pub mod RoundWords
 pub mod WitnessReads
 pub mod SeedLaws
 pub mod ReplayedLaws
+pub mod WalkLaws
+pub mod PairLaws
 pub mod RoundRoom
 pub mod Lent
 pub mod GivenRounds

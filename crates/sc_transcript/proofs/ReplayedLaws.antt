@@ -8,13 +8,12 @@ use Rattle.std.proofs.lemmas.Option.{get_or_from_slice_get, slice_get_within}
 use Rattle.sc_definitions.specs.declared.events.Event.{Event}
 use Rattle.sc_definitions.specs.Events.{Rules, Extension}
 use Rattle.sc_definitions.specs.Transcript.{Round}
-use Rattle.sc_definitions.specs.Channels.{Channel, channel, Footing, footing, IsTaken, WitnessFails, IsReplayed}
-use Rattle.sc_definitions.proofs.ReplayLaws.{replayed-none, replayed-more, take_whole}
+use Rattle.sc_definitions.specs.Channels.{Channel, channel, Footing, footing, IsTaken, IsReplayed}
+use Rattle.sc_definitions.proofs.ReplayLaws.{replayed-none, replayed-more}
 use Rattle.sc_transcript.specs.declared.error.SumcheckError.{SumcheckError}
-use Rattle.sc_transcript.specs.declared.error.SumcheckError.TheVariants.{InvalidPowWitness, MissingPowWitness, RoundCountMismatch, PowWitnessCountMismatch, NoMemory}
+use Rattle.sc_transcript.specs.declared.error.SumcheckError.TheVariants.{InvalidPowWitness, RoundCountMismatch, PowWitnessCountMismatch, NoMemory}
 use Rattle.sc_transcript.specs.declared.data.SumcheckData.{SumcheckData}
 use Rattle.sc_transcript.specs.Data.{messages_in, witnesses_in, witness_count}
-use Rattle.sc_transcript.specs.Drivers.{Driver, channel_of, RejectsRound}
 use Rattle.sc_transcript.specs.Replayed.{Leaves, Replay, IsCounted, LeavesReplay, IsMiscounted}
 
 -- ---- the loop over the rounds
@@ -36,16 +35,6 @@ replays_step number {next} {c} {before} at after rounds i r out out₁ x is same
     subst (IsReplayed next c before after (take (i + 1) rounds)) (sym (ap (map number) eo ∙ map-append number out (x ∷ [])))
     (replayed-more next c before at after rounds i r (map number out) (number x) (slice_get_within rounds i r is) (get_or_from_slice_get rounds i r r is) p taken ec)
 
-pub replays_end : {next : ℕ → List ℕ → ℕ → ℕ} (c : Channel) {before : Footing} {rs : List Round} (i : ℕ) {h h' : List Event} {claim : ℕ} {out out' : List ℕ} →
-    i ≡ length rs → h' ≡ h → out' ≡ out → IsReplayed next c before (footing h claim) (take i rs) out → IsReplayed next c before (footing h' claim) rs out'
-replays_end {next} c {before} {rs} i {h} {claim} {out} e eh eo p =
-    let p' : IsReplayed next c before (footing h claim) rs out = rw (take_whole rs i e) at p in
-    rw (eh, eo) p'
-
--- a loop over all of them has ended
-pub counted_whole : (i n k m : ℕ) → i ≤ n → n ≤ i → k ≡ n → m ≡ k → i ≡ m
-counted_whole i n k m a b e f = omega arith
-
 pub room_left : (len i n cap : ℕ) → len ≡ i → i < n → n ≤ cap → len < cap
 room_left len i n cap e lt le = omega arith
 
@@ -63,27 +52,6 @@ Is Y e e' = ◌≡◌ {A = Result Y SumcheckError} (Err e) (Err e')
 
 error_is : (Y : Type 0) (e e' : SumcheckError) → Is Y e e' → e ≡ e'
 error_is Y e e' p = cc
-
--- a round is rejected
-pub leaves_rejected : {X W : Type 0} (number : X → ℕ) {next : ℕ → List ℕ → ℕ → ℕ} {E : Extension} {d d' : Driver} {c : Channel} {before : Footing} {rs : List Round} (i n : ℕ) {k : ℕ} {r : Round}
-    {claim : ℕ} {out : List ℕ} (error : SumcheckError) {came : Option W} {h : List Event} →
-    channel_of E d ≡ c → d.played ≡ i → IsReplayed next c before (footing d.history claim) (take i rs) out → slice_get rs i ≡ Some r →
-    (i < k → IsSome came) → k ≡ witness_count c.bits n → i < n → RejectsRound E d d' r came error → h ≡ d'.history →
-    Leaves number next c before rs (Err error) (footing h claim)
-leaves_rejected number {rs} i n {out} NoMemory same ei p is some count lt told left =
-    inl (refl, record { count = i; rs = out; replays = rw (left ∙ told.why) p })
-leaves_rejected number {c} i n {k} (MissingPowWitness j b) {came} same ei p is some count lt told left =
-    let positive : 0 < c.bits = subst (λ t. 0 < t) (ap (λ (ch : Channel). ch.bits) same) told.why.2 in
-    absurd (some_is_some came (some (witness_due c.bits n i k positive count lt)) told.why.3)
-leaves_rejected number {d} {d'} {rs} i n {r} {out} (InvalidPowWitness j b) same ei p is some count lt told left =
-    let place : j ≡ i = told.why.0 ∙ ei in
-    let fails = subst (λ ch. WitnessFails ch d.history r d'.history) same told.why.3 in
-    inr (
-      j,
-      ap (InvalidPowWitness j) (told.why.1 ∙ ap (λ (ch : Channel). ch.bits) same),
-      record { rs = out; last = d.history; replays = rw place p; round = r; is = rw place is; test = record { fails = fails.fails; history = left ∙ fails.history } },
-    )
-leaves_rejected number i n error same ei p is some count lt told left = absurd told.why
 
 -- ---- by the result, where the replay may not have begun
 

@@ -10,12 +10,6 @@ use Rattle.sc_definitions.specs.Replays.{round_passes}
 use Rattle.sc_definitions.specs.Channels.{channel, IsSent, IsTaken, WitnessFails, NoWitnessFound}
 use Rattle.sc_definitions.specs.Seeds.{seed_words, quadratic_separator, quadratic_seed}
 use Rattle.sc_definitions.specs.Tables.{Basis}
-use Rattle.sc_definitions.proofs.ReplayLaws.{sent-pair}
-
--- the words of two values that are observed one after the other
-pub pair_sent : (E : Extension) (c q : ℕ) (h : List Event) {h₁ h₂ : List Event} → h₁ ≡ h ++ words (E.parts c) → h₂ ≡ h₁ ++ words (E.parts q) → h₂ ≡ h ++ sent E (c ∷ q ∷ [])
-pair_sent E c q h first second =
-    second ∙ ap (λ t. t ++ words (E.parts q)) first ∙ append_assoc h (words (E.parts c)) (words (E.parts q)) ∙ ap (λ t. h ++ t) (sym (sent-pair E c q))
 
 -- the words of one value more
 sent-append : (E : Extension) (xs : List ℕ) (x : ℕ) → sent E (xs ++ x ∷ []) ≡ sent E xs ++ words (E.parts x)

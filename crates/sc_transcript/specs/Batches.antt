@@ -24,7 +24,7 @@ IsStopped s before after i (NoWitness j) = (j ≡ i) × IsPlayedWithoutWitness s
 IsStopped s before after i e = ⊥
 
 -- what the rounds that a driver has left leave, by their result: all are played, with these challenges, or they stop
-abbrev pub PlaysAll : {X : Type 0} → Setting → Standing → Standing → List ℕ → Driver → Result X SumcheckError → Type 0
+abbrev pub PlaysAll : {X K : Type 0} → Setting → Standing → Standing → List ℕ → Driver K → Result X SumcheckError → Type 0
 PlaysAll s before after rs d (Ok x) = IsDone d × IsPlayed s before after rs
 PlaysAll s before after rs d (Err e) = HasRoundLeft d × IsStopped s before after d.played e
 
@@ -39,12 +39,12 @@ MovesHonestly number s before after i (Ok r) = IsRound s before after (number r)
 MovesHonestly number s before after i (Err e) = IsHalted s before after i e
 
 -- one round more was played where there is an answer, and none where there is not
-abbrev pub Counts : {X E : Type 0} → Driver → Driver → Result X E → Type 0
+abbrev pub Counts : {X E K : Type 0} → Driver K → Driver K → Result X E → Type 0
 Counts before after (Ok x) = after.played ≡ before.played + 1
 Counts before after (Err e) = after.played ≡ before.played
 
 -- a round takes no more of the room of its driver, over an extension of a degree, and of its data than its own; a refused one takes none of the data's
-abbrev pub TakesItsRoom : {X E : Type 0} → ℕ → Driver → Driver → ℕ → ℕ → Result X E → Type 0
+abbrev pub TakesItsRoom : {X E K : Type 0} → ℕ → Driver K → Driver K → ℕ → ℕ → Result X E → Type 0
 TakesItsRoom degree before after spare spare' (Ok x) = TakesRoom degree before after × (spare ≤ spare' + 1)
 TakesItsRoom degree before after spare spare' (Err e) = spare ≤ spare'
 
@@ -91,14 +91,14 @@ LeavesBatch challenges b after (Err e) = BreaksOff b after e
 -- ---- rounds of which the tables are not kept
 
 -- All rounds of a driver were played, with these challenges.
-pub record PlaysFrom (s : Setting) (start after : Standing) (rs : List ℕ) (d : Driver) : Type 0 where
+pub record PlaysFrom {K : Type 0} (s : Setting) (start after : Standing) (rs : List ℕ) (d : Driver K) : Type 0 where
   pub left : after.variables + d.played ≡ start.variables
   pub done : IsDone d
   pub played : IsPlayed s start after rs
 
 -- They stop where a driver stands, with so much on the wire; what the tables were there is not kept. For want of memory alone all rounds may have been
 -- played.
-pub record StopsFrom (s : Setting) (start : Standing) (d : Driver) (wire : Wire) (e : SumcheckError) : Type 0 where
+pub record StopsFrom {K : Type 0} (s : Setting) (start : Standing) (d : Driver K) (wire : Wire) (e : SumcheckError) : Type 0 where
   pub after : Standing
   pub history : after.history ≡ d.history
   pub wire_is : after.wire ≡ wire
@@ -127,7 +127,7 @@ abbrev pub HoldsBatch : Batch → List ℕ → Stored → Type 0
 HoldsBatch b rs stored = HoldsIfAny b.setting b.start rs stored
 
 -- What rounds leave together with those before them, from wherever these began.
-abbrev pub GoesOn : {X : Type 0} → Course → Course → Driver → Result X SumcheckError → Type 0
+abbrev pub GoesOn : {X K : Type 0} → Course → Course → Driver K → Result X SumcheckError → Type 0
 GoesOn before after d result =
     (start : Standing) → IsPlayed before.setting start before.now before.drawn → PlaysAll before.setting start after.now after.drawn d result
 

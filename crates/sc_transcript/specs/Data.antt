@@ -1,9 +1,10 @@
 -- The data of a proof, by the numbers of its elements.
-use Rattle.std.specs.Prelude.{ℕ, ◌-◌, ◌==◌, List, [], ◌∷◌, map, min, vec_len, vec_capacity, if◌then◌else◌}
+use Rattle.std.specs.Prelude.{ℕ, ◌-◌, List, [], ◌∷◌, map, min, vec_len, vec_capacity}
 use Rattle.sc_definitions.specs.Transcript.{Round}
 use Rattle.sc_definitions.specs.Replays.{given_rounds}
 use Rattle.sc_definitions.specs.Channels.{Wire}
 pub use Rattle.sc_definitions.specs.Channels.{witnesses_of}
+pub use Rattle.sc_transcript.specs.Counts.{witness_count}
 use Rattle.sc_table.specs.declared.strategy.RoundMessage.{RoundMessage}
 use Rattle.sc_transcript.specs.declared.data.SumcheckData.{SumcheckData}
 
@@ -31,7 +32,3 @@ rounds_in base number d = given_rounds (messages_in number d) (witnesses_in base
 abbrev pub spare_in : {F EF : Type 0} → SumcheckData F EF → ℕ
 spare_in d =
     min (vec_capacity d.polynomial_evaluations - vec_len d.polynomial_evaluations) (vec_capacity d.pow_witnesses - vec_len d.pow_witnesses)
-
--- how many witnesses rounds have: one each at a positive difficulty, and none without one
-abbrev pub witness_count : ℕ → ℕ → ℕ
-witness_count bits rounds = if bits == 0 then 0 else rounds

@@ -1,6 +1,10 @@
 pub mod Shapes
 pub mod Rounds
+pub mod Counts
+pub mod Walks
 pub mod Drivers
+pub mod Causes
+pub mod Transcripts
 pub mod Data
 pub mod Laws
 pub mod Replayed

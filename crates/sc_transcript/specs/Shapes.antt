@@ -7,6 +7,7 @@ use Rattle.sc_definitions.specs.Seeds.{quadratic_seed}
 use Rattle.sc_definitions.specs.Channels.{Footing, footing}
 use Rattle.sc_table.specs.Strategy.{basis_of}
 use Rattle.sc_table.specs.declared.strategy.Basis.{Basis}
+use Rattle.sc_transcript.specs.declared.driver.BatchShape.{BatchShape}
 use Rattle.sc_transcript.specs.declared.transcript.SumcheckShape.{SumcheckShape}
 
 -- the words that a batch begins with, over an extension of a degree; none for no rounds
@@ -20,6 +21,10 @@ pair_round c_a c_inf witness = round_of (c_a ∷ c_inf ∷ []) witness
 -- the shape of so many rounds, at a difficulty, in a basis
 abbrev pub shape_of : ℕ → ℕ → Basis → SumcheckShape
 shape_of num_rounds pow_bits basis = record { num_rounds = num_rounds; pow_bits = pow_bits; basis = basis }
+
+-- the numbers of its batch, whose rounds send two values each
+abbrev pub batch_of : SumcheckShape → BatchShape
+batch_of shape = record { num_rounds = shape.num_rounds; width = 2; pow_bits = shape.pow_bits }
 
 -- where a batch stands behind its seed, from a history on and under a claim
 abbrev pub seeded : ℕ → SumcheckShape → List Event → ℕ → Footing

@@ -18,7 +18,8 @@ ghost use Rattle.sc_transcript.specs.Replayed.{
 
 use crate::driver::witness_at;
 use crate::error::SumcheckError;
-use crate::transcript::{ProverTranscript, SumcheckShape, VerifierTranscript};
+use crate::replay::{CameRounds, replay};
+use crate::transcript::{ProverTranscript, SumcheckShape};
 use sc_challenger::Challenger;
 use sc_field::{ExtensionField, Field, NoMemory, with_room};
 use sc_table::{Basis, Point, RoundMessage};
@@ -36,7 +37,9 @@ pub struct SumcheckData<F, EF> {
 impl<F: Field, EF: ExtensionField<F>> SumcheckData<F, EF> {
     ghost use Rattle.sc_transcript.specs.Data.{spare_in};
     ghost use Rattle.sc_definitions.specs.Channels.{empty_wire};
-    ghost use Rattle.sc_transcript.specs.Drivers.{driver_in, Continues, HasRoundLeft, PutsRound, RefusesRound, HasRoom, TakesRoom};
+    ghost use Rattle.sc_transcript.specs.Causes.{cause_of};
+    ghost use Rattle.sc_transcript.specs.Transcripts.{driver_in};
+    ghost use Rattle.sc_transcript.specs.Drivers.{Continues, HasRoundLeft, PutsRound, RefusesRound, HasRoom, TakesRoom};
 
     /// Data without rounds.
     pub fn new(alloc: Global) -> Self
@@ -98,7 +101,7 @@ impl<F: Field, EF: ExtensionField<F>> SumcheckData<F, EF> {
         ensures continues { Continues (driver_in transcript.old) (driver_in transcript.new) }
         ensures puts { IfOk result (λ r. PutsRound EF.extension (driver_in transcript.old) (driver_in transcript.new) (EF.number c_a ∷ EF.number c_inf ∷ []) (EF.number r)
             (wire_in F.number EF.number self.old) (wire_in F.number EF.number self.new)) }
-        ensures refused { IfErr result (RefusesRound EF.extension (driver_in transcript.old) (driver_in transcript.new) (EF.number c_a ∷ EF.number c_inf ∷ [])) }
+        ensures refused { IfErr result (λ e. RefusesRound EF.extension (driver_in transcript.old) (driver_in transcript.new) (EF.number c_a ∷ EF.number c_inf ∷ []) (cause_of e)) }
         ensures kept { OnErr result (wire_in F.number EF.number self.new ≡ wire_in F.number EF.number self.old) }
         ensures has_room { 1 ≤ spare_in self.old → HasRoom EF.DEGREE (driver_in transcript.old) → result ≢ Err SumcheckError.NoMemory }
         ensures takes_room { OnOk result (TakesRoom EF.DEGREE (driver_in transcript.old) (driver_in transcript.new)) }
@@ -178,7 +181,7 @@ impl<F: Field, EF: ExtensionField<F>> SumcheckData<F, EF> {
         challenger: &mut C,
         claimed_sum: &mut EF,
         shape: SumcheckShape,
-        mut challenges: Vec<EF>,
+        challenges: Vec<EF>,
     ) -> Result<Point<EF>, SumcheckError>
         requires tested { shape.pow_bits ≤ (C.rules challenger.old).max_bits }
         requires counted { vec_len self.now.polynomial_evaluations ≡ shape.num_rounds }
@@ -190,30 +193,23 @@ impl<F: Field, EF: ExtensionField<F>> SumcheckData<F, EF> {
             (footing (C.history challenger.old) (EF.number claimed_sum.old))
             (rounds_in F.number EF.number self.now) result (footing (C.history challenger.new) (EF.number claimed_sum.new)) }
     {
-        let basis = shape.basis;
-        let mut transcript: VerifierTranscript<'_, C, F, EF> = VerifierTranscript::over(
-            challenger, shape,
-        );
-        'rounds: for i in 0..shape.num_rounds {
-            let (message, witness) = self.round_at(i);
-            match transcript.round(message.c_a, message.c_inf, witness) {
-                Ok(r) => {
-                    *claimed_sum = basis.reduce_claim(message.c_a, message.c_inf, r, *claimed_sum);
-                    challenges.push_reserved(r);
-                }
-                Err(error) => {
-                    transcript.abort();
-                    return Err(error);
-                }
-            }
-        }
-        transcript.finish();
-        Ok(Point::new(challenges))
+        let came = CameIn {
+            data: self,
+            basis: shape.basis,
+        };
+        let drawn = replay::<F, EF, C, _>(
+            &came,
+            challenger,
+            claimed_sum,
+            shape.batch(),
+            challenges,
+        )?;
+        Ok(Point::new(drawn))
     }
 
     // The values of a round, and its witness if one came.
     fn round_at(&self, i: usize) -> (RoundMessage<EF>, Option<F>)
-        requires { i < vec_len self.now.polynomial_evaluations }
+        requires { i < length (rounds_in F.number EF.number self.now) }
         ensures round { slice_get (rounds_in F.number EF.number self.now) i
             ≡ Some (pair_round (EF.number result.0.c_a) (EF.number result.0.c_inf) (option_map_or F.number result.1 0)) }
         ensures witness { i < vec_len self.now.pow_witnesses → IsSome result.1 }
@@ -244,6 +240,34 @@ impl<F: Field, EF: ExtensionField<F>> SumcheckData<F, EF> {
             return Err(SumcheckError::PowWitnessCountMismatch { expected, actual });
         }
         Ok(())
+    }
+}
+
+// The rounds of data, as their replay reads them in a basis.
+#[derive(Drop)]
+struct CameIn<'a, F, EF> {
+    data: &'a SumcheckData<F, EF>,
+    basis: Basis,
+}
+
+impl<F: Field, EF: ExtensionField<F>> CameRounds<F, EF> for CameIn<'_, F, EF> {
+    type Values = RoundMessage<EF>;
+
+    ghost rounds = { λ s. rounds_in F.number EF.number s.data.now };
+
+    ghost witnesses = { λ s. vec_len s.data.now.pow_witnesses };
+
+    ghost width = { λ _. 2 };
+
+    ghost next = { λ s. next_claim (basis_of s.basis) EF.ops };
+
+    fn round_at(&self, i: usize) -> (RoundMessage<EF>, Option<F>) {
+        self.data.round_at(i)
+    }
+
+    fn next_claim(&self, values: &RoundMessage<EF>, claim: EF, challenge: EF) -> EF {
+        self.basis
+            .reduce_claim(values.c_a, values.c_inf, challenge, claim)
     }
 }
 

@@ -1,29 +1,81 @@
-//! What every driver of rounds does with its challenger, whatever its rounds send: the steps of a round in a seed, the room that its events take, and the
-//! round itself, for the prover and for the verifier. The drivers of quadratic rounds stand on it, and so can rounds that send other values.
-ghost use Rattle.std.specs.Prelude.{◌≡◌, ◌+◌, ◌*◌, ◌<◌, ◌≤◌, ◌^◌, ◌++◌, ℕ, List, None, length, map};
-ghost use Rattle.std.specs.Prelude.{slice_index_or, IfOk, OnOk, OnErr, IsSome, true, false};
+//! What every driver of rounds does with its challenger, whatever its rounds send: the steps of a round in a seed, and the driver itself, for the prover and
+//! for the verifier. The drivers of each protocol are this one, with the shape, the values and the errors of the protocol.
+ghost use Rattle.std.specs.Prelude.{◌≡◌, ◌≢◌, ◌+◌, ◌-◌, ◌*◌, ◌<◌, ◌≤◌, ◌^◌, [], ◌∷◌, ◌++◌, ℕ, List, None, Err, length, map};
+ghost use Rattle.std.specs.Prelude.{slice_index_or, IfOk, IfErr, OnOk, OnErr, IsOk, IfSome, IsSome, Some, true, false};
 ghost use Rattle.std.specs.Option.{option_map_or};
 ghost use Rattle.sc_definitions.specs.declared.events.Event.{Event};
 ghost use Rattle.sc_definitions.specs.Events.{IsFirstWitness, NonePasses};
 ghost use Rattle.sc_definitions.specs.Transcript.{sent, witness_events, round_of};
 ghost use Rattle.sc_definitions.specs.Channels.{channel};
 ghost use Rattle.sc_definitions.specs.Seeds.{round_steps};
-ghost use Rattle.sc_transcript.specs.Rounds.{events_of, LeavesSent, LeavesTaken};
+ghost use Rattle.sc_transcript.specs.Rounds.{events_of, IsDue, LeavesSent, LeavesTaken};
 
 use sc_challenger::{
     Challenger, GrindError, Interaction, Kind, Label, Length, grind, observe_ext, sample_ext,
 };
 use sc_field::{ExtensionField, Field, NoMemory};
+use sc_table::RoundMessage;
 use thiserror::Error;
 
-/// Why a verifier does not take a round.
+/// The numbers that the rounds of a batch go by.
+#[derive(Clone, Copy, Debug, PartialEq, Eq)]
+pub struct BatchShape {
+    /// How many rounds the batch has.
+    pub num_rounds: usize,
+    /// How many values each of them sends.
+    pub width: usize,
+    /// The difficulty of each round's test in bits, or 0 for no test.
+    pub pow_bits: usize,
+}
+
+/// Why a round is not played, or not taken. Rounds are counted from 0.
 #[derive(Clone, Copy, Debug, PartialEq, Eq, Error)]
-pub enum WitnessError {
-    /// The round has a test, and no witness came.
-    #[error("no witness came")]
+pub enum RoundError {
+    /// Another number of values came than a round sends.
+    #[error("expected {expected} values in round {round}, but {actual} came")]
+    WrongWidth {
+        round: usize,
+        expected: usize,
+        actual: usize,
+    },
+    /// No element of the base field passes the test of a round that is played.
+    #[error("no witness passes in round {round}")]
+    NoWitness {
+        round: usize,
+    },
+    /// A round at a positive difficulty came without a witness.
+    #[error("round {round} came without a witness for {difficulty} bits")]
+    MissingWitness {
+        round: usize,
+        difficulty: usize,
+    },
+    /// The witness of a round that came fails its test.
+    #[error("the witness of round {round} does not pass at {difficulty} bits")]
+    InvalidWitness {
+        round: usize,
+        difficulty: usize,
+    },
+    /// A call wanted more memory than there was.
+    #[error("out of memory")]
+    NoMemory,
+}
+
+impl From<NoMemory> for RoundError {
+    ghost use Rattle.sc_transcript.specs.declared.driver.RoundError.TheVariants as errors;
+
+    ghost from_gives = { λ _ e. e ≡ errors.NoMemory };
+
+    fn from(_error: NoMemory) -> RoundError {
+        RoundError::NoMemory
+    }
+}
+
+// Why the witness of a round is not taken.
+#[derive(Clone, Copy)]
+enum WitnessError {
+    // The round has a test, and no witness came.
     Missing,
-    /// The witness fails the round's test.
-    #[error("the witness fails")]
+    // The witness fails the round's test.
     Invalid,
 }
 
@@ -59,39 +111,245 @@ pub fn push_round_steps(
     Ok(())
 }
 
-/// How many events a round appends that sends so many values, fewer than 2^32, of an extension of a degree, at most 8.
-pub fn events_in_round(degree: usize, values: usize, pow_bits: usize) -> usize
-    requires degree { degree ≤ 8 }
-    requires few { values < 2 ^ 32 }
-    ensures { result ≡ events_of degree values pow_bits }
-{
-    let words = (values + 1) * degree;
-    if pow_bits == 0 { words } else { words + 2 }
+/// What a round sends, as its driver reads it: several values in order.
+pub trait RoundValues<EF: Field> {
+    // The values.
+    ghost list: { Self → List EF };
+
+    /// How many there are.
+    fn count(&self) -> usize
+        ensures { result ≡ length (list self.now) };
+
+    /// One of them.
+    fn at(&self, i: usize) -> EF
+        requires { i < length (list self.now) }
+        ensures { result ≡ slice_index_or (list self.now) i result };
 }
 
-/// Absorbs values in order, each part after part. There is room for them, and no more is taken.
-pub fn observe_values<F: Field, EF: ExtensionField<F>, C: Challenger<F>>(
-    challenger: &mut C,
-    values: &[EF],
-)
-    requires { length values.now * EF.DEGREE ≤ C.spare challenger.old }
-    ensures rules { C.rules challenger.new ≡ C.rules challenger.old }
-    ensures history { C.history challenger.new
-        ≡ C.history challenger.old ++ sent EF.extension (map EF.number values.now) }
-    ensures spare { C.spare challenger.old
-        ≤ C.spare challenger.new + length values.now * EF.DEGREE }
-{
-    for i in 0..values.len() {
-        observe_ext::<F, EF, C>(challenger, values[i]).unwrap();
+impl<EF: Field> RoundValues<EF> for &[EF] {
+    ghost list = { λ s. s.now };
+
+    fn count(&self) -> usize {
+        self.len()
+    }
+
+    fn at(&self, i: usize) -> EF {
+        self[i]
     }
 }
 
-/// Ends a round whose values were absorbed: at a positive difficulty appends the first witness that passes and its test, and draws the challenge. There is
-/// room for these events, and no more is taken. The difficulty is at most the challenger's [`Challenger::max_bits`].
-///
-/// The answer is the challenge and the witness, or none exactly where the difficulty is positive and no element of the base field passes; the history
-/// then ends with the values.
-pub fn send_rest<F: Field, EF: ExtensionField<F>, C: Challenger<F>>(
+impl<EF: Field> RoundValues<EF> for RoundMessage<EF> {
+    ghost list = { λ m. m.c_a ∷ m.c_inf ∷ [] };
+
+    fn count(&self) -> usize {
+        2
+    }
+
+    fn at(&self, i: usize) -> EF {
+        if i == 0 { self.c_a } else { self.c_inf }
+    }
+}
+
+/// The rounds of a batch under way, which a driver holds beside its challenger: the batch's numbers, what the protocol keeps with them as its kind, and how
+/// many rounds were played. They are played over the challenger that is passed, of which the difficulty is at most its [`Challenger::max_bits`].
+#[derive(Clone, Copy)]
+pub struct Rounds<K> {
+    shape: BatchShape,
+    kind: K,
+    // how many were played
+    played: usize,
+}
+
+impl<K: Copy> Rounds<K> {
+    ghost use Rattle.sc_transcript.specs.Drivers.{driver_at, IsUnplayed, Continues, PlaysRound, RefusesRound, TakesRound, RejectsRound, HasRoom, TakesRoom};
+
+    /// Those of a batch of which none was played.
+    pub fn new(shape: BatchShape, kind: K) -> Self
+        ensures { IsUnplayed shape kind result }
+    {
+        Rounds {
+            shape,
+            kind,
+            played: 0,
+        }
+    }
+
+    /// Plays a round: absorbs the values, at a positive difficulty appends the first witness that passes and its test, and draws the challenge.
+    ///
+    /// `NoWitness` comes exactly where the difficulty is positive and no element of the base field passes; the history then ends with the values. After
+    /// `NoMemory` the history is as it was. After either the round is still to be played. Of fewer than 2^32 values a round, `NoMemory` comes only where
+    /// the challenger has no room for its events.
+    pub fn play<F: Field, EF: ExtensionField<F>, C: Challenger<F>, V: RoundValues<EF>>(
+        &mut self,
+        challenger: &mut C,
+        values: &V,
+    ) -> Result<(EF, Option<F>), RoundError>
+        requires difficulty { self.old.shape.pow_bits ≤ (C.rules challenger.old).max_bits }
+        requires left { self.old.played < self.old.shape.num_rounds }
+        requires width { length (V.list values.now) ≡ self.old.shape.width }
+        ensures continues { Continues (driver_at C.rules C.history C.spare F.ops.size challenger.entry self.old)
+            (driver_at C.rules C.history C.spare F.ops.size challenger.exit self.new) }
+        ensures plays { IfOk result (λ x. PlaysRound EF.extension (driver_at C.rules C.history C.spare F.ops.size challenger.entry self.old)
+            (driver_at C.rules C.history C.spare F.ops.size challenger.exit self.new)
+            (round_of (map EF.number (V.list values.now)) (option_map_or F.number x.1 0)) (EF.number x.0)) }
+        ensures due { IfOk result (λ x. IsDue self.old.shape.pow_bits x.1) }
+        ensures refused { IfErr result (λ e. RefusesRound EF.extension (driver_at C.rules C.history C.spare F.ops.size challenger.entry self.old)
+            (driver_at C.rules C.history C.spare F.ops.size challenger.exit self.new) (map EF.number (V.list values.now)) (Some e)) }
+        ensures has_room { self.old.shape.width < 2 ^ 32 → HasRoom EF.DEGREE (driver_at C.rules C.history C.spare F.ops.size challenger.entry self.old)
+            → result ≢ Err RoundError.NoMemory }
+        ensures takes_room { OnOk result (TakesRoom EF.DEGREE (driver_at C.rules C.history C.spare F.ops.size challenger.entry self.old)
+            (driver_at C.rules C.history C.spare F.ops.size challenger.exit self.new)) }
+    {
+        prove!(self.played < self.shape.num_rounds);
+        let pow_bits = self.shape.pow_bits;
+        make_room::<F, EF, C>(challenger, self.shape.width, pow_bits)?;
+        observe_values::<F, EF, C, V>(challenger, values);
+        let Some(sent) = send_rest::<F, EF, C>(challenger, pow_bits) else {
+            return Err(RoundError::NoWitness { round: self.played });
+        };
+        self.played += 1;
+        Ok(sent)
+    }
+
+    /// Takes a round that came: absorbs the values, at a positive difficulty tests the witness, and draws the challenge. At difficulty 0 a witness is
+    /// ignored.
+    ///
+    /// `WrongWidth` comes exactly where there are more or fewer values than a round sends, before any event, and leaves the history as it was.
+    /// `MissingWitness` comes exactly where the difficulty is positive and no witness came; the history then ends with the values. `InvalidWitness`
+    /// comes exactly where the witness fails; the history then ends with its word and its test. After `NoMemory`, which comes as it does from
+    /// [`Rounds::play`], the history is as it was. After each of them the round is still to be taken.
+    pub fn take<F: Field, EF: ExtensionField<F>, C: Challenger<F>, V: RoundValues<EF>>(
+        &mut self,
+        challenger: &mut C,
+        values: &V,
+        witness: Option<F>,
+    ) -> Result<EF, RoundError>
+        requires difficulty { self.old.shape.pow_bits ≤ (C.rules challenger.old).max_bits }
+        requires left { self.old.played < self.old.shape.num_rounds }
+        ensures continues { Continues (driver_at C.rules C.history C.spare F.ops.size challenger.entry self.old)
+            (driver_at C.rules C.history C.spare F.ops.size challenger.exit self.new) }
+        ensures takes { IfOk result (λ x. TakesRound EF.extension (driver_at C.rules C.history C.spare F.ops.size challenger.entry self.old)
+            (driver_at C.rules C.history C.spare F.ops.size challenger.exit self.new)
+            (round_of (map EF.number (V.list values.now)) (option_map_or F.number witness 0)) (EF.number x)) }
+        ensures given { OnOk result (0 < self.old.shape.pow_bits → IsSome witness) }
+        ensures rejected { IfErr result (λ e. RejectsRound EF.extension (driver_at C.rules C.history C.spare F.ops.size challenger.entry self.old)
+            (driver_at C.rules C.history C.spare F.ops.size challenger.exit self.new)
+            (round_of (map EF.number (V.list values.now)) (option_map_or F.number witness 0)) witness (Some e)) }
+        ensures has_room { self.old.shape.width < 2 ^ 32 → HasRoom EF.DEGREE (driver_at C.rules C.history C.spare F.ops.size challenger.entry self.old)
+            → result ≢ Err RoundError.NoMemory }
+        ensures takes_room { OnOk result (TakesRoom EF.DEGREE (driver_at C.rules C.history C.spare F.ops.size challenger.entry self.old)
+            (driver_at C.rules C.history C.spare F.ops.size challenger.exit self.new)) }
+    {
+        prove!(self.played < self.shape.num_rounds);
+        let round = self.played;
+        let BatchShape {
+            num_rounds: _,
+            width,
+            pow_bits,
+        } = self.shape;
+        if values.count() != width {
+            return Err(RoundError::WrongWidth {
+                round,
+                expected: width,
+                actual: values.count(),
+            });
+        }
+        make_room::<F, EF, C>(challenger, width, pow_bits)?;
+        observe_values::<F, EF, C, V>(challenger, values);
+        match take_rest::<F, EF, C>(challenger, witness, pow_bits) {
+            Ok(challenge) => {
+                self.played += 1;
+                Ok(challenge)
+            }
+            Err(WitnessError::Missing) => Err(RoundError::MissingWitness {
+                round,
+                difficulty: pow_bits,
+            }),
+            Err(WitnessError::Invalid) => Err(RoundError::InvalidWitness {
+                round,
+                difficulty: pow_bits,
+            }),
+        }
+    }
+
+    /// The numbers of the batch.
+    pub fn shape(&self) -> BatchShape
+        ensures { result ≡ self.now.shape }
+    {
+        self.shape
+    }
+
+    /// What the protocol keeps with the batch.
+    pub fn kind(&self) -> K
+        ensures { result ≡ self.now.kind }
+    {
+        self.kind
+    }
+
+    /// How many rounds are still to be played.
+    pub fn left(&self) -> usize
+        requires { self.now.played ≤ self.now.shape.num_rounds }
+        ensures { result ≡ self.now.shape.num_rounds - self.now.played }
+    {
+        self.shape.num_rounds - self.played
+    }
+}
+
+// Makes room for the events of a round that sends so many values. More events than can be counted are never asked for.
+fn make_room<F: Field, EF: ExtensionField<F>, C: Challenger<F>>(
+    challenger: &mut C,
+    values: usize,
+    pow_bits: usize,
+) -> Result<(), NoMemory>
+    ensures rules { C.rules challenger.new ≡ C.rules challenger.old }
+    ensures history { C.history challenger.new ≡ C.history challenger.old }
+    ensures ok { OnOk result (events_of EF.DEGREE values pow_bits ≤ C.spare challenger.new) }
+    ensures never_lowers { C.spare challenger.old ≤ C.spare challenger.new }
+    ensures has_room { values < 2 ^ 32 → events_of EF.DEGREE values pow_bits ≤ C.spare challenger.old → IsOk result }
+{
+    let Some(events) = events_in_round(EF::DEGREE, values, pow_bits) else {
+        return Err(NoMemory);
+    };
+    challenger.reserve(events)
+}
+
+// How many events a round appends that sends so many values of an extension of a degree, where a `usize` holds that many: it does for fewer than 2^32
+// values of a degree of at most 8.
+fn events_in_round(degree: usize, values: usize, pow_bits: usize) -> Option<usize>
+    ensures number { IfSome result (λ n. n ≡ events_of degree values pow_bits) }
+    ensures some { degree ≤ 8 → values < 2 ^ 32 → IsSome result }
+{
+    let words = values.checked_add(1)?.checked_mul(degree)?;
+    if pow_bits == 0 {
+        Some(words)
+    } else {
+        words.checked_add(2)
+    }
+}
+
+// Absorbs values in order, each part after part. There is room for them, and no more is taken.
+fn observe_values<F: Field, EF: ExtensionField<F>, C: Challenger<F>, V: RoundValues<EF>>(
+    challenger: &mut C,
+    values: &V,
+)
+    requires { length (V.list values.now) * EF.DEGREE ≤ C.spare challenger.old }
+    ensures rules { C.rules challenger.new ≡ C.rules challenger.old }
+    ensures history { C.history challenger.new
+        ≡ C.history challenger.old ++ sent EF.extension (map EF.number (V.list values.now)) }
+    ensures spare { C.spare challenger.old
+        ≤ C.spare challenger.new + length (V.list values.now) * EF.DEGREE }
+{
+    for i in 0..values.count() {
+        observe_ext::<F, EF, C>(challenger, values.at(i)).unwrap();
+    }
+}
+
+// Ends a round whose values were absorbed: at a positive difficulty appends the first witness that passes and its test, and draws the challenge. There is
+// room for these events, and no more is taken. The difficulty is at most the challenger's `max_bits`.
+//
+// The answer is the challenge and the witness, or none exactly where the difficulty is positive and no element of the base field passes; the history
+// then ends with the values.
+fn send_rest<F: Field, EF: ExtensionField<F>, C: Challenger<F>>(
     challenger: &mut C,
     pow_bits: usize,
 ) -> Option<(EF, Option<F>)>
@@ -109,12 +367,12 @@ pub fn send_rest<F: Field, EF: ExtensionField<F>, C: Challenger<F>>(
     Some((challenge, witness))
 }
 
-/// Ends a round that came and whose values were absorbed: at a positive difficulty tests the witness, and draws the challenge. At difficulty 0 a witness is
-/// ignored. There is room for these events, and no more is taken. The difficulty is at most the challenger's [`Challenger::max_bits`].
-///
-/// `Missing` comes exactly where the difficulty is positive and no witness came; the history then ends with the values. `Invalid` comes exactly where the
-/// witness fails; the history then ends with its word and its test.
-pub fn take_rest<F: Field, EF: ExtensionField<F>, C: Challenger<F>>(
+// Ends a round that came and whose values were absorbed: at a positive difficulty tests the witness, and draws the challenge. At difficulty 0 a witness is
+// ignored. There is room for these events, and no more is taken. The difficulty is at most the challenger's `max_bits`.
+//
+// `Missing` comes exactly where the difficulty is positive and no witness came; the history then ends with the values. `Invalid` comes exactly where the
+// witness fails; the history then ends with its word and its test.
+fn take_rest<F: Field, EF: ExtensionField<F>, C: Challenger<F>>(
     challenger: &mut C,
     witness: Option<F>,
     pow_bits: usize,

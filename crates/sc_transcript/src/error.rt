@@ -1,4 +1,5 @@
 //! What a sumcheck refuses.
+use crate::driver::RoundError;
 use sc_field::NoMemory;
 use thiserror::Error;
 
@@ -79,5 +80,36 @@ impl From<NoMemory> for SumcheckError {
 
     fn from(_error: NoMemory) -> SumcheckError {
         SumcheckError::NoMemory
+    }
+}
+
+impl From<RoundError> for SumcheckError {
+    ghost use Rattle.std.specs.Prelude.{◌≡◌};
+    ghost use Rattle.sc_transcript.specs.Causes.{told_as};
+
+    ghost from_gives = { λ of e. e ≡ told_as of };
+
+    fn from(error: RoundError) -> SumcheckError {
+        match error {
+            RoundError::WrongWidth {
+                round,
+                expected,
+                actual,
+            } => SumcheckError::WireSizeMismatch {
+                round,
+                expected,
+                actual,
+            },
+            RoundError::NoWitness { round } => SumcheckError::NoWitness { round },
+            RoundError::MissingWitness { round, difficulty } => SumcheckError::MissingPowWitness {
+                round,
+                difficulty,
+            },
+            RoundError::InvalidWitness { round, difficulty } => SumcheckError::InvalidPowWitness {
+                round,
+                difficulty,
+            },
+            RoundError::NoMemory => SumcheckError::NoMemory,
+        }
     }
 }

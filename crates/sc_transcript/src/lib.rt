@@ -8,6 +8,7 @@ mod data;
 pub mod driver;
 mod error;
 mod laws;
+pub mod replay;
 mod transcript;
 
 pub use data::{SumcheckData, verify_final_sumcheck_rounds};

@@ -2,20 +2,20 @@
 //!
 //! A batch begins with a seed, which tells its protocol, its number of rounds, its difficulty and its basis from others. Each round then absorbs the
 //! two values that it sends, at a positive difficulty a witness with its test, and draws a challenge. A batch of no rounds absorbs and draws nothing.
-ghost use Rattle.std.specs.Prelude.{◌≡◌, ◌≢◌, ◌+◌, ◌-◌, ◌*◌, ◌<◌, ◌≤◌, [], ◌∷◌, ◌++◌, Err, length, IfOk, IfErr, OnOk, OnErr, IsSome};
+ghost use Rattle.std.specs.Prelude.{◌≡◌, ◌≢◌, ◌+◌, ◌-◌, ◌<◌, ◌≤◌, [], ◌∷◌, ◌++◌, Err, length, IfOk, IfErr, OnOk, OnErr, IsSome};
 ghost use Rattle.std.specs.Option.{option_map_or};
 ghost use Rattle.sc_definitions.specs.Events.{words};
-ghost use Rattle.sc_definitions.specs.Transcript.{sent};
 ghost use Rattle.sc_definitions.specs.Seeds.{basis_byte, quadratic_separator, rounds_steps};
 ghost use Rattle.sc_table.specs.Strategy.{basis_of};
-ghost use Rattle.sc_transcript.specs.Shapes.{seed_of, pair_round};
+ghost use Rattle.sc_transcript.specs.Shapes.{seed_of, pair_round, batch_of};
 ghost use Rattle.sc_transcript.specs.Rounds.{IsDue};
+ghost use Rattle.sc_transcript.specs.Causes.{cause_of};
 
-use crate::driver::{WitnessError, events_in_round, push_round_steps, send_rest, take_rest};
+use crate::driver::{BatchShape, Rounds, push_round_steps};
 use crate::error::SumcheckError;
-use sc_challenger::{Challenger, DomainSeparator, InteractionPattern, Protocol, observe_ext};
+use sc_challenger::{Challenger, DomainSeparator, InteractionPattern, Protocol};
 use sc_field::{ExtensionField, Field, NoMemory};
-use sc_table::Basis;
+use sc_table::{Basis, RoundMessage};
 use std::alloc::Global;
 use std::marker::PhantomData;
 
@@ -45,6 +45,17 @@ impl SumcheckShape {
             num_rounds,
             pow_bits,
             basis,
+        }
+    }
+
+    // The numbers of its batch.
+    pub(crate) fn batch(&self) -> BatchShape
+        ensures { result ≡ batch_of self.now }
+    {
+        BatchShape {
+            num_rounds: self.num_rounds,
+            width: VALUES_PER_ROUND,
+            pow_bits: self.pow_bits,
         }
     }
 
@@ -108,42 +119,27 @@ fn basis_label(basis: Basis) -> u8
     }
 }
 
-// Absorbs the two values of a round. There is room for them.
-fn observe_pair<F: Field, EF: ExtensionField<F>, C: Challenger<F>>(
-    challenger: &mut C,
-    c_a: EF,
-    c_inf: EF,
-)
-    requires { 2 * EF.DEGREE ≤ C.spare challenger.old }
-    ensures rules { C.rules challenger.new ≡ C.rules challenger.old }
-    ensures history { C.history challenger.new ≡ C.history challenger.old ++ sent EF.extension (EF.number c_a ∷ EF.number c_inf ∷ []) }
-    ensures spare { C.spare challenger.old ≤ C.spare challenger.new + 2 * EF.DEGREE }
-{
-    observe_ext::<F, EF, C>(challenger, c_a).unwrap();
-    observe_ext::<F, EF, C>(challenger, c_inf).unwrap();
-}
-
 /// The prover's side of a batch. It borrows the challenger, and must be spent by [`ProverTranscript::finish`] or [`ProverTranscript::abort`], which hand
 /// the challenger back as it then is.
 pub struct ProverTranscript<'a, C: Challenger<F>, F: Field, EF> {
     challenger: &'a mut C,
-    shape: SumcheckShape,
-    // how many rounds were played
-    played: usize,
+    rounds: Rounds<Basis>,
     of: PhantomData<(F, EF)>,
-    ghost tested: { shape.pow_bits ≤ (C.rules challenger.now).max_bits },
-    ghost counted: { played ≤ shape.num_rounds },
+    ghost tested: { rounds.shape.pow_bits ≤ (C.rules challenger.now).max_bits },
+    ghost counted: { rounds.played ≤ rounds.shape.num_rounds },
+    ghost pairs: { rounds.shape.width ≡ 2 },
 }
 
 impl<'a, C: Challenger<F>, F: Field, EF: ExtensionField<F>> ProverTranscript<'a, C, F, EF> {
-    ghost use Rattle.sc_transcript.specs.Drivers.{driver_in, challenger_in, unbegun, Continues, IsLent, IsFresh, IsSeeded, HasRoundLeft, IsDone, PlaysRound, RefusesRound, HasRoom, TakesRoom};
+    ghost use Rattle.sc_transcript.specs.Transcripts.{driver_in, challenger_in, unbegun, shape_in};
+    ghost use Rattle.sc_transcript.specs.Drivers.{Continues, IsLent, IsFresh, IsBegun, HasRoundLeft, IsDone, PlaysRound, RefusesRound, HasRoom, TakesRoom};
 
     /// Begins a batch: the seed's words are observed, or nothing for no rounds. No more of the challenger's room is taken than they need.
     ///
     /// The difficulty is at most the challenger's [`Challenger::max_bits`].
     pub fn new(alloc: Global, challenger: &'a mut C, shape: SumcheckShape) -> Result<Self, NoMemory>
         requires { shape.pow_bits ≤ (C.rules challenger.old).max_bits }
-        ensures { IfOk result (λ t. IsSeeded EF.DEGREE (unbegun t challenger.entry shape) (driver_in t)) }
+        ensures { IfOk result (λ t. IsBegun (words (seed_of EF.DEGREE shape)) (unbegun t challenger.entry shape) (driver_in t)) }
     {
         shape.seed::<F, EF, C>(alloc, challenger)?;
         Ok(ProverTranscript::over(challenger, shape))
@@ -154,12 +150,11 @@ impl<'a, C: Challenger<F>, F: Field, EF: ExtensionField<F>> ProverTranscript<'a,
     pub fn over(challenger: &'a mut C, shape: SumcheckShape) -> Self
         requires { shape.pow_bits ≤ (C.rules challenger.old).max_bits }
         ensures lent { IsLent challenger.entry (challenger_in result) }
-        ensures fresh { IsFresh shape (driver_in result) }
+        ensures fresh { IsFresh (batch_of shape) shape.basis (driver_in result) }
     {
         ProverTranscript {
             challenger,
-            shape,
-            played: 0,
+            rounds: Rounds::new(shape.batch(), shape.basis),
             of: PhantomData,
         }
     }
@@ -174,34 +169,33 @@ impl<'a, C: Challenger<F>, F: Field, EF: ExtensionField<F>> ProverTranscript<'a,
         ensures plays { IfOk result (λ x. PlaysRound EF.extension (driver_in self.old) (driver_in self.new)
             (pair_round (EF.number c_a) (EF.number c_inf) (option_map_or F.number x.1 0)) (EF.number x.0)) }
         ensures due { IfOk result (λ x. IsDue (driver_in self.old).shape.pow_bits x.1) }
-        ensures refused { IfErr result (RefusesRound EF.extension (driver_in self.old) (driver_in self.new) (EF.number c_a ∷ EF.number c_inf ∷ [])) }
+        ensures refused { IfErr result (λ e. RefusesRound EF.extension (driver_in self.old) (driver_in self.new) (EF.number c_a ∷ EF.number c_inf ∷ []) (cause_of e)) }
         ensures has_room { HasRoom EF.DEGREE (driver_in self.old) → result ≢ Err SumcheckError.NoMemory }
         ensures takes_room { OnOk result (TakesRoom EF.DEGREE (driver_in self.old) (driver_in self.new)) }
     {
-        prove!(self.played < self.shape.num_rounds);
-        let pow_bits = self.shape.pow_bits;
-        self.challenger
-            .reserve(events_in_round(EF::DEGREE, VALUES_PER_ROUND, pow_bits))?;
-        observe_pair::<F, EF, C>(self.challenger, c_a, c_inf);
-        let Some(sent) = send_rest::<F, EF, C>(self.challenger, pow_bits) else {
-            return Err(SumcheckError::NoWitness { round: self.played });
-        };
-        self.played += 1;
-        Ok(sent)
+        Ok(
+            self.rounds
+                .play(self.challenger, &RoundMessage { c_a, c_inf })?,
+        )
     }
 
     /// The numbers that the batch was begun with.
     pub fn shape(&self) -> SumcheckShape
-        ensures { result ≡ (driver_in self.now).shape }
+        ensures { result ≡ shape_in (driver_in self.now) }
     {
-        self.shape
+        let batch = self.rounds.shape();
+        SumcheckShape {
+            num_rounds: batch.num_rounds,
+            pow_bits: batch.pow_bits,
+            basis: self.rounds.kind(),
+        }
     }
 
     /// How many rounds are still to be played.
     pub fn rounds_left(&self) -> usize
         ensures { result ≡ (driver_in self.now).shape.num_rounds - (driver_in self.now).played }
     {
-        self.shape.num_rounds - self.played
+        self.rounds.left()
     }
 
     /// Ends a batch of which every round was played. The challenger stays as it is.
@@ -211,8 +205,7 @@ impl<'a, C: Challenger<F>, F: Field, EF: ExtensionField<F>> ProverTranscript<'a,
     {
         let ProverTranscript {
             challenger: _,
-            shape: _,
-            played: _,
+            rounds: _,
             of: _,
         } = self;
     }
@@ -223,8 +216,7 @@ impl<'a, C: Challenger<F>, F: Field, EF: ExtensionField<F>> ProverTranscript<'a,
     {
         let ProverTranscript {
             challenger: _,
-            shape: _,
-            played: _,
+            rounds: _,
             of: _,
         } = self;
     }
@@ -234,23 +226,23 @@ impl<'a, C: Challenger<F>, F: Field, EF: ExtensionField<F>> ProverTranscript<'a,
 /// which hand the challenger back as it then is.
 pub struct VerifierTranscript<'a, C: Challenger<F>, F: Field, EF> {
     challenger: &'a mut C,
-    shape: SumcheckShape,
-    // how many rounds were played
-    played: usize,
+    rounds: Rounds<Basis>,
     of: PhantomData<(F, EF)>,
-    ghost tested: { shape.pow_bits ≤ (C.rules challenger.now).max_bits },
-    ghost counted: { played ≤ shape.num_rounds },
+    ghost tested: { rounds.shape.pow_bits ≤ (C.rules challenger.now).max_bits },
+    ghost counted: { rounds.played ≤ rounds.shape.num_rounds },
+    ghost pairs: { rounds.shape.width ≡ 2 },
 }
 
 impl<'a, C: Challenger<F>, F: Field, EF: ExtensionField<F>> VerifierTranscript<'a, C, F, EF> {
-    ghost use Rattle.sc_transcript.specs.Drivers.{replayer_in, lent_to_replayer, unbegun_replayer, Continues, IsLent, IsFresh, IsSeeded, HasRoundLeft, IsDone, TakesRound, RejectsRound, HasRoom, TakesRoom};
+    ghost use Rattle.sc_transcript.specs.Transcripts.{replayer_in, lent_to_replayer, unbegun_replayer, shape_in};
+    ghost use Rattle.sc_transcript.specs.Drivers.{Continues, IsLent, IsFresh, IsBegun, HasRoundLeft, IsDone, TakesRound, RejectsRound, HasRoom, TakesRoom};
 
     /// Begins a batch: the seed's words are observed, or nothing for no rounds. No more of the challenger's room is taken than they need.
     ///
     /// The difficulty is at most the challenger's [`Challenger::max_bits`].
     pub fn new(alloc: Global, challenger: &'a mut C, shape: SumcheckShape) -> Result<Self, NoMemory>
         requires { shape.pow_bits ≤ (C.rules challenger.old).max_bits }
-        ensures { IfOk result (λ t. IsSeeded EF.DEGREE (unbegun_replayer t challenger.entry shape) (replayer_in t)) }
+        ensures { IfOk result (λ t. IsBegun (words (seed_of EF.DEGREE shape)) (unbegun_replayer t challenger.entry shape) (replayer_in t)) }
     {
         shape.seed::<F, EF, C>(alloc, challenger)?;
         Ok(VerifierTranscript::over(challenger, shape))
@@ -261,12 +253,11 @@ impl<'a, C: Challenger<F>, F: Field, EF: ExtensionField<F>> VerifierTranscript<'
     pub fn over(challenger: &'a mut C, shape: SumcheckShape) -> Self
         requires { shape.pow_bits ≤ (C.rules challenger.old).max_bits }
         ensures lent { IsLent challenger.entry (lent_to_replayer result) }
-        ensures fresh { IsFresh shape (replayer_in result) }
+        ensures fresh { IsFresh (batch_of shape) shape.basis (replayer_in result) }
     {
         VerifierTranscript {
             challenger,
-            shape,
-            played: 0,
+            rounds: Rounds::new(shape.batch(), shape.basis),
             of: PhantomData,
         }
     }
@@ -282,45 +273,34 @@ impl<'a, C: Challenger<F>, F: Field, EF: ExtensionField<F>> VerifierTranscript<'
         ensures takes { IfOk result (λ x. TakesRound EF.extension (replayer_in self.old) (replayer_in self.new)
             (pair_round (EF.number c_a) (EF.number c_inf) (option_map_or F.number witness 0)) (EF.number x)) }
         ensures given { OnOk result (0 < (replayer_in self.old).shape.pow_bits → IsSome witness) }
-        ensures rejected { IfErr result (RejectsRound EF.extension (replayer_in self.old) (replayer_in self.new)
-            (pair_round (EF.number c_a) (EF.number c_inf) (option_map_or F.number witness 0)) witness) }
+        ensures rejected { IfErr result (λ e. RejectsRound EF.extension (replayer_in self.old) (replayer_in self.new)
+            (pair_round (EF.number c_a) (EF.number c_inf) (option_map_or F.number witness 0)) witness (cause_of e)) }
         ensures has_room { HasRoom EF.DEGREE (replayer_in self.old) → result ≢ Err SumcheckError.NoMemory }
         ensures takes_room { OnOk result (TakesRoom EF.DEGREE (replayer_in self.old) (replayer_in self.new)) }
     {
-        prove!(self.played < self.shape.num_rounds);
-        let round = self.played;
-        let difficulty = self.shape.pow_bits;
-        self.challenger
-            .reserve(events_in_round(EF::DEGREE, VALUES_PER_ROUND, difficulty))?;
-        observe_pair::<F, EF, C>(self.challenger, c_a, c_inf);
-        match take_rest::<F, EF, C>(self.challenger, witness, difficulty) {
-            Ok(challenge) => {
-                self.played += 1;
-                Ok(challenge)
-            }
-            Err(WitnessError::Missing) => Err(SumcheckError::MissingPowWitness {
-                round,
-                difficulty,
-            }),
-            Err(WitnessError::Invalid) => Err(SumcheckError::InvalidPowWitness {
-                round,
-                difficulty,
-            }),
-        }
+        Ok(
+            self.rounds
+                .take(self.challenger, &RoundMessage { c_a, c_inf }, witness)?,
+        )
     }
 
     /// The numbers that the batch was begun with.
     pub fn shape(&self) -> SumcheckShape
-        ensures { result ≡ (replayer_in self.now).shape }
+        ensures { result ≡ shape_in (replayer_in self.now) }
     {
-        self.shape
+        let batch = self.rounds.shape();
+        SumcheckShape {
+            num_rounds: batch.num_rounds,
+            pow_bits: batch.pow_bits,
+            basis: self.rounds.kind(),
+        }
     }
 
     /// How many rounds are still to be played.
     pub fn rounds_left(&self) -> usize
         ensures { result ≡ (replayer_in self.now).shape.num_rounds - (replayer_in self.now).played }
     {
-        self.shape.num_rounds - self.played
+        self.rounds.left()
     }
 
     /// Ends a batch of which every round was played. The challenger stays as it is.
@@ -330,8 +310,7 @@ impl<'a, C: Challenger<F>, F: Field, EF: ExtensionField<F>> VerifierTranscript<'
     {
         let VerifierTranscript {
             challenger: _,
-            shape: _,
-            played: _,
+            rounds: _,
             of: _,
         } = self;
     }
@@ -342,8 +321,7 @@ impl<'a, C: Challenger<F>, F: Field, EF: ExtensionField<F>> VerifierTranscript<'
     {
         let VerifierTranscript {
             challenger: _,
-            shape: _,
-            played: _,
+            rounds: _,
             of: _,
         } = self;
     }

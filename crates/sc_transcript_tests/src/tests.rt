@@ -1,6 +1,7 @@
 //! Drivers, data and replays, by figures by hand and from a script that is no part of this.
 ghost use Rattle.std.specs.Prelude.{◌≡◌, ◌+◌, ◌<◌, ◌≤◌, OnOk};
-ghost use Rattle.sc_transcript.specs.Drivers.{driver_in, Continues, HasRoundsLeft};
+ghost use Rattle.sc_transcript.specs.Drivers.{Continues, HasRoundsLeft};
+ghost use Rattle.sc_transcript.specs.Transcripts.{driver_in};
 
 mod driver;
 mod shapes;

@@ -1,4 +1,4 @@
-use Rattle.std.proofs.Common.{refl, ◌∙◌, arith}
+use Rattle.std.proofs.Common.{◌<◌, refl, subst, ◌∙◌, arith}
 use Rattle.sc_transcript.proofs.RoundWords.{sent_none, sent_more}
 use Rattle.sc_transcript.proofs.driver.observe_values.Goals as goal
 
@@ -20,7 +20,8 @@ loop-i-preserved g c =
     let before = c.loop-i.invariant in
     record {
       rules = told.rules ∙ before.rules;
-      history = sent_more g.EF.ExtensionField.extension g.EF.Field.number c.args.values.now c.loop-i.i _ _ _ _ c.loop-i-test.true c.index-values-i.is before.history appended;
+      history = sent_more g.EF.ExtensionField.extension g.EF.Field.number (g.V.RoundValues.list c.args.values.now) c.loop-i.i _ _ _ _
+          (subst (λ n. c.loop-i.i < n) c.count-i-end.ensures c.loop-i-test.true) c.at.ensures before.history appended;
       room = omega (arith, before.room, left);
       spare = omega (arith, before.spare, left);
     }

@@ -9,7 +9,7 @@ invariant-loop-i g l =
     record {
       rules : c.rules l.challenger ≡ c.rules l.initial.challenger;
       history : c.history l.challenger
-          ≡ c.history l.initial.challenger ++ sent g.EF.ExtensionField.extension (map g.EF.Field.number (take l.i l.values));
-      room : length l.values * parts ≤ c.spare l.challenger + l.i * parts;
+          ≡ c.history l.initial.challenger ++ sent g.EF.ExtensionField.extension (map g.EF.Field.number (take l.i (g.V.RoundValues.list l.values)));
+      room : length (g.V.RoundValues.list l.values) * parts ≤ c.spare l.challenger + l.i * parts;
       spare : c.spare l.initial.challenger ≤ c.spare l.challenger + l.i * parts;
     }

@@ -1,0 +1,81 @@
+//! The replay of rounds that came, whatever they send: each is taken in its turn, and folds a claim.
+ghost use Rattle.std.specs.Prelude.{◌≡◌, ℕ, ◌<◌, ◌≤◌, [], List, Some, IsSome, length, map, vec_capacity};
+ghost use Rattle.std.specs.List.{slice_get};
+ghost use Rattle.std.specs.Option.{option_map_or};
+ghost use Rattle.sc_definitions.specs.Transcript.{Round, round_of};
+ghost use Rattle.sc_definitions.specs.Channels.{channel, footing};
+ghost use Rattle.sc_transcript.specs.Counts.{witness_count};
+ghost use Rattle.sc_transcript.specs.Walks.{walk, LeavesWalk};
+
+use crate::driver::{BatchShape, RoundError, RoundValues, Rounds};
+use sc_challenger::Challenger;
+use sc_field::{ExtensionField, Field};
+
+/// Rounds that came, as their replay reads them.
+pub trait CameRounds<F: Field, EF: ExtensionField<F>> {
+    /// What one of them sends.
+    type Values: RoundValues<EF> + Copy;
+
+    // The rounds; the witness of one is 0 where none came.
+    ghost rounds: { Self → List Round };
+
+    // How many witnesses came.
+    ghost witnesses: { Self → ℕ };
+
+    // How many values a round is to send.
+    ghost width: { Self → ℕ };
+
+    // What a round leaves of a claim, by the claim, its values and its challenge.
+    ghost next: { Self → ℕ → List ℕ → ℕ → ℕ };
+
+    /// The values of a round, and its witness if one came.
+    fn round_at(&self, i: usize) -> (Self::Values, Option<F>)
+        requires { i < length (rounds self.now) }
+        ensures round { slice_get (rounds self.now) i
+            ≡ Some (round_of (map EF.number (Self.Values.list result.0)) (option_map_or F.number result.1 0)) }
+        ensures witness { i < witnesses self.now → IsSome result.1 };
+
+    /// What a round of these values, which are as many as it is to send, leaves of a claim.
+    fn next_claim(&self, values: &Self::Values, claim: EF, challenge: EF) -> EF
+        requires { length (Self.Values.list values.now) ≡ width self.now }
+        ensures { EF.number result ≡ next self.now (EF.number claim) (map EF.number (Self.Values.list values.now)) (EF.number challenge) };
+}
+
+/// Replays rounds, as many as the shape has and with as many witnesses as its difficulty asks for, which is at most the challenger's
+/// [`Challenger::max_bits`]: answers their challenges in drawing order, and folds the claim once for each. There is room for the challenges.
+///
+/// `WrongWidth` names the first round that sends more or fewer values than the shape has, unless the witness of a round before it fails, and
+/// `InvalidWitness` the first whose witness fails; the history ends behind the rounds before it, or with that test. After `NoMemory` it ends behind some
+/// of the rounds. The claim is folded as many times.
+pub fn replay<F: Field, EF: ExtensionField<F>, C: Challenger<F>, R: CameRounds<F, EF>>(
+    came: &R,
+    challenger: &mut C,
+    claim: &mut EF,
+    shape: BatchShape,
+    mut challenges: Vec<EF>,
+) -> Result<Vec<EF>, RoundError>
+    requires tested { shape.pow_bits ≤ (C.rules challenger.old).max_bits }
+    requires counted { length (R.rounds came.now) ≡ shape.num_rounds }
+    requires witnessed { R.witnesses came.now ≡ witness_count shape.pow_bits shape.num_rounds }
+    requires wide { R.width came.now ≡ shape.width }
+    requires empty { challenges.items ≡ [] }
+    requires room { shape.num_rounds ≤ vec_capacity challenges }
+    ensures rules { C.rules challenger.new ≡ C.rules challenger.old }
+    ensures leaves { LeavesWalk (λ out. map EF.number out.items)
+        (walk (R.next came.now) (channel (C.rules challenger.old) EF.extension F.ops.size shape.pow_bits) shape.width
+        (footing (C.history challenger.old) (EF.number claim.old)) (R.rounds came.now))
+        result (footing (C.history challenger.new) (EF.number claim.new)) }
+{
+    let mut rounds = Rounds::new(shape, ());
+    'rounds: for i in 0..shape.num_rounds {
+        let (values, witness) = came.round_at(i);
+        match rounds.take::<F, EF, C, R::Values>(challenger, &values, witness) {
+            Ok(challenge) => {
+                *claim = came.next_claim(&values, *claim, challenge);
+                challenges.push_reserved(challenge);
+            }
+            Err(error) => return Err(error),
+        }
+    }
+    Ok(challenges)
+}
