@@ -11,13 +11,14 @@ use Rattle.sc_definitions.specs.Interpolation.{node_values}
 use Rattle.sc_definitions.specs.Channels.{Channel, Wire, empty_wire, with_rounds, NoWitnessFound}
 use Rattle.sc_definitions.proofs.BuiltLaws.{challenges-append, length-challenges, IsBuilt-append}
 use Rattle.sc_definitions.proofs.StandingLaws.{with_none, with_more}
+use Rattle.sc_transcript.specs.Drivers.{IsRefused}
 use Rattle.sc_degree.specs.declared.error.GenericDegreeError.{GenericDegreeError}
 use Rattle.sc_degree.specs.declared.error.GenericDegreeError.TheVariants.{NoWitness, NoMemory}
 use Rattle.sc_degree.specs.declared.played.Played.{Played}
 use Rattle.sc_degree.specs.declared.proof.GenericDegreeProof.{GenericDegreeProof}
 use Rattle.sc_degree.specs.declared.transcript.GenericDegreeShape.{GenericDegreeShape}
 use Rattle.sc_degree.specs.Provers.{Prover, IsFolded, honest_in, Play, begun, behind, PlaysRounds, IsPlayed, LeavesPlay}
-use Rattle.sc_degree.specs.Drivers.{IsRefused}
+use Rattle.sc_degree.specs.Causes.{cause_of}
 use Rattle.sc_degree.specs.Plays.{Standing, standing_in, fresh_standing, IsFilled, next_values, PlaysOne, HasPlayed, StopsAfter}
 
 -- ---- challenges that are folded in
@@ -111,15 +112,15 @@ some_left total vars left drawn i is at low enough = omega arith
 -- the next round is refused
 pub stops_after : {F EF : Type 0} (base : F → ℕ) (number : EF → ℕ) (o : Ops) {c c₁ : Channel} {total i : ℕ} {start : List Event} {from p : Prover} {h : List Event} (played : Played F EF) {after : Standing} (e : GenericDegreeError) →
     c₁ ≡ c → ((w : F) → base w < c.base_size) → HasPlayed o c start from (standing_in base number p h played) → length (map number played.challenges.items) ≡ i → i < total →
-    (after.prover ≡ p) × IsRefused c₁ i h (next_values o p) after.history e → StopsAfter o c total start from after e
+    (after.prover ≡ p) × IsRefused c₁ i h (next_values o p) after.history (cause_of c₁.bits e) → StopsAfter o c total start from after e
 stops_after base number o {c} {c₁} {total} {p} {h} played {after} e same low so_far count few left = record {
   last = standing_in base number p h played;
   played = so_far;
   few = subst (λ k. k < total) (sym count) few;
   low = All-map (λ w. w < c.base_size) base played.proof.pow_witnesses.items (λ k d within. low _);
   kept = left.0;
-  why = subst (λ ch. IsRefused ch (length (map number played.challenges.items)) h (next_values o p) after.history e) same
-      (subst (λ k. IsRefused c₁ k h (next_values o p) after.history e) (sym count) left.1);
+  why = subst (λ (ch : Channel). IsRefused ch (length (map number played.challenges.items)) h (next_values o p) after.history (cause_of ch.bits e)) same
+      (subst (λ k. IsRefused c₁ k h (next_values o p) after.history (cause_of c₁.bits e)) (sym count) left.1);
 }
 
 -- ---- by the result

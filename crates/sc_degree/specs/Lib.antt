@@ -1,5 +1,6 @@
 pub mod Shapes
-pub mod Drivers
+pub mod Causes
+pub mod Transcripts
 pub mod Nodes
 pub mod Coefficients
 pub mod Interpolators

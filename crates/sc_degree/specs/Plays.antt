@@ -9,7 +9,8 @@ use Rattle.sc_transcript.specs.Data.{witness_count}
 use Rattle.sc_degree.specs.declared.error.GenericDegreeError.{GenericDegreeError}
 use Rattle.sc_degree.specs.declared.transcript.GenericDegreeShape.{GenericDegreeShape}
 use Rattle.sc_degree.specs.declared.played.Played.{Played}
-use Rattle.sc_degree.specs.Drivers.{IsRefused}
+use Rattle.sc_transcript.specs.Drivers.{IsRefused}
+use Rattle.sc_degree.specs.Causes.{cause_of}
 use Rattle.sc_degree.specs.Proofs.{wire_in}
 use Rattle.sc_degree.specs.Provers.{Prover, IsFolded, honest_in}
 
@@ -60,7 +61,7 @@ pub record PlaysOne (o : Ops) (c : Channel) (before after : Standing) : Type 0 w
 abbrev pub LeavesRound : {X : Type 0} → Ops → Channel → ℕ → Standing → Standing → Result X GenericDegreeError → Type 0
 LeavesRound o c i before after (Ok x) = PlaysOne o c before after
 LeavesRound o c i before after (Err e) =
-    (after.prover ≡ before.prover) × IsRefused c i before.history (next_values o before.prover) after.history e
+    (after.prover ≡ before.prover) × IsRefused c i before.history (next_values o before.prover) after.history (cause_of c.bits e)
 
 -- Rounds were played from a history on, of a prover that nothing was folded into.
 pub record HasPlayed (o : Ops) (c : Channel) (start : List Event) (from : Prover) (now : Standing) : Type 0 where
@@ -78,7 +79,7 @@ pub record StopsAfter (o : Ops) (c : Channel) (total : ℕ) (start : List Event)
   pub few : length last.drawn < total
   pub low : All (λ w. w < c.base_size) last.wire.witnesses
   pub kept : after.prover ≡ last.prover
-  pub why : IsRefused c (length last.drawn) last.history (next_values o last.prover) after.history e
+  pub why : IsRefused c (length last.drawn) last.history (next_values o last.prover) after.history (cause_of c.bits e)
 
 -- what rounds leave, by the result: `total` of them were played, or the next one is refused
 abbrev pub LeavesRounds : {X : Type 0} → Ops → Channel → ℕ → List Event → Prover → Standing → Result X GenericDegreeError → Type 0

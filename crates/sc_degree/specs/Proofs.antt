@@ -1,13 +1,15 @@
 -- A proof of rounds of any degree, and what a replay of it leaves.
-use Rattle.std.specs.Prelude.{◌≡◌, ◌≢◌, ◌⊎◌, ℕ, ◌+◌, ◌<◌, List, ◌++◌, length, map, take, All, Some, Result, Ok, Err}
+use Rattle.std.specs.Prelude.{◌≡◌, ◌≢◌, ◌⊎◌, ℕ, ◌+◌, ◌<◌, List, ◌++◌, length, map, take, Some, Result, Ok, Err}
 use Rattle.std.specs.List.{slice_get}
 use Rattle.sc_definitions.specs.declared.events.Event.{Event}
 use Rattle.sc_definitions.specs.Ring.{Ops}
-use Rattle.sc_definitions.specs.Transcript.{Round, messages_of}
+use Rattle.sc_definitions.specs.Transcript.{Round}
 use Rattle.sc_definitions.specs.Interpolation.{next_through}
 use Rattle.sc_definitions.specs.Replays.{given_rounds}
-use Rattle.sc_definitions.specs.Channels.{Channel, Wire, Footing, footing, IsReplayed, FailsAt}
+use Rattle.sc_definitions.specs.Channels.{Channel, Wire, Footing, footing, FailsAt}
 use Rattle.sc_transcript.specs.Data.{witness_count}
+pub use Rattle.sc_transcript.specs.Walks.{AreWide}
+use Rattle.sc_transcript.specs.Walks.{Walk, walk, IsWalked}
 use Rattle.sc_degree.specs.declared.error.GenericDegreeError.{GenericDegreeError}
 use Rattle.sc_degree.specs.declared.error.GenericDegreeError.TheVariants.{InvalidDegree, RoundCountMismatch, PowWitnessCountMismatch, PolyEvalCountMismatch, InvalidPowWitness, NoMemory}
 use Rattle.sc_degree.specs.declared.proof.GenericDegreeProof.{GenericDegreeProof}
@@ -53,9 +55,9 @@ rounds_in p = given_rounds p.came.messages p.came.witnesses
 abbrev pub start_of : Replay → Footing
 start_of p = footing (p.history ++ prelude_of p.channel.extension p.shape p.claimed) p.claimed
 
--- each of the rounds sends as many values as the degree
-abbrev pub AreWide : ℕ → List Round → Type 0
-AreWide degree rounds = All (λ values. length values ≡ degree) (messages_of rounds)
+-- the rounds as they are replayed
+abbrev pub walk_of : Replay → Walk
+walk_of p = walk (next_through p.ops) p.channel p.shape.degree (start_of p) (rounds_in p)
 
 -- the degree is positive, as many rounds as expected came, and as many witnesses as the difficulty asks for
 pub record IsCounted (p : Replay) : Type 0 where
@@ -64,9 +66,8 @@ pub record IsCounted (p : Replay) : Type 0 where
   pub witnesses : length p.came.witnesses ≡ witness_count p.channel.bits p.shape.num_rounds
 
 -- The first rounds, so many of them, were replayed from the start up to a footing, with the challenges rs.
-pub record IsReplayedTo (p : Replay) (count : ℕ) (rs : List ℕ) (after : Footing) : Type 0 where
-  pub wide : AreWide p.shape.degree (take count (rounds_in p))
-  pub replays : IsReplayed (next_through p.ops) p.channel (start_of p) after (take count (rounds_in p)) rs
+abbrev pub IsReplayedTo : Replay → ℕ → List ℕ → Footing → Type 0
+IsReplayedTo p count rs after = IsWalked (walk_of p) count rs after
 
 -- The history ends behind the first rounds, so many of them.
 pub record EndsBehind (p : Replay) (count : ℕ) (h' : List Event) : Type 0 where

@@ -1,5 +1,6 @@
 //! What rounds of any degree refuse.
 use sc_field::NoMemory;
+use sc_transcript::driver::RoundError;
 use thiserror::Error;
 
 /// Why a proof or a round was refused. Rounds are counted from 0.
@@ -58,5 +59,36 @@ impl From<NoMemory> for GenericDegreeError {
 
     fn from(_error: NoMemory) -> GenericDegreeError {
         GenericDegreeError::NoMemory
+    }
+}
+
+impl From<RoundError> for GenericDegreeError {
+    ghost use Rattle.std.specs.Prelude.{◌≡◌};
+    ghost use Rattle.sc_degree.specs.Causes.{told_as};
+
+    ghost from_gives = { λ of e. e ≡ told_as of };
+
+    fn from(error: RoundError) -> GenericDegreeError {
+        match error {
+            RoundError::WrongWidth {
+                round,
+                expected,
+                actual,
+            } => GenericDegreeError::PolyEvalCountMismatch {
+                round,
+                expected,
+                actual,
+            },
+            RoundError::NoWitness { round } => GenericDegreeError::NoWitness { round },
+            RoundError::MissingWitness {
+                round,
+                difficulty: _,
+            } => GenericDegreeError::MissingPowWitness { round },
+            RoundError::InvalidWitness {
+                round,
+                difficulty: _,
+            } => GenericDegreeError::InvalidPowWitness { round },
+            RoundError::NoMemory => GenericDegreeError::NoMemory,
+        }
     }
 }

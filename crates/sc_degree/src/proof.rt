@@ -5,12 +5,13 @@ ghost use Rattle.sc_definitions.specs.declared.events.Event.{Event};
 ghost use Rattle.sc_definitions.specs.Channels.{channel};
 
 use crate::error::GenericDegreeError;
-use crate::transcript::{GenericDegreeShape, VerifierTranscript};
+use crate::transcript::GenericDegreeShape;
 use crate::util::RoundPolyInterpolator;
 use sc_challenger::Challenger;
 use sc_field::{ExtensionField, Field, with_room};
 use sc_table::Point;
 use sc_transcript::driver::witness_at;
+use sc_transcript::replay::{CameRounds, replay};
 use std::alloc::Global;
 
 /// What a prover sends: the claim, and what its rounds send.
@@ -85,7 +86,7 @@ impl<F: Field, EF: ExtensionField<F>> GenericDegreeProof<F, EF> {
         challenger: &mut C,
         shape: GenericDegreeShape,
         interpolator: &RoundPolyInterpolator<EF>,
-        mut challenges: Vec<EF>,
+        challenges: Vec<EF>,
     ) -> Result<(Point<EF>, EF), GenericDegreeError>
         requires tested { shape.pow_bits ≤ (C.rules challenger.old).max_bits }
         requires counted { AreCounted shape
@@ -102,25 +103,19 @@ impl<F: Field, EF: ExtensionField<F>> GenericDegreeProof<F, EF> {
             (channel (C.rules challenger.old) EF.extension F.ops.size shape.pow_bits)
             shape self.now h) result (C.history challenger.new) }
     {
-        let mut transcript: VerifierTranscript<'_, C, F, EF> = VerifierTranscript::over(
-            challenger, shape,
-        );
+        let came = CameOver {
+            proof: self,
+            interpolator,
+        };
         let mut claim = self.claimed_sum;
-        'rounds: for i in 0..shape.num_rounds {
-            let values = self.round_polys[i].as_slice();
-            match transcript.round(values, witness_at(&self.pow_witnesses, i)) {
-                Ok(r) => {
-                    claim = interpolator.eval(values, claim, r);
-                    challenges.push_reserved(r);
-                }
-                Err(error) => {
-                    transcript.abort();
-                    return Err(error);
-                }
-            }
-        }
-        transcript.finish();
-        Ok((Point::new(challenges), claim))
+        let drawn = replay::<F, EF, C, _>(
+            &came,
+            challenger,
+            &mut claim,
+            shape.batch(),
+            challenges,
+        )?;
+        Ok((Point::new(drawn), claim))
     }
 
     // Whether the degree is positive, and there are as many rounds and witnesses as the shape asks
@@ -151,5 +146,40 @@ impl<F: Field, EF: ExtensionField<F>> GenericDegreeProof<F, EF> {
             return Err(GenericDegreeError::PowWitnessCountMismatch { expected, actual });
         }
         Ok(())
+    }
+}
+
+// The rounds of a proof, as their replay reads them: a claim goes on through the interpolator.
+#[derive(Drop)]
+struct CameOver<'a, F: Field, EF: ExtensionField<F>> {
+    proof: &'a GenericDegreeProof<F, EF>,
+    interpolator: &'a RoundPolyInterpolator<EF>,
+}
+
+impl<'a, F: Field, EF: ExtensionField<F>> CameRounds<F, EF> for CameOver<'a, F, EF> {
+    type Values = &'a [EF];
+
+    ghost use Rattle.sc_definitions.specs.Interpolation.{next_through};
+    ghost use Rattle.sc_degree.specs.Interpolators.{degree_of};
+    ghost use Rattle.sc_degree.specs.Proofs.{rounds_of};
+
+    ghost rounds = { λ s. rounds_of F.number EF.number s.proof.now };
+
+    ghost witnesses = { λ s. vec_len s.proof.now.pow_witnesses };
+
+    ghost width = { λ s. degree_of s.interpolator.now };
+
+    ghost next = { λ _. next_through EF.ops };
+
+    fn round_at(&self, i: usize) -> (&'a [EF], Option<F>) {
+        let proof = self.proof;
+        (
+            proof.round_polys[i].as_slice(),
+            witness_at(&proof.pow_witnesses, i),
+        )
+    }
+
+    fn next_claim(&self, values: &&'a [EF], claim: EF, challenge: EF) -> EF {
+        self.interpolator.eval(values, claim, challenge)
     }
 }

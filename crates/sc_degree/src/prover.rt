@@ -2,8 +2,9 @@
 ghost use Rattle.std.specs.Prelude.{◌≡◌, ◌+◌, ◌<◌, ◌≤◌, [], ◌∷◌, map, vec_len, IfOk, OnOk};
 ghost use Rattle.sc_definitions.specs.Interpolation.{node_values};
 ghost use Rattle.sc_definitions.specs.Channels.{channel};
+ghost use Rattle.sc_transcript.specs.Drivers.{channel_of, Continues, HasRoundLeft};
 ghost use Rattle.sc_degree.specs.Shapes.{shape_of};
-ghost use Rattle.sc_degree.specs.Drivers.{driver_in, channel_of, Continues, HasRoundLeft};
+ghost use Rattle.sc_degree.specs.Transcripts.{driver_in, shape_in};
 ghost use Rattle.sc_degree.specs.Provers.{Prover, IsFolded, play_of, LeavesPlay};
 ghost use Rattle.sc_degree.specs.Plays.{IsFilled, standing_in, fresh_standing, LeavesRound};
 ghost use Rattle.sc_degree.specs.Plays.{LeavesRounds};
@@ -124,12 +125,12 @@ fn play<F: Field, EF: ExtensionField<F>, C: Challenger<F>, P: RoundProver<EF>>(
     transcript: &mut ProverTranscript<'_, C, F, EF>,
     played: &mut Played<F, EF>,
 ) -> Result<(), GenericDegreeError>
-    requires degree { (driver_in transcript.old).shape.degree ≡ (P.meaning prover.old).degree }
+    requires degree { (driver_in transcript.old).shape.width ≡ (P.meaning prover.old).degree }
     requires nodes { (P.meaning prover.old).degree < EF.ops.size }
     requires variables { (driver_in transcript.old).shape.num_rounds
         ≤ (P.meaning prover.old).variables }
     requires none { (driver_in transcript.old).played ≡ 0 }
-    requires filled { IsFilled (driver_in transcript.old).shape 0 played.old }
+    requires filled { IsFilled (shape_in (driver_in transcript.old)) 0 played.old }
     requires empty { standing_in F.number EF.number
         (P.meaning prover.old) (driver_in transcript.old).history played.old
         ≡ fresh_standing (P.meaning prover.old) (driver_in transcript.old).history }
@@ -161,17 +162,17 @@ fn play_round<F: Field, EF: ExtensionField<F>, C: Challenger<F>, P: RoundProver<
     played: &mut Played<F, EF>,
 ) -> Result<(), GenericDegreeError>
     requires left { HasRoundLeft (driver_in transcript.old) }
-    requires degree { (driver_in transcript.old).shape.degree ≡ (P.meaning prover.old).degree }
+    requires degree { (driver_in transcript.old).shape.width ≡ (P.meaning prover.old).degree }
     requires nodes { (P.meaning prover.old).degree < EF.ops.size }
     requires variables { 0 < (P.meaning prover.old).variables }
-    requires filled { IsFilled (driver_in transcript.old).shape
+    requires filled { IsFilled (shape_in (driver_in transcript.old))
         (driver_in transcript.old).played played.old }
     ensures continues { Continues (driver_in transcript.old) (driver_in transcript.new) }
     ensures claimed { EF.number played.new.proof.claimed_sum
         ≡ EF.number played.old.proof.claimed_sum }
     ensures count { OnOk result ((driver_in transcript.new).played
         ≡ (driver_in transcript.old).played + 1) }
-    ensures filled { OnOk result (IsFilled (driver_in transcript.old).shape
+    ensures filled { OnOk result (IsFilled (shape_in (driver_in transcript.old))
         ((driver_in transcript.old).played + 1) played.new) }
     ensures round { LeavesRound EF.ops (channel_of EF.extension (driver_in transcript.old))
         (driver_in transcript.old).played

@@ -13,7 +13,8 @@ ghost use Rattle.sc_definitions.specs.declared.interactions.Label.TheVariants.{C
 ghost use Rattle.sc_definitions.specs.Transcript.{round_of};
 ghost use Rattle.sc_definitions.specs.Seeds.{degree_separator, rounds_steps, step};
 ghost use Rattle.sc_transcript.specs.Rounds.{IsDue};
-ghost use Rattle.sc_degree.specs.Shapes.{prelude_of};
+ghost use Rattle.sc_degree.specs.Shapes.{prelude_of, batch_of};
+ghost use Rattle.sc_degree.specs.Causes.{cause_of};
 
 use crate::error::GenericDegreeError;
 use sc_challenger::{
@@ -21,9 +22,7 @@ use sc_challenger::{
     observe_ext,
 };
 use sc_field::{ExtensionField, Field, NoMemory};
-use sc_transcript::driver::{
-    WitnessError, events_in_round, observe_values, push_round_steps, send_rest, take_rest,
-};
+use sc_transcript::driver::{BatchShape, Rounds, push_round_steps};
 use std::alloc::Global;
 use std::marker::PhantomData;
 
@@ -52,6 +51,17 @@ impl GenericDegreeShape {
             num_rounds,
             degree,
             pow_bits,
+        }
+    }
+
+    // The numbers of its batch.
+    pub(crate) fn batch(&self) -> BatchShape
+        ensures { result ≡ batch_of self.now }
+    {
+        BatchShape {
+            num_rounds: self.num_rounds,
+            width: self.degree,
+            pow_bits: self.pow_bits,
         }
     }
 
@@ -124,35 +134,29 @@ impl GenericDegreeShape {
 /// it then is.
 pub struct ProverTranscript<'a, C: Challenger<F>, F: Field, EF> {
     challenger: &'a mut C,
-    shape: GenericDegreeShape,
-    // how many rounds were played
-    played: usize,
+    rounds: Rounds<()>,
     of: PhantomData<(F, EF)>,
-    ghost tested: { shape.pow_bits ≤ (C.rules challenger.now).max_bits },
-    ghost few: { shape.degree < 2 ^ 32 },
-    ghost counted: { played ≤ shape.num_rounds },
+    ghost tested: { rounds.shape.pow_bits ≤ (C.rules challenger.now).max_bits },
+    ghost counted: { rounds.played ≤ rounds.shape.num_rounds },
 }
 
 impl<'a, C: Challenger<F>, F: Field, EF: ExtensionField<F>> ProverTranscript<'a, C, F, EF> {
-    ghost use Rattle.sc_transcript.specs.Drivers.{IsLent};
-    ghost use Rattle.sc_degree.specs.Drivers.{driver_in, challenger_in, unbegun, Continues};
-    ghost use Rattle.sc_degree.specs.Drivers.{IsFresh, IsBegun, HasRoundLeft, IsDone, PlaysRound};
-    ghost use Rattle.sc_degree.specs.Drivers.{RefusesRound, HasRoom, TakesRoom};
+    ghost use Rattle.sc_transcript.specs.Drivers.{Continues, IsLent, IsFresh, IsBegun, HasRoundLeft, IsDone};
+    ghost use Rattle.sc_transcript.specs.Drivers.{PlaysRound, RefusesRound, HasRoom, TakesRoom};
+    ghost use Rattle.sc_degree.specs.Transcripts.{driver_in, challenger_in, unbegun, shape_in};
 
     /// Begins a batch: the seed's words and the parts of the claimed sum are observed. No more of
     /// the challenger's room is taken than they need.
     ///
-    /// The difficulty is at most the challenger's [`Challenger::max_bits`], and the degree is below
-    /// 2^32.
+    /// The difficulty is at most the challenger's [`Challenger::max_bits`].
     pub fn new(
         alloc: Global,
         challenger: &'a mut C,
         shape: GenericDegreeShape,
         claimed_sum: EF,
     ) -> Result<Self, NoMemory>
-        requires difficulty { shape.pow_bits ≤ (C.rules challenger.old).max_bits }
-        requires degree { shape.degree < 2 ^ 32 }
-        ensures { IfOk result (λ t. IsBegun EF.extension (EF.number claimed_sum)
+        requires { shape.pow_bits ≤ (C.rules challenger.old).max_bits }
+        ensures { IfOk result (λ t. IsBegun (prelude_of EF.extension shape (EF.number claimed_sum))
             (unbegun t challenger.entry shape) (driver_in t)) }
     {
         shape.begin::<F, EF, C>(alloc, challenger, claimed_sum)?;
@@ -163,15 +167,13 @@ impl<'a, C: Challenger<F>, F: Field, EF: ExtensionField<F>> ProverTranscript<'a,
     /// [`GenericDegreeShape::begin`]. It cannot fail: a caller that has to know what a refused
     /// beginning leaves calls the two one after the other.
     pub fn over(challenger: &'a mut C, shape: GenericDegreeShape) -> Self
-        requires difficulty { shape.pow_bits ≤ (C.rules challenger.old).max_bits }
-        requires degree { shape.degree < 2 ^ 32 }
+        requires { shape.pow_bits ≤ (C.rules challenger.old).max_bits }
         ensures lent { IsLent challenger.entry (challenger_in result) }
-        ensures fresh { IsFresh shape (driver_in result) }
+        ensures fresh { IsFresh (batch_of shape) tt (driver_in result) }
     {
         ProverTranscript {
             challenger,
-            shape,
-            played: 0,
+            rounds: Rounds::new(shape.batch(), ()),
             of: PhantomData,
         }
     }
@@ -185,44 +187,41 @@ impl<'a, C: Challenger<F>, F: Field, EF: ExtensionField<F>> ProverTranscript<'a,
     /// [`ProverTranscript::abort`].
     pub fn round(&mut self, evals: &[EF]) -> Result<(EF, Option<F>), GenericDegreeError>
         requires left { HasRoundLeft (driver_in self.old) }
-        requires width { length evals.now ≡ (driver_in self.old).shape.degree }
+        requires width { length evals.now ≡ (driver_in self.old).shape.width }
         ensures continues { Continues (driver_in self.old) (driver_in self.new) }
         ensures plays { IfOk result (λ x. PlaysRound EF.extension
             (driver_in self.old) (driver_in self.new)
             (round_of (map EF.number evals.now) (option_map_or F.number x.1 0)) (EF.number x.0)) }
         ensures due { IfOk result (λ x. IsDue (driver_in self.old).shape.pow_bits x.1) }
-        ensures refused { IfErr result (RefusesRound EF.extension
-            (driver_in self.old) (driver_in self.new) (map EF.number evals.now)) }
-        ensures has_room { HasRoom EF.DEGREE (driver_in self.old)
+        ensures refused { IfErr result (λ e. RefusesRound EF.extension
+            (driver_in self.old) (driver_in self.new) (map EF.number evals.now)
+            (cause_of (driver_in self.old).shape.pow_bits e)) }
+        ensures has_room { (driver_in self.old).shape.width < 2 ^ 32
+            → HasRoom EF.DEGREE (driver_in self.old)
             → result ≢ Err GenericDegreeError.NoMemory }
         ensures takes_room { OnOk result (TakesRoom EF.DEGREE
             (driver_in self.old) (driver_in self.new)) }
     {
-        prove!(self.played < self.shape.num_rounds);
-        let degree = self.shape.degree;
-        let pow_bits = self.shape.pow_bits;
-        self.challenger
-            .reserve(events_in_round(EF::DEGREE, degree, pow_bits))?;
-        observe_values::<F, EF, C>(self.challenger, evals);
-        let Some(sent) = send_rest::<F, EF, C>(self.challenger, pow_bits) else {
-            return Err(GenericDegreeError::NoWitness { round: self.played });
-        };
-        self.played += 1;
-        Ok(sent)
+        Ok(self.rounds.play(self.challenger, &evals)?)
     }
 
     /// The numbers that the batch was begun with.
     pub fn shape(&self) -> GenericDegreeShape
-        ensures { result ≡ (driver_in self.now).shape }
+        ensures { result ≡ shape_in (driver_in self.now) }
     {
-        self.shape
+        let BatchShape {
+            num_rounds,
+            width,
+            pow_bits,
+        } = self.rounds.shape();
+        GenericDegreeShape::new(num_rounds, width, pow_bits)
     }
 
     /// How many rounds are still to be played.
     pub fn rounds_left(&self) -> usize
         ensures { result ≡ (driver_in self.now).shape.num_rounds - (driver_in self.now).played }
     {
-        self.shape.num_rounds - self.played
+        self.rounds.left()
     }
 
     /// Ends a batch of which every round was played. The challenger stays as it is.
@@ -232,8 +231,7 @@ impl<'a, C: Challenger<F>, F: Field, EF: ExtensionField<F>> ProverTranscript<'a,
     {
         let ProverTranscript {
             challenger: _,
-            shape: _,
-            played: _,
+            rounds: _,
             of: _,
         } = self;
     }
@@ -244,8 +242,7 @@ impl<'a, C: Challenger<F>, F: Field, EF: ExtensionField<F>> ProverTranscript<'a,
     {
         let ProverTranscript {
             challenger: _,
-            shape: _,
-            played: _,
+            rounds: _,
             of: _,
         } = self;
     }
@@ -256,35 +253,29 @@ impl<'a, C: Challenger<F>, F: Field, EF: ExtensionField<F>> ProverTranscript<'a,
 /// as it then is.
 pub struct VerifierTranscript<'a, C: Challenger<F>, F: Field, EF> {
     challenger: &'a mut C,
-    shape: GenericDegreeShape,
-    // how many rounds were played
-    played: usize,
+    rounds: Rounds<()>,
     of: PhantomData<(F, EF)>,
-    ghost tested: { shape.pow_bits ≤ (C.rules challenger.now).max_bits },
-    ghost few: { shape.degree < 2 ^ 32 },
-    ghost counted: { played ≤ shape.num_rounds },
+    ghost tested: { rounds.shape.pow_bits ≤ (C.rules challenger.now).max_bits },
+    ghost counted: { rounds.played ≤ rounds.shape.num_rounds },
 }
 
 impl<'a, C: Challenger<F>, F: Field, EF: ExtensionField<F>> VerifierTranscript<'a, C, F, EF> {
-    ghost use Rattle.sc_transcript.specs.Drivers.{IsLent};
-    ghost use Rattle.sc_degree.specs.Drivers.{replayer_in, lent_to_replayer, unbegun_replayer};
-    ghost use Rattle.sc_degree.specs.Drivers.{Continues, IsFresh, IsBegun, HasRoundLeft, IsDone};
-    ghost use Rattle.sc_degree.specs.Drivers.{TakesRound, RejectsRound, HasRoom, TakesRoom};
+    ghost use Rattle.sc_transcript.specs.Drivers.{Continues, IsLent, IsFresh, IsBegun, HasRoundLeft, IsDone};
+    ghost use Rattle.sc_transcript.specs.Drivers.{TakesRound, RejectsRound, HasRoom, TakesRoom};
+    ghost use Rattle.sc_degree.specs.Transcripts.{replayer_in, lent_to_replayer, unbegun_replayer, shape_in};
 
     /// Begins a batch: the seed's words and the parts of the claimed sum are observed. No more of
     /// the challenger's room is taken than they need.
     ///
-    /// The difficulty is at most the challenger's [`Challenger::max_bits`], and the degree is below
-    /// 2^32.
+    /// The difficulty is at most the challenger's [`Challenger::max_bits`].
     pub fn new(
         alloc: Global,
         challenger: &'a mut C,
         shape: GenericDegreeShape,
         claimed_sum: EF,
     ) -> Result<Self, NoMemory>
-        requires difficulty { shape.pow_bits ≤ (C.rules challenger.old).max_bits }
-        requires degree { shape.degree < 2 ^ 32 }
-        ensures { IfOk result (λ t. IsBegun EF.extension (EF.number claimed_sum)
+        requires { shape.pow_bits ≤ (C.rules challenger.old).max_bits }
+        ensures { IfOk result (λ t. IsBegun (prelude_of EF.extension shape (EF.number claimed_sum))
             (unbegun_replayer t challenger.entry shape) (replayer_in t)) }
     {
         shape.begin::<F, EF, C>(alloc, challenger, claimed_sum)?;
@@ -295,15 +286,13 @@ impl<'a, C: Challenger<F>, F: Field, EF: ExtensionField<F>> VerifierTranscript<'
     /// [`GenericDegreeShape::begin`]. It cannot fail: a caller that has to know what a refused
     /// beginning leaves calls the two one after the other.
     pub fn over(challenger: &'a mut C, shape: GenericDegreeShape) -> Self
-        requires difficulty { shape.pow_bits ≤ (C.rules challenger.old).max_bits }
-        requires degree { shape.degree < 2 ^ 32 }
+        requires { shape.pow_bits ≤ (C.rules challenger.old).max_bits }
         ensures lent { IsLent challenger.entry (lent_to_replayer result) }
-        ensures fresh { IsFresh shape (replayer_in result) }
+        ensures fresh { IsFresh (batch_of shape) tt (replayer_in result) }
     {
         VerifierTranscript {
             challenger,
-            shape,
-            played: 0,
+            rounds: Rounds::new(shape.batch(), ()),
             of: PhantomData,
         }
     }
@@ -324,50 +313,36 @@ impl<'a, C: Challenger<F>, F: Field, EF: ExtensionField<F>> VerifierTranscript<'
             (replayer_in self.old) (replayer_in self.new)
             (round_of (map EF.number evals.now) (option_map_or F.number witness 0)) (EF.number x)) }
         ensures given { OnOk result (0 < (replayer_in self.old).shape.pow_bits → IsSome witness) }
-        ensures rejected { IfErr result (RejectsRound EF.extension
+        ensures rejected { IfErr result (λ e. RejectsRound EF.extension
             (replayer_in self.old) (replayer_in self.new)
-            (round_of (map EF.number evals.now) (option_map_or F.number witness 0)) witness) }
-        ensures has_room { HasRoom EF.DEGREE (replayer_in self.old)
+            (round_of (map EF.number evals.now) (option_map_or F.number witness 0)) witness
+            (cause_of (replayer_in self.old).shape.pow_bits e)) }
+        ensures has_room { (replayer_in self.old).shape.width < 2 ^ 32
+            → HasRoom EF.DEGREE (replayer_in self.old)
             → result ≢ Err GenericDegreeError.NoMemory }
         ensures takes_room { OnOk result (TakesRoom EF.DEGREE
             (replayer_in self.old) (replayer_in self.new)) }
     {
-        prove!(self.played < self.shape.num_rounds);
-        let round = self.played;
-        let degree = self.shape.degree;
-        let pow_bits = self.shape.pow_bits;
-        if evals.len() != degree {
-            return Err(GenericDegreeError::PolyEvalCountMismatch {
-                round,
-                expected: degree,
-                actual: evals.len(),
-            });
-        }
-        self.challenger
-            .reserve(events_in_round(EF::DEGREE, degree, pow_bits))?;
-        observe_values::<F, EF, C>(self.challenger, evals);
-        match take_rest::<F, EF, C>(self.challenger, witness, pow_bits) {
-            Ok(challenge) => {
-                self.played += 1;
-                Ok(challenge)
-            }
-            Err(WitnessError::Missing) => Err(GenericDegreeError::MissingPowWitness { round }),
-            Err(WitnessError::Invalid) => Err(GenericDegreeError::InvalidPowWitness { round }),
-        }
+        Ok(self.rounds.take(self.challenger, &evals, witness)?)
     }
 
     /// The numbers that the batch was begun with.
     pub fn shape(&self) -> GenericDegreeShape
-        ensures { result ≡ (replayer_in self.now).shape }
+        ensures { result ≡ shape_in (replayer_in self.now) }
     {
-        self.shape
+        let BatchShape {
+            num_rounds,
+            width,
+            pow_bits,
+        } = self.rounds.shape();
+        GenericDegreeShape::new(num_rounds, width, pow_bits)
     }
 
     /// How many rounds are still to be played.
     pub fn rounds_left(&self) -> usize
         ensures { result ≡ (replayer_in self.now).shape.num_rounds - (replayer_in self.now).played }
     {
-        self.shape.num_rounds - self.played
+        self.rounds.left()
     }
 
     /// Ends a batch of which every round was played. The challenger stays as it is.
@@ -377,8 +352,7 @@ impl<'a, C: Challenger<F>, F: Field, EF: ExtensionField<F>> VerifierTranscript<'
     {
         let VerifierTranscript {
             challenger: _,
-            shape: _,
-            played: _,
+            rounds: _,
             of: _,
         } = self;
     }
@@ -389,8 +363,7 @@ impl<'a, C: Challenger<F>, F: Field, EF: ExtensionField<F>> VerifierTranscript<'
     {
         let VerifierTranscript {
             challenger: _,
-            shape: _,
-            played: _,
+            rounds: _,
             of: _,
         } = self;
     }

@@ -1,5 +1,6 @@
 use Rattle.std.proofs.Common.{◌≡◌}
-use Rattle.sc_degree.specs.Drivers.{driver_in, channel_of, Continues}
+use Rattle.sc_transcript.specs.Drivers.{channel_of, Continues}
+use Rattle.sc_degree.specs.Transcripts.{driver_in, shape_in}
 use Rattle.sc_degree.specs.Plays.{IsFilled, standing_in, HasPlayed}
 use Rattle.sc_degree.proofs.prover.play.Given as goal
 
@@ -11,7 +12,7 @@ invariant-loop-round g l =
     record {
       continues : Continues begun (driver_in l.transcript);
       count : (driver_in l.transcript).played ≡ l._round;
-      filled : IsFilled begun.shape l._round l.played;
+      filled : IsFilled (shape_in begun) l._round l.played;
       claimed : N l.played.proof.claimed_sum ≡ N l.fn.played.proof.claimed_sum;
       played : HasPlayed g.EF.Field.ops (channel_of g.EF.ExtensionField.extension begun) begun.history (prover l.fn.prover)
           (standing_in g.F.Field.number N (prover l.prover) (driver_in l.transcript).history l.played);

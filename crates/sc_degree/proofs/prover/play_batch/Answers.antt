@@ -2,7 +2,7 @@ use Rattle.std.proofs.Common.{map, refl, ap, ◌∙◌, rules}
 use Rattle.sc_definitions.specs.Channels.{channel}
 use Rattle.sc_transcript.proofs.ReplayedLaws.{same_channel}
 use Rattle.sc_transcript.proofs.Lent.{returned}
-use Rattle.sc_degree.specs.declared.transcript.GenericDegreeShape.{GenericDegreeShape}
+use Rattle.sc_transcript.specs.declared.driver.BatchShape.{BatchShape}
 use Rattle.sc_degree.specs.Provers.{Play, play_of}
 use Rattle.sc_degree.proofs.PlayLaws.{played_at, stops_at, all_played, stopped, never_begun}
 use Rattle.sc_degree.proofs.prover.play_batch.Goals as goal
@@ -17,11 +17,11 @@ returns-in-Ok-clause-left g c =
     let begun = c.over-transcript.ensures in
     let told = c.in-Ok.ensures in
     let q : Play = play_of g.EF.Field.ops (channel (R c.args.challenger.now) E g.F.Field.ops.size c.args.shape.pow_bits) c.args.shape (N c.args.claimed_sum) (H c.args.challenger.now) in
-    let same = same_channel g.F.Field.ops.size (ap R begun.lent.same ∙ c.in_ok-begin.ensures.rules) (ap (λ (s : GenericDegreeShape). s.pow_bits) begun.fresh.shape) in (
+    let same = same_channel g.F.Field.ops.size (ap R begun.lent.same ∙ c.in_ok-begin.ensures.rules) (ap (λ (s : BatchShape). s.pow_bits) begun.fresh.shape) in (
       told.claimed ∙ c.in_ok-played.ensures.claimed,
       all_played q (g.P.RoundProver.meaning c.args.prover.now) _ _ _ _
           (played_at same (ap H begun.lent.same ∙ c.in_ok-begin.ensures.ok) told.rounds.0)
-          (told.rounds.1 ∙ ap (λ (s : GenericDegreeShape). s.num_rounds) begun.fresh.shape) refl (ap (map N) c.new-in-Ok.ensures)
+          (told.rounds.1 ∙ ap (λ (s : BatchShape). s.num_rounds) begun.fresh.shape) refl (ap (map N) c.new-in-Ok.ensures)
           (ap H (returned (search rules) told.continues.lender begun.lent.lender c.finish.ensures)),
     )
 
@@ -35,9 +35,9 @@ returns-in-Err-clause-left g c =
     let begun = c.over-transcript.ensures in
     let told = c.in-Err.ensures in
     let q : Play = play_of g.EF.Field.ops (channel (R c.args.challenger.now) E g.F.Field.ops.size c.args.shape.pow_bits) c.args.shape (N c.args.claimed_sum) (H c.args.challenger.now) in
-    let same = same_channel g.F.Field.ops.size (ap R begun.lent.same ∙ c.in_ok-begin.ensures.rules) (ap (λ (s : GenericDegreeShape). s.pow_bits) begun.fresh.shape) in
+    let same = same_channel g.F.Field.ops.size (ap R begun.lent.same ∙ c.in_ok-begin.ensures.rules) (ap (λ (s : BatchShape). s.pow_bits) begun.fresh.shape) in
     stopped q (g.P.RoundProver.meaning c.args.prover.now) g.F.Field.number N _ _ c.in-Err.error c.requires.variables
-    (stops_at same (ap (λ (s : GenericDegreeShape). s.num_rounds) begun.fresh.shape) (ap H begun.lent.same ∙ c.in_ok-begin.ensures.ok) told.rounds)
+    (stops_at same (ap (λ (s : BatchShape). s.num_rounds) begun.fresh.shape) (ap H begun.lent.same ∙ c.in_ok-begin.ensures.ok) told.rounds)
     (ap H (returned (search rules) told.continues.lender begun.lent.lender c.abort.ensures))
 
 -- without memory for the proof, the challenges or the seed nothing is
