@@ -19,7 +19,7 @@ use Rattle.sc_table.specs.Polys.{variables_of, table_of, IsFixedOf}
 use Rattle.sc_table.proofs.EntryLaws.{entry-embedded}
 use Rattle.sc_transcript.specs.declared.error.SumcheckError.{SumcheckError}
 use Rattle.sc_transcript.specs.declared.error.SumcheckError.TheVariants.{NoMemory, NoWitness}
-use Rattle.sc_transcript.specs.declared.transcript.SumcheckShape.{SumcheckShape}
+use Rattle.sc_transcript.specs.declared.driver.BatchShape.{BatchShape}
 use Rattle.sc_transcript.specs.Drivers.{Driver, HasRoundLeft, IsDone}
 use Rattle.sc_rounds.specs.declared.product_polynomial.ProductPolynomial.{ProductPolynomial}
 use Rattle.sc_rounds.specs.Products.{numbers_of, variables_in, order_in, evals_in, weights_in}
@@ -130,12 +130,12 @@ base_agrees o number w {left} {right} rows is first second test = (
 
 -- ---- the first round, and those behind it
 
-module _ (s : Setting) (ring : IsRing s.ops) (offered : IsOffered s.basis s.order) (t v : Standing) (sized : IsSized t) (d d' : Driver) (none : d.played ≡ 0) (some : HasRoundLeft d)
+module _ {K : Type 0} (s : Setting) (ring : IsRing s.ops) (offered : IsOffered s.basis s.order) (t v : Standing) (sized : IsSized t) (d d' : Driver K) (none : d.played ≡ 0) (some : HasRoundLeft d)
     (same : d'.shape ≡ d.shape) where
   -- it was refused
   pub first_stops : (e : SumcheckError) → d'.played ≡ d.played → v.variables ≡ t.variables → v.history ≡ d'.history → IsHalted s t v d.played e → StopsFrom s t d' v.wire e
   first_stops e counts variables history why =
-      let size : d'.shape.num_rounds ≡ d.shape.num_rounds = ap (λ (k : SumcheckShape). k.num_rounds) same in
+      let size : d'.shape.num_rounds ≡ d.shape.num_rounds = ap (λ (k : BatchShape). k.num_rounds) same in
       record {
         after = v;
         history = history;
@@ -154,7 +154,7 @@ module _ (s : Setting) (ring : IsRing s.ops) (offered : IsOffered s.basis s.orde
     -- and there is no memory for what it leaves
     pub first_wants : v.history ≡ d'.history → StopsFrom s t d' v.wire NoMemory
     first_wants history =
-        let size : d'.shape.num_rounds ≡ d.shape.num_rounds = ap (λ (k : SumcheckShape). k.num_rounds) same in
+        let size : d'.shape.num_rounds ≡ d.shape.num_rounds = ap (λ (k : BatchShape). k.num_rounds) same in
         record {
           after = v;
           history = history;
@@ -166,7 +166,7 @@ module _ (s : Setting) (ring : IsRing s.ops) (offered : IsOffered s.basis s.orde
         }
 
     -- the rounds behind it, in the same setting by another name
-    module _ (s' : Setting) (is : s' ≡ s) (v' u u' : Standing) (here : v ≡ v') (d2 : Driver) (left : u.variables + d2.played ≡ v.variables + d'.played) where
+    module _ (s' : Setting) (is : s' ≡ s) (v' u u' : Standing) (here : v ≡ v') (d2 : Driver K) (left : u.variables + d2.played ≡ v.variables + d'.played) where
       pub first_before : (rs : List ℕ) → rs ≡ r ∷ [] → IsPlayed s' t v' rs
       first_before rs one = played_at (sym is) refl here (sym one) first_played
 

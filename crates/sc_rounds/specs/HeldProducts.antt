@@ -11,7 +11,8 @@ use Rattle.sc_challenger.specs.declared.challenger.Challenger.{Ghosts as Challen
 use Rattle.sc_transcript.specs.declared.transcript.ProverTranscript.{ProverTranscript}
 use Rattle.sc_transcript.specs.declared.transcript.SumcheckShape.{SumcheckShape}
 use Rattle.sc_transcript.specs.declared.data.SumcheckData.{SumcheckData}
-use Rattle.sc_transcript.specs.Drivers.{driver_in, channel_of}
+use Rattle.sc_transcript.specs.Drivers.{channel_of}
+use Rattle.sc_transcript.specs.Transcripts.{driver_in}
 use Rattle.sc_transcript.specs.Data.{wire_in}
 use Rattle.sc_rounds.specs.declared.held_product.HeldProduct.{HeldProduct}
 use Rattle.sc_rounds.specs.declared.product_polynomial.ProductPolynomial.{ProductPolynomial}

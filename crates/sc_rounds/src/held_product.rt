@@ -48,7 +48,8 @@ pub(crate) struct HeldProduct<F, EF: Field> {
 impl<F: Field, EF: ExtensionField<F>> HeldProduct<F, EF> {
     ghost use Rattle.sc_definitions.specs.Channels.{channel};
     ghost use Rattle.sc_transcript.specs.Data.{wire_in};
-    ghost use Rattle.sc_transcript.specs.Drivers.{driver_in, Continues, HasRoundLeft};
+    ghost use Rattle.sc_transcript.specs.Drivers.{Continues, HasRoundLeft};
+    ghost use Rattle.sc_transcript.specs.Transcripts.{driver_in};
     ghost use Rattle.sc_transcript.specs.Batches.{
       Moves,
       Counts,

@@ -27,7 +27,8 @@ pub struct ProductPolynomial<F, EF> {
 
 impl<F: Field, EF: ExtensionField<F>> ProductPolynomial<F, EF> {
     ghost use Rattle.sc_transcript.specs.Data.{wire_in, spare_in};
-    ghost use Rattle.sc_transcript.specs.Drivers.{driver_in, Continues, HasRoundLeft, HasRoom};
+    ghost use Rattle.sc_transcript.specs.Drivers.{Continues, HasRoundLeft, HasRoom};
+    ghost use Rattle.sc_transcript.specs.Transcripts.{driver_in};
     ghost use Rattle.sc_rounds.specs.Products.{
       variables_in,
       order_in,

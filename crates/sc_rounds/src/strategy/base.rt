@@ -50,7 +50,8 @@ pub struct BaseProduct<'a, F: Field, EF: ExtensionField<F>> {
 impl<'a, F: Field, EF: ExtensionField<F>> BaseProduct<'a, F, EF> {
     ghost use Rattle.sc_definitions.specs.Standings.{IsRound};
     ghost use Rattle.sc_transcript.specs.Data.{wire_in};
-    ghost use Rattle.sc_transcript.specs.Drivers.{driver_in, Continues, HasRoundLeft, IsDone};
+    ghost use Rattle.sc_transcript.specs.Drivers.{Continues, HasRoundLeft, IsDone};
+    ghost use Rattle.sc_transcript.specs.Transcripts.{driver_in};
     ghost use Rattle.sc_transcript.specs.Shapes.{shape_of};
     ghost use Rattle.sc_transcript.specs.Batches.{
       IsHalted,

@@ -1,6 +1,7 @@
 use Rattle.std.proofs.Common.{◌+◌, ◌≤◌, map, ap, sym, refl, inl, inr, ◌∙◌}
 use Rattle.std.proofs.lemmas.List.{map-append}
 use Rattle.sc_transcript.proofs.ReplayedLaws.{same_channel}
+use Rattle.sc_transcript.specs.declared.driver.BatchShape.{BatchShape}
 use Rattle.sc_transcript.specs.declared.transcript.SumcheckShape.{SumcheckShape}
 use Rattle.sc_definitions.specs.Shown.{Shown}
 use Rattle.sc_rounds.specs.HeldProducts.{shown_in, image_in, standing_over}
@@ -9,7 +10,7 @@ use Rattle.sc_rounds.proofs.held_product.HeldProduct.play.Goals as goal
 
 pub loop-round-init : goal.loop-round-init
 loop-round-init g c = record {
-  continues = record { lender = refl; rules = refl; values = refl; shape = refl };
+  continues = record { lender = refl; rules = refl; shape = refl; kind = refl };
   played = sym (c.len-round.ensures ∙ c.requires.count);
   left = ap (λ k. (shown_in c.args.self.now).variables + k) (c.len-round.ensures ∙ c.requires.count);
   order = refl;
@@ -29,16 +30,16 @@ loop-round-preserved g c =
       continues = record {
         lender = round.continues.lender ∙ inv.continues.lender;
         rules = round.continues.rules ∙ inv.continues.rules;
-        values = round.continues.values ∙ inv.continues.values;
         shape = round.continues.shape ∙ inv.continues.shape;
+        kind = round.continues.kind ∙ inv.continues.kind;
       };
       played = round.counts ∙ ap (λ n. n + 1) inv.played;
       left = less_by_one _ _ _ _ round.round.fewer inv.left;
       order = round.order ∙ inv.order;
       len = c.push_reserved.ensures.len ∙ ap (λ n. n + 1) inv.len;
-      room = fits _ _ _ _ (ap (λ (s : SumcheckShape). s.num_rounds) round.continues.shape) c.push_reserved.ensures.capacity inv.room;
+      room = fits _ _ _ _ (ap (λ (s : BatchShape). s.num_rounds) round.continues.shape) c.push_reserved.ensures.capacity inv.room;
       batch = λ start before. one_round_more g.met.EG.Field.is_field.ring tt
-          (same_setting (same_channel g.G.Field.ops.size inv.continues.rules (ap (λ (s : SumcheckShape). s.pow_bits) inv.continues.shape)) inv.order)
+          (same_setting (same_channel g.G.Field.ops.size inv.continues.rules (ap (λ (s : BatchShape). s.pow_bits) inv.continues.shape)) inv.order)
           drawn (inv.batch start before) round.round;
       holds = λ start before. inr (record {
         others = _;
@@ -61,13 +62,13 @@ round-requires-clause-variables g c =
 pub round-requires-clause-left : goal.round-requires-clause-left
 round-requires-clause-left g c =
     let inv = c.loop-round.invariant in
-    less_at _ _ _ _ inv.played c.loop-round-test.true (ap (λ (s : SumcheckShape). s.num_rounds) (c.shape-round-end.ensures ∙ sym inv.continues.shape))
+    less_at _ _ _ _ inv.played c.loop-round-test.true (ap (λ (s : SumcheckShape). s.num_rounds) c.shape-round-end.ensures ∙ ap (λ (s : BatchShape). s.num_rounds) (sym inv.continues.shape))
 
 -- as many challenges as rounds so far, and there is room for one of each round
 pub push_reserved-requires : goal.push_reserved-requires
 push_reserved-requires g c =
     let inv = c.loop-round.invariant in
-    room_at inv.len c.loop-round-test.true (ap (λ (s : SumcheckShape). s.num_rounds) (c.shape-round-end.ensures ∙ sym inv.continues.shape)) inv.room
+    room_at inv.len c.loop-round-test.true (ap (λ (s : SumcheckShape). s.num_rounds) c.shape-round-end.ensures ∙ ap (λ (s : BatchShape). s.num_rounds) (sym inv.continues.shape)) inv.room
 
 -- all rounds are played, and what the invariant says of them holds of all
 pub returns : goal.returns
@@ -78,7 +79,7 @@ returns g c =
       continues = inv.continues;
       order = inv.order;
       left = sum_at _ _ _ _ inv.played inv.left;
-      rounds = λ start before. (all_played _ _ _ _ inv.played (ap (λ (s : SumcheckShape). s.num_rounds) (inv.continues.shape ∙ sym c.shape-round-end.ensures)) c.loop-round-test.false (c.loop-round.auto._round-end below), inv.batch start before);
+      rounds = λ start before. (all_played _ _ _ _ inv.played (ap (λ (s : BatchShape). s.num_rounds) inv.continues.shape ∙ ap (λ (s : SumcheckShape). s.num_rounds) (sym c.shape-round-end.ensures)) c.loop-round-test.false (c.loop-round.auto._round-end below), inv.batch start before);
       holds = inv.holds;
     }
 
@@ -91,15 +92,15 @@ returns-in-Err g c =
       continues = record {
         lender = round.continues.lender ∙ inv.continues.lender;
         rules = round.continues.rules ∙ inv.continues.rules;
-        values = round.continues.values ∙ inv.continues.values;
         shape = round.continues.shape ∙ inv.continues.shape;
+        kind = round.continues.kind ∙ inv.continues.kind;
       };
       order = round.order ∙ inv.order;
       left = sum_at _ _ _ _ (round.counts ∙ inv.played) (ap (λ (s : Shown). s.variables + c.loop-round._round) round.kept ∙ inv.left);
       rounds = λ start before. (
-        less_at _ _ _ _ (round.counts ∙ inv.played) c.loop-round-test.true (ap (λ (s : SumcheckShape). s.num_rounds) (c.shape-round-end.ensures ∙ sym inv.continues.shape ∙ sym round.continues.shape)),
+        less_at _ _ _ _ (round.counts ∙ inv.played) c.loop-round-test.true (ap (λ (s : SumcheckShape). s.num_rounds) c.shape-round-end.ensures ∙ ap (λ (s : BatchShape). s.num_rounds) (sym inv.continues.shape ∙ sym round.continues.shape)),
         stops _ c.in-Err.error
-            (same_setting (same_channel g.G.Field.ops.size inv.continues.rules (ap (λ (s : SumcheckShape). s.pow_bits) inv.continues.shape)) inv.order)
+            (same_setting (same_channel g.G.Field.ops.size inv.continues.rules (ap (λ (s : BatchShape). s.pow_bits) inv.continues.shape)) inv.order)
             (sym round.counts) (inv.batch start before) round.round,
       );
       holds = tt;

@@ -1,6 +1,7 @@
 use Rattle.std.proofs.Common.{◌≡◌, ◌+◌, ◌≤◌, map, vec_len, vec_capacity}
 use Rattle.sc_definitions.specs.Standings.{Standing, IsPlayed}
-use Rattle.sc_transcript.specs.Drivers.{driver_in, Continues}
+use Rattle.sc_transcript.specs.Drivers.{Continues}
+use Rattle.sc_transcript.specs.Transcripts.{driver_in}
 use Rattle.sc_rounds.specs.HeldProducts.{shown_in, image_in, image_stored_in, setting_over, standing_over}
 use Rattle.sc_transcript.specs.Batches.{HoldsIfMore}
 use Rattle.sc_rounds.proofs.held_product.HeldProduct.play.Given as goal
@@ -14,11 +15,11 @@ invariant-loop-round g l =
     let before = map M l.fn.challenges.items in
     record {
       continues : Continues (driver_in l.fn.transcript) (driver_in l.transcript);
-      played : l.transcript.played ≡ l._round;
-      left : (shown_in l.self).variables + l._round ≡ (shown_in l.fn.self).variables + l.fn.transcript.played;
+      played : l.transcript.rounds.played ≡ l._round;
+      left : (shown_in l.self).variables + l._round ≡ (shown_in l.fn.self).variables + l.fn.transcript.rounds.played;
       order : (shown_in l.self).order ≡ (shown_in l.fn.self).order;
       len : vec_len l.challenges ≡ l._round;
-      room : l.transcript.shape.num_rounds ≤ vec_capacity l.challenges;
+      room : l.transcript.rounds.shape.num_rounds ≤ vec_capacity l.challenges;
       batch : (start : Standing) → IsPlayed setting start begun before →
           IsPlayed setting start (standing_over M (image_in to l.self) l.transcript l.sumcheck_data) (map M l.challenges.items);
       holds : HoldsIfMore (record { setting = setting; now = begun; drawn = before }) (map M l.challenges.items) (image_stored_in to l.self);

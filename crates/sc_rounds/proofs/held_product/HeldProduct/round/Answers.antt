@@ -1,7 +1,7 @@
 use Rattle.std.proofs.Common.{◌≡◌, ℕ, [], ◌∷◌, map, Some, ap, sym, ◌∙◌, subst, ◌<◌}
 use Rattle.std.proofs.lemmas.Simd.{map-map}
 use Rattle.sc_definitions.specs.Tables.{entries, rows_of}
-use Rattle.sc_transcript.specs.Drivers.{driver_in}
+use Rattle.sc_transcript.specs.Transcripts.{driver_in}
 use Rattle.sc_transcript.specs.Data.{wire_in}
 use Rattle.sc_rounds.specs.Provers.{shown_of, held_shown, number_if_some}
 use Rattle.sc_definitions.specs.Shown.{imaged, message_shown, with_bound, standing_at}

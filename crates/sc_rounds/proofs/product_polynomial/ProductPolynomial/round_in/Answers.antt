@@ -2,7 +2,7 @@ use Rattle.std.proofs.Common.{◌≡◌, ℕ, ◌^◌, ◌<◌, ◌∙◌, ap, s
 use Rattle.sc_definitions.specs.Tables.{evaluation, bound_in, entries, rows_of}
 use Rattle.sc_table.specs.Polys.{variables_of, table_of}
 use Rattle.sc_table.specs.Strategy.{order_of}
-use Rattle.sc_transcript.specs.Drivers.{driver_in}
+use Rattle.sc_transcript.specs.Transcripts.{driver_in}
 use Rattle.sc_rounds.specs.Standings.{standing_in}
 use Rattle.sc_transcript.proofs.BatchLaws.{one_less, halts}
 use Rattle.sc_definitions.proofs.MappedRounds.{mapped, below_entries, image_message, image_bound, image_next}

@@ -1,6 +1,7 @@
 use Rattle.std.proofs.Common.{map, ap, sym, ◌∙◌, refl, inl, rules}
 use Rattle.sc_definitions.specs.Standings.{Standing}
 use Rattle.sc_transcript.specs.Data.{wire_in}
+use Rattle.sc_transcript.specs.declared.driver.BatchShape.{BatchShape}
 use Rattle.sc_transcript.specs.declared.transcript.SumcheckShape.{SumcheckShape}
 use Rattle.sc_transcript.specs.declared.error.SumcheckError.TheVariants.{NoMemory}
 use Rattle.sc_transcript.proofs.ReplayedLaws.{same_channel}
@@ -50,14 +51,14 @@ returns-in-Ok-clause-whole g c =
     let R = g.C.Challenger.rules in
     let at : SumcheckShape → Batch = base_batch_of self c.args.sumcheck_data.now (R c.args.challenger.now) (H c.args.challenger.now) in
     let begun = c.over-transcript.ensures in
-    let setting = same_setting (same_channel g.F.Field.ops.size (ap R begun.lent.same ∙ c.in_ok-seed.ensures.rules) (ap (λ (s : SumcheckShape). s.pow_bits) begun.fresh.shape)) refl in
+    let setting = same_setting (same_channel g.F.Field.ops.size (ap R begun.lent.same ∙ c.in_ok-seed.ensures.rules) (ap (λ (s : BatchShape). s.pow_bits) begun.fresh.shape)) refl in
     let start = ap (λ h. standing_at (base_shown self) h (W c.args.sumcheck_data.now)) (ap H begun.lent.same ∙ c.in_ok-seed.ensures.ok) in
     let all = c.in-Ok.ensures.played in
     whole_as (at c.new-shape.result) (ap at c.new-shape.ensures)
     (ap (λ h. standing_at (shown_in c.in-Ok.rounds) h (W c.play.new.sumcheck_data)) (sym (ap H (returned (search rules) c.in-Ok.ensures.continues.lender begun.lent.lender c.finish.ensures))))
     (ap (map N) (sym c.new.ensures))
     (record {
-      whole = sum_at _ _ _ _ (sym (all.done ∙ ap (λ (s : SumcheckShape). s.num_rounds) (c.in-Ok.ensures.continues.shape ∙ begun.fresh.shape))) all.left;
+      whole = sum_at _ _ _ _ (sym (all.done ∙ ap (λ (s : BatchShape). s.num_rounds) (c.in-Ok.ensures.continues.shape ∙ begun.fresh.shape))) all.left;
       played = played_at setting start refl refl all.played;
     })
 
@@ -72,10 +73,10 @@ returns-in-Err-clause-refused g c =
     let R = g.C.Challenger.rules in
     let at : SumcheckShape → Batch = base_batch_of self c.args.sumcheck_data.now (R c.args.challenger.now) (H c.args.challenger.now) in
     let begun = c.over-transcript.ensures in
-    let setting = same_setting (same_channel g.F.Field.ops.size (ap R begun.lent.same ∙ c.in_ok-seed.ensures.rules) (ap (λ (s : SumcheckShape). s.pow_bits) begun.fresh.shape)) refl in
+    let setting = same_setting (same_channel g.F.Field.ops.size (ap R begun.lent.same ∙ c.in_ok-seed.ensures.rules) (ap (λ (s : BatchShape). s.pow_bits) begun.fresh.shape)) refl in
     let start = ap (λ h. standing_at (base_shown self) h (W c.args.sumcheck_data.now)) (ap H begun.lent.same ∙ c.in_ok-seed.ensures.ok) in
     let stopped = c.in-Err.ensures.stopped in
-    let size = ap (λ (s : SumcheckShape). s.num_rounds) (c.in-Err.ensures.continues.shape ∙ begun.fresh.shape) in
+    let size = ap (λ (s : BatchShape). s.num_rounds) (c.in-Err.ensures.continues.shape ∙ begun.fresh.shape) in
     breaks_as (at c.new-shape.result) (ap at c.new-shape.ensures)
     (sym (ap H (returned (search rules) c.in-Err.ensures.continues.lender begun.lent.lender c.abort.ensures)))
     (record {

@@ -1,8 +1,8 @@
 use Rattle.std.proofs.Common.{◌≡◌, ◌+◌, ◌∷◌, ◌++◌, [], map, ap, sym, ◌∙◌, refl}
 use Rattle.sc_definitions.proofs.StandingLaws.{IsSized}
-use Rattle.sc_transcript.specs.Drivers.{driver_in}
+use Rattle.sc_transcript.specs.Transcripts.{driver_in}
 use Rattle.sc_transcript.specs.Data.{wire_in}
-use Rattle.sc_transcript.specs.declared.transcript.SumcheckShape.{SumcheckShape}
+use Rattle.sc_transcript.specs.declared.driver.BatchShape.{BatchShape}
 use Rattle.sc_transcript.specs.declared.error.SumcheckError.TheVariants.{NoMemory}
 use Rattle.sc_transcript.proofs.ReplayedLaws.{same_channel}
 use Rattle.sc_definitions.specs.Shown.{Shown, with_bound}
@@ -71,7 +71,7 @@ returns-in_err-play-clause-stopped g c =
     let one : map N c.push_reserved.new.self.items ≡ N c.in_ok-message.r ∷ [] = ap (map N) c.push_reserved.ensures.items ∙ ap (λ l. map N (l ++ c.in_ok-message.r ∷ [])) c.requires.empty in
     let rest = c.in_ok-rest.rest in
     let is = same_setting
-    (same_channel g.F.Field.ops.size first.continues.rules (ap (λ (s : SumcheckShape). s.pow_bits) first.continues.shape))
+    (same_channel g.F.Field.ops.size first.continues.rules (ap (λ (s : BatchShape). s.pow_bits) first.continues.shape))
     (ap (λ (s : Shown). s.order) c.in_ok-rest.ensures) in
     let here = ap (λ s. standing_over N s Drawn c.round.new.sumcheck_data) (sym c.in_ok-rest.ensures ∙ sym (imaged_same (shown_in rest))) in
     let u = standing_over N (image_in (λ n. n) c.play.new.self) c.play.new.transcript c.play.new.sumcheck_data in
@@ -104,7 +104,7 @@ returns-clause-played g c =
     let one : map N c.push_reserved.new.self.items ≡ N c.in_ok-message.r ∷ [] = ap (map N) c.push_reserved.ensures.items ∙ ap (λ l. map N (l ++ c.in_ok-message.r ∷ [])) c.requires.empty in
     let rest = c.in_ok-rest.rest in
     let is = same_setting
-    (same_channel g.F.Field.ops.size first.continues.rules (ap (λ (s : SumcheckShape). s.pow_bits) first.continues.shape))
+    (same_channel g.F.Field.ops.size first.continues.rules (ap (λ (s : BatchShape). s.pow_bits) first.continues.shape))
     (ap (λ (s : Shown). s.order) c.in_ok-rest.ensures) in
     let here = ap (λ s. standing_over N s Drawn c.round.new.sumcheck_data) (sym c.in_ok-rest.ensures ∙ sym (imaged_same (shown_in rest))) in
     let u = standing_over N (image_in (λ n. n) c.play.new.self) c.play.new.transcript c.play.new.sumcheck_data in
