@@ -13,6 +13,7 @@ use Rattle.sc_definitions.proofs.SameTables.{honest-same}
 use Rattle.sc_definitions.proofs.StandingLaws.{IsSized, entries-is, rows-entries_of, played_none, played_more, message_honest}
 use Rattle.sc_transcript.specs.declared.error.SumcheckError.{SumcheckError}
 use Rattle.sc_transcript.specs.declared.error.SumcheckError.TheVariants.{NoMemory}
+use Rattle.sc_transcript.specs.Causes.{cause_of}
 use Rattle.sc_transcript.specs.Drivers.{Driver, HasRoundLeft, IsRefused}
 use Rattle.sc_definitions.specs.Shown.{setting_at, standing_at}
 use Rattle.sc_transcript.specs.Batches.{StopsFrom}
@@ -110,7 +111,7 @@ module _ (s : Setting) (ring : IsRing s.ops) (offered : IsOffered s.basis s.orde
         (on_wire ∙ ap (λ (k : Channel). with_rounds k.bits wire (round_of values witness ∷ [])) same) is)
 
     -- the next is refused
-    pub drawn_refused : (c : Channel) → c ≡ s.channel → (d : Driver) (wire' : Wire) (i : ℕ) (e : SumcheckError) → IsRefused c i at.history values d.history e → wire' ≡ wire →
+    pub drawn_refused : {K : Type 0} (c : Channel) → c ≡ s.channel → (d : Driver K) (wire' : Wire) (i : ℕ) (e : SumcheckError) → IsRefused c i at.history values d.history (cause_of e) → wire' ≡ wire →
         i ≡ length rs → d.played ≡ i → HasRoundLeft d → StopsFrom s t d wire' e
     drawn_refused c same d wire' i e why kept place counts left =
         let u = with_drawn s t rs at wire in
@@ -122,11 +123,11 @@ module _ (s : Setting) (ring : IsRing s.ops) (offered : IsOffered s.basis s.orde
           left = omega (arith, counts, place, some);
           within = omega (arith, left);
           some = inr left;
-          stopped = stops _ e refl (sym counts) played (halts _ _ _ e (subst (λ k. IsRefused k i at.history values d.history e) same why) message refl);
+          stopped = stops _ e refl (sym counts) played (halts _ _ _ e (subst (λ k. IsRefused k i at.history values d.history (cause_of e)) same why) message refl);
         }
 
   -- there is no memory for what comes next
-  pub drawn_wants : (rs : List ℕ) (d : Driver) (claim : ℕ) (wire : Wire) → IsPlayed s t (with_drawn s t rs (footing d.history claim) wire) rs → length rs ≤ t.variables → d.played ≡ length rs →
+  pub drawn_wants : {K : Type 0} (rs : List ℕ) (d : Driver K) (claim : ℕ) (wire : Wire) → IsPlayed s t (with_drawn s t rs (footing d.history claim) wire) rs → length rs ≤ t.variables → d.played ≡ length rs →
       d.played ≤ d.shape.num_rounds → StopsFrom s t d wire NoMemory
   drawn_wants rs d claim wire played some counts within = record {
     after = with_drawn s t rs (footing d.history claim) wire;
@@ -139,7 +140,7 @@ module _ (s : Setting) (ring : IsRing s.ops) (offered : IsOffered s.basis s.orde
   }
 
 -- what stops is a result that is an error
-pub leaves_stopped : {X : Type 0} (s : Setting) (t : Standing) (rs : List ℕ) (claim : ℕ) (d : Driver) (wire : Wire) (r : Result X SumcheckError) (e : SumcheckError) →
+pub leaves_stopped : {X K : Type 0} (s : Setting) (t : Standing) (rs : List ℕ) (claim : ℕ) (d : Driver K) (wire : Wire) (r : Result X SumcheckError) (e : SumcheckError) →
     IsErrAnd r (λ x. x ≡ e) → StopsFrom s t d wire e → LeavesDrawn (record { setting = s; start = t }) rs claim d wire r
 leaves_stopped s t rs claim d wire (Ok x) e is p = elim is [ ]
 leaves_stopped s t rs claim d wire (Err x) e is p = subst (StopsFrom s t d wire) (sym is) p

@@ -118,7 +118,7 @@ module _ {EF : Type 0} (o : Ops) (number : EF → ℕ) (p : Problem) (b : Batch)
 
       -- ---- the rounds on it, in the channel by another name
 
-      module _ (c' : Channel) (same : c' ≡ c) (order : order_in left ≡ p.order) (d d' : Driver) (counts : d.played ≡ length rs) (u : Standing)
+      module _ {K : Type 0} (c' : Channel) (same : c' ≡ c) (order : order_in left ≡ p.order) (d d' : Driver K) (counts : d.played ≡ length rs) (u : Standing)
           (size : u.variables + d'.played ≡ variables_in left + d.played) where
         left_setting : setting_at c' o (shown_of number left sum) ≡ setting_at c o (prover_for o p)
         left_setting = same_setting same order
@@ -158,7 +158,7 @@ module _ {EF : Type 0} (o : Ops) (number : EF → ℕ) (p : Problem) (b : Batch)
             }
 
 -- what stops is a result that is an error
-pub plays_stopped : {X : Type 0} {s : Setting} {t : Standing} (after : X → Standing) (rs : List ℕ) {d : Driver} {wire : Wire} (r : Result X SumcheckError) {e : SumcheckError} →
+pub plays_stopped : {X K : Type 0} {s : Setting} {t : Standing} (after : X → Standing) (rs : List ℕ) {d : Driver K} {wire : Wire} (r : Result X SumcheckError) {e : SumcheckError} →
     IsErrAnd r (λ x. x ≡ e) → StopsFrom s t d wire e → LeavesPlayed (record { setting = s; start = t }) after rs d wire r
 plays_stopped after rs (Ok x) is p = elim is [ ]
 plays_stopped {s} {t} after rs {d} {wire} (Err x) is p = subst (StopsFrom s t d wire) (sym is) p

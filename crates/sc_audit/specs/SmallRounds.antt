@@ -83,19 +83,19 @@ with_drawn s t rs at wire = record {
 }
 
 -- So many rounds of a driver were played, as many challenges are drawn, and there is room for those of all rounds.
-pub record HasPlayed {X : Type 0} (rounds : ℕ) (d : Driver) (drawn : List X) (room : ℕ) : Type 0 where
+pub record HasPlayed {X K : Type 0} (rounds : ℕ) (d : Driver K) (drawn : List X) (room : ℕ) : Type 0 where
   pub played : d.played ≡ rounds
   pub count : length drawn ≡ rounds
   pub fits : d.shape.num_rounds ≤ room
 
 -- what rounds leave whose tables are never in memory, by their result: they were played with the challenges rs and leave a claim, or they stop
-abbrev pub LeavesDrawn : {X : Type 0} → Begun → List ℕ → ℕ → Driver → Wire → Result X SumcheckError → Type 0
+abbrev pub LeavesDrawn : {X K : Type 0} → Begun → List ℕ → ℕ → Driver K → Wire → Result X SumcheckError → Type 0
 LeavesDrawn b rs claim d wire (Ok x) =
     IsPlayed b.setting b.start (with_drawn b.setting b.start rs (record { history = d.history; claim = claim }) wire) rs
 LeavesDrawn b rs claim d wire (Err e) = StopsFrom b.setting b.start d wire e
 
 -- what all rounds of a driver leave, by their result: they were played with the challenges rs, and stand where it says, or they stop
-abbrev pub LeavesPlayed : {X : Type 0} → Begun → (X → Standing) → List ℕ → Driver → Wire → Result X SumcheckError → Type 0
+abbrev pub LeavesPlayed : {X K : Type 0} → Begun → (X → Standing) → List ℕ → Driver K → Wire → Result X SumcheckError → Type 0
 LeavesPlayed b after rs d wire (Ok x) = PlaysFrom b.setting b.start (after x) rs d
 LeavesPlayed b after rs d wire (Err e) = StopsFrom b.setting b.start d wire e
 

@@ -4,7 +4,8 @@ ghost use Rattle.std.specs.Prelude.{◌≡◌, ◌+◌, ◌≤◌, OnOk, length,
 ghost use Rattle.sc_definitions.specs.Problem.{Problem, claim_of};
 ghost use Rattle.sc_table.specs.declared.strategy.Strategy.TheVariants.{SmallValue};
 ghost use Rattle.sc_transcript.specs.Data.{wire_in};
-ghost use Rattle.sc_transcript.specs.Drivers.{driver_in, Continues};
+ghost use Rattle.sc_transcript.specs.Drivers.{Continues};
+ghost use Rattle.sc_transcript.specs.Transcripts.{driver_in};
 ghost use Rattle.sc_rounds.specs.Products.{variables_in, sum_in};
 ghost use Rattle.sc_rounds.specs.Provers.{shown_of};
 ghost use Rattle.sc_rounds.specs.HeldProducts.{course_over};

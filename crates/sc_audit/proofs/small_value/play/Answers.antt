@@ -3,8 +3,9 @@ use Rattle.std.proofs.lemmas.List.{length-map}
 use Rattle.sc_definitions.specs.Tables.{entries}
 use Rattle.sc_definitions.specs.Combined.{combined_weight}
 use Rattle.sc_transcript.specs.Data.{wire_in}
-use Rattle.sc_transcript.specs.Drivers.{driver_in, channel_of}
-use Rattle.sc_transcript.specs.declared.transcript.SumcheckShape.{SumcheckShape}
+use Rattle.sc_transcript.specs.Drivers.{channel_of}
+use Rattle.sc_transcript.specs.Transcripts.{driver_in}
+use Rattle.sc_transcript.specs.declared.driver.BatchShape.{BatchShape}
 use Rattle.sc_transcript.proofs.ReplayedLaws.{same_channel}
 use Rattle.sc_rounds.specs.Provers.{shown_of}
 use Rattle.sc_rounds.specs.HeldProducts.{standing_over}
@@ -35,7 +36,7 @@ returns-in_err-evals-clause-played g c =
     (drawn_wants (setting_for g.EF.ExtensionField.extension o p c.args.transcript.now) g.met.EF.Field.is_field.ring tt (begun_for N o p c.args.transcript.now c.args.sumcheck_data.now) rs d
     (N c.play_small.new.sum) (wire_in g.F.Field.number N c.play_small.new.sumcheck_data) (small.drawn p c.requires.batch c.requires.claim)
     (omega (arith, count, c.requires.batch.within)) (small.counts.played ∙ sym count)
-    (omega (arith, small.counts.played, c.requires.batch.within, c.requires.rounds, ap (λ (s : SumcheckShape). s.num_rounds) small.continues.shape)))
+    (omega (arith, small.counts.played, c.requires.batch.within, c.requires.rounds, ap (λ (s : BatchShape). s.num_rounds) small.continues.shape)))
 
 -- the claim is the sum of what they leave
 pub play_rest-requires-clause-sum : goal.play_rest-requires-clause-sum
@@ -75,7 +76,7 @@ returns-in_err-play_rest-clause-played g c =
     made.variables made.evals made.weights (channel_of g.EF.ExtensionField.extension (driver_in c.args.transcript.now)) t.history (driver_in c.play_small.new.transcript).history t.wire
     (wire_in g.F.Field.number N c.play_small.new.sumcheck_data) (small.drawn p c.requires.batch c.requires.claim)
     (channel_of g.EF.ExtensionField.extension (driver_in c.play_small.new.transcript))
-    (same_channel g.F.Field.ops.size small.continues.rules (ap (λ (k : SumcheckShape). k.pow_bits) small.continues.shape)) made.order
+    (same_channel g.F.Field.ops.size small.continues.rules (ap (λ (k : BatchShape). k.pow_bits) small.continues.shape)) made.order
     (driver_in c.play_small.new.transcript) (driver_in c.play_rest.new.transcript) (small.counts.played ∙ sym count)
     (standing_over N (shown_of N c.play_rest.new.left c.play_rest.new.sum) c.play_rest.new.transcript c.play_rest.new.sumcheck_data) rest.left _ refl rest.rounds)
 
@@ -98,6 +99,6 @@ returns-clause-played g c =
     made.variables made.evals made.weights (channel_of g.EF.ExtensionField.extension (driver_in c.args.transcript.now)) t.history (driver_in c.play_small.new.transcript).history t.wire
     (wire_in g.F.Field.number N c.play_small.new.sumcheck_data) (small.drawn p c.requires.batch c.requires.claim)
     (channel_of g.EF.ExtensionField.extension (driver_in c.play_small.new.transcript))
-    (same_channel g.F.Field.ops.size small.continues.rules (ap (λ (k : SumcheckShape). k.pow_bits) small.continues.shape)) made.order
+    (same_channel g.F.Field.ops.size small.continues.rules (ap (λ (k : BatchShape). k.pow_bits) small.continues.shape)) made.order
     (driver_in c.play_small.new.transcript) (driver_in c.play_rest.new.transcript) (small.counts.played ∙ sym count)
     (standing_over N (shown_of N c.play_rest.new.left c.play_rest.new.sum) c.play_rest.new.transcript c.play_rest.new.sumcheck_data) rest.left _ rest.rounds

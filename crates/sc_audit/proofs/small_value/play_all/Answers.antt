@@ -4,6 +4,7 @@ use Rattle.sc_definitions.specs.Standings.{Standing}
 use Rattle.sc_table.specs.declared.strategy.Basis.TheVariants.{Evaluation}
 use Rattle.sc_transcript.specs.Data.{wire_in}
 use Rattle.sc_transcript.specs.Shapes.{shape_of}
+use Rattle.sc_transcript.specs.declared.driver.BatchShape.{BatchShape}
 use Rattle.sc_transcript.specs.declared.transcript.SumcheckShape.{SumcheckShape}
 use Rattle.sc_transcript.specs.declared.error.SumcheckError.TheVariants.{NoMemory}
 use Rattle.sc_transcript.proofs.ReplayedLaws.{same_channel}
@@ -57,7 +58,7 @@ returns-in-Ok g c =
     c.new-shape.ensures ∙ ap (λ k. shape_of k job.pow_bits Evaluation) c.num_variables-variables.ensures in
     let begun = c.over-transcript.ensures in
     let setting = same_setting
-    (same_channel g.F.Field.ops.size (ap R begun.lent.same ∙ c.in_ok-seed.ensures.rules) (ap (λ (s : SumcheckShape). s.pow_bits) begun.fresh.shape)) refl in
+    (same_channel g.F.Field.ops.size (ap R begun.lent.same ∙ c.in_ok-seed.ensures.rules) (ap (λ (s : BatchShape). s.pow_bits) begun.fresh.shape)) refl in
     let start = ap (λ h. standing_at shown h on) (ap H begun.lent.same ∙ c.in_ok-seed.ensures.ok) in
     let all = c.in-Ok.ensures.played in
     whole_as (at c.new-shape.result) (ap at shape)
@@ -65,7 +66,7 @@ returns-in-Ok g c =
     (sym (ap H (returned (search rules) c.in-Ok.ensures.continues.lender begun.lent.lender c.finish.ensures))))
     (ap (map N) (sym c.new.ensures))
     (record {
-      whole = sum_at _ _ _ _ (sym (all.done ∙ ap (λ (s : SumcheckShape). s.num_rounds) (c.in-Ok.ensures.continues.shape ∙ begun.fresh.shape))) all.left;
+      whole = sum_at _ _ _ _ (sym (all.done ∙ ap (λ (s : BatchShape). s.num_rounds) (c.in-Ok.ensures.continues.shape ∙ begun.fresh.shape))) all.left;
       played = played_at setting start refl refl all.played;
     })
 
@@ -86,10 +87,10 @@ returns-in-Err g c =
     c.new-shape.ensures ∙ ap (λ k. shape_of k job.pow_bits Evaluation) c.num_variables-variables.ensures in
     let begun = c.over-transcript.ensures in
     let setting = same_setting
-    (same_channel g.F.Field.ops.size (ap R begun.lent.same ∙ c.in_ok-seed.ensures.rules) (ap (λ (s : SumcheckShape). s.pow_bits) begun.fresh.shape)) refl in
+    (same_channel g.F.Field.ops.size (ap R begun.lent.same ∙ c.in_ok-seed.ensures.rules) (ap (λ (s : BatchShape). s.pow_bits) begun.fresh.shape)) refl in
     let start = ap (λ h. standing_at shown h on) (ap H begun.lent.same ∙ c.in_ok-seed.ensures.ok) in
     let stopped = c.in-Err.ensures.played in
-    let size = ap (λ (s : SumcheckShape). s.num_rounds) (c.in-Err.ensures.continues.shape ∙ begun.fresh.shape) in
+    let size = ap (λ (s : BatchShape). s.num_rounds) (c.in-Err.ensures.continues.shape ∙ begun.fresh.shape) in
     breaks_as (at c.new-shape.result) (ap at shape)
     (sym (ap H (returned (search rules) c.in-Err.ensures.continues.lender begun.lent.lender c.abort.ensures)))
     (record {

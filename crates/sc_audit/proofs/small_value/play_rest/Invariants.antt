@@ -1,6 +1,7 @@
 use Rattle.std.proofs.Common.{◌≡◌, ◌+◌, ◌≤◌, map, vec_len, vec_capacity}
 use Rattle.sc_definitions.specs.Standings.{Standing, IsPlayed}
-use Rattle.sc_transcript.specs.Drivers.{driver_in, Continues}
+use Rattle.sc_transcript.specs.Drivers.{Continues}
+use Rattle.sc_transcript.specs.Transcripts.{driver_in}
 use Rattle.sc_rounds.specs.Products.{variables_in, order_in, sum_in}
 use Rattle.sc_rounds.specs.Provers.{shown_of}
 use Rattle.sc_rounds.specs.HeldProducts.{setting_over, standing_over}
@@ -13,12 +14,12 @@ invariant-loop-round g l =
     let begun = standing_over N (shown_of N l.fn.left l.fn.sum) l.fn.transcript l.fn.sumcheck_data in
     record {
       continues : Continues (driver_in l.fn.transcript) (driver_in l.transcript);
-      played : l.transcript.played ≡ l._round;
-      left : variables_in l.left + l._round ≡ variables_in l.fn.left + l.fn.transcript.played;
+      played : l.transcript.rounds.played ≡ l._round;
+      left : variables_in l.left + l._round ≡ variables_in l.fn.left + l.fn.transcript.rounds.played;
       order : order_in l.left ≡ order_in l.fn.left;
       sum : N l.sum ≡ sum_in g.EF.Field.ops N l.left;
       len : vec_len l.challenges ≡ l._round;
-      room : l.transcript.shape.num_rounds ≤ vec_capacity l.challenges;
+      room : l.transcript.rounds.shape.num_rounds ≤ vec_capacity l.challenges;
       batch : (start : Standing) → IsPlayed setting start begun (map N l.fn.challenges.items) →
           IsPlayed setting start (standing_over N (shown_of N l.left l.sum) l.transcript l.sumcheck_data) (map N l.challenges.items);
     }

@@ -3,8 +3,9 @@ use Rattle.std.proofs.lemmas.List.{length-map, map-append}
 use Rattle.sc_definitions.specs.Channels.{footing}
 use Rattle.sc_definitions.proofs.StandingLaws.{length-entries_of}
 use Rattle.sc_transcript.specs.Data.{wire_in}
-use Rattle.sc_transcript.specs.Drivers.{driver_in, channel_of}
-use Rattle.sc_transcript.specs.declared.transcript.SumcheckShape.{SumcheckShape}
+use Rattle.sc_transcript.specs.Drivers.{channel_of}
+use Rattle.sc_transcript.specs.Transcripts.{driver_in}
+use Rattle.sc_transcript.specs.declared.driver.BatchShape.{BatchShape}
 use Rattle.sc_transcript.specs.declared.error.SumcheckError.TheVariants.{NoMemory}
 use Rattle.sc_transcript.proofs.ReplayedLaws.{same_channel}
 use Rattle.sc_transcript.proofs.BatchLaws.{fits}
@@ -19,7 +20,7 @@ loop-round-init g c =
     let N = g.EF.Field.number in
     let o = g.EF.Field.ops in
     record {
-      continues = record { lender = refl; rules = refl; values = refl; shape = refl };
+      continues = record { lender = refl; rules = refl; shape = refl; kind = refl };
       played = c.requires.fresh.played;
       len = c.args.challenges.now.ok.0 ∙ c.requires.fresh.count;
       room = c.requires.fresh.fits;
@@ -42,7 +43,7 @@ returns-in_err-message-clause-drawn g c = λ p of is.
     omega (arith, count, c.loop-round-test.true, c.len-round-end.ensures, length-map c.grids.result.now.rounds (grid_shown N), ap length c.grids.ensures) in
     leaves_stopped s t rs (N c.loop-round.sum) d (wire_in g.F.Field.number N c.loop-round.sumcheck_data) c.from_residual.result NoMemory c.from_residual.ensures.1
     (drawn_wants s g.met.EF.Field.is_field.ring tt t rs d (N c.loop-round.sum) _ (inv.drawn p of is) (omega (arith, low, of.within)) (inv.played ∙ sym count)
-    (omega (arith, inv.played, count, low, c.requires.within, ap (λ (k : SumcheckShape). k.num_rounds) inv.continues.shape)))
+    (omega (arith, inv.played, count, low, c.requires.within, ap (λ (k : BatchShape). k.num_rounds) inv.continues.shape)))
 
 -- a round is refused
 pub returns-in_err-r-clause-drawn : goal.returns-in_err-r-clause-drawn
@@ -65,10 +66,10 @@ returns-in_err-r-clause-drawn g c = λ p of is.
     let message = read_message o ring p (batch_in c.args.batch.now) of s.channel t.history t.wire rs (footing d.history (N c.loop-round.sum)) on values low played
     (c.in_ok-message.ensures.honest p.table of.grids ∙ ap (λ xs. honest_of o (batch_in c.args.batch.now) p.table (map N xs)) c.as_slice.ensures.value) in
     let refused = c.in_err-r.ensures.refused in
-    let size = ap (λ (k : SumcheckShape). k.num_rounds) (c.in_err-r.ensures.continues.shape ∙ inv.continues.shape) in
+    let size = ap (λ (k : BatchShape). k.num_rounds) (c.in_err-r.ensures.continues.shape ∙ inv.continues.shape) in
     leaves_stopped s t rs (N c.loop-round.sum) d' (wire_in g.F.Field.number N c.observe_and_sample.new.self) c.from_residual-in_err-r.result _ c.from_residual-in_err-r.ensures.1
     (drawn_refused s ring tt t rs (footing d.history (N c.loop-round.sum)) on played (omega (arith, low, of.within)) values message (channel_of g.EF.ExtensionField.extension d)
-    (same_channel g.F.Field.ops.size inv.continues.rules (ap (λ (k : SumcheckShape). k.pow_bits) inv.continues.shape)) d' _ d.played _ refused.why c.in_err-r.ensures.kept
+    (same_channel g.F.Field.ops.size inv.continues.rules (ap (λ (k : BatchShape). k.pow_bits) inv.continues.shape)) d' _ d.played _ refused.why c.in_err-r.ensures.kept
     (inv.played ∙ sym count) refused.played (omega (arith, refused.played, inv.played, count, low, c.requires.within, size)))
 
 -- one is played
@@ -90,12 +91,12 @@ loop-round-preserved g c =
       continues = record {
         lender = round.continues.lender ∙ inv.continues.lender;
         rules = round.continues.rules ∙ inv.continues.rules;
-        values = round.continues.values ∙ inv.continues.values;
         shape = round.continues.shape ∙ inv.continues.shape;
+        kind = round.continues.kind ∙ inv.continues.kind;
       };
       played = round.puts.plays.played ∙ ap (λ n. n + 1) inv.played;
       len = c.push_reserved.ensures.len ∙ ap (λ n. n + 1) inv.len;
-      room = fits _ _ _ _ (ap (λ (s : SumcheckShape). s.num_rounds) round.continues.shape) c.push_reserved.ensures.capacity inv.room;
+      room = fits _ _ _ _ (ap (λ (s : BatchShape). s.num_rounds) round.continues.shape) c.push_reserved.ensures.capacity inv.room;
       drawn = λ p of is.
           let s = setting_for g.EF.ExtensionField.extension o p c.args.transcript.now in
           let t = begun_for N o p c.args.transcript.now c.args.sumcheck_data.now in
@@ -103,6 +104,6 @@ loop-round-preserved g c =
           let message = read_message o ring p (batch_in c.args.batch.now) of s.channel t.history t.wire rs (footing d.history (N c.loop-round.sum)) on values low played
           (c.in_ok-message.ensures.honest p.table of.grids ∙ ap (λ xs. honest_of o (batch_in c.args.batch.now) p.table (map N xs)) c.as_slice.ensures.value) in
           drawn_more s ring tt t rs (footing d.history (N c.loop-round.sum)) on played (omega (arith, low, of.within)) values message (channel_of g.EF.ExtensionField.extension d)
-          (same_channel g.F.Field.ops.size inv.continues.rules (ap (λ (k : SumcheckShape). k.pow_bits) inv.continues.shape)) round.puts.witness (N c.in_ok-r.r) _ _ _ _
+          (same_channel g.F.Field.ops.size inv.continues.rules (ap (λ (k : BatchShape). k.pow_bits) inv.continues.shape)) round.puts.witness (N c.in_ok-r.r) _ _ _ _
           (ap (map N) c.push_reserved.ensures.items ∙ map-append N _ _) round.puts.plays.sent round.puts.wire c.reduce_claim.ensures.claim;
     }

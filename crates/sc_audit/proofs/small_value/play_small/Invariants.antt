@@ -3,7 +3,8 @@ use Rattle.sc_definitions.specs.Channels.{footing}
 use Rattle.sc_definitions.specs.Standings.{IsPlayed}
 use Rattle.sc_definitions.specs.Problem.{Problem, claim_of}
 use Rattle.sc_transcript.specs.Data.{wire_in}
-use Rattle.sc_transcript.specs.Drivers.{driver_in, Continues}
+use Rattle.sc_transcript.specs.Drivers.{Continues}
+use Rattle.sc_transcript.specs.Transcripts.{driver_in}
 use Rattle.sc_svo.specs.Batches.{batch_in}
 use Rattle.sc_audit.specs.SmallRounds.{setting_for, begun_for, with_drawn}
 use Rattle.sc_jobs.specs.Taken.{IsBatchOf}
@@ -15,9 +16,9 @@ invariant-loop-round g l =
     let o = g.EF.Field.ops in
     record {
       continues : Continues (driver_in l.fn.transcript) (driver_in l.transcript);
-      played : l.transcript.played ≡ l._round;
+      played : l.transcript.rounds.played ≡ l._round;
       len : vec_len l.challenges ≡ l._round;
-      room : l.transcript.shape.num_rounds ≤ vec_capacity l.challenges;
+      room : l.transcript.rounds.shape.num_rounds ≤ vec_capacity l.challenges;
       drawn : (p : Problem) → IsBatchOf o p (batch_in l.batch) → N l.fn.sum ≡ claim_of o p →
           IsPlayed (setting_for g.EF.ExtensionField.extension o p l.fn.transcript) (begun_for N o p l.fn.transcript l.fn.sumcheck_data)
           (with_drawn (setting_for g.EF.ExtensionField.extension o p l.fn.transcript) (begun_for N o p l.fn.transcript l.fn.sumcheck_data) (map N l.challenges.items)
