@@ -1,2 +1,5 @@
 pub mod GroupCounts
 pub mod RestLaws
+pub mod FormLaws
+pub mod JobLaws
+pub mod ProductJobLaws

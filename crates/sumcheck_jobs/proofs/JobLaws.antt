@@ -1,0 +1,177 @@
+-- The numbers of a job that a value describes are those of elements.
+use Rattle.std.proofs.Common.{◌≡◌, ℕ, ◌+◌, ◌<◌, length, Bool, true, false, Option, Some, None, Result, Ok, refl, sym, subst, if◌then◌else◌}
+use Rattle.std.specs.Prelude.{All, codes, bytes_eq, nat_eq, nat_le, is_some, option_map}
+use Rattle.std.proofs.lemmas.Bool.{eqb-true}
+use Rattle.std.proofs.lemmas.Option.{same_Some, none-some, cond_some, option_and_then_some}
+use Rattle.serde_json.specs.Data.{Data}
+use Rattle.serde_json.specs.Find.{get, as_null, as_str}
+use Rattle.sc_forms.specs.Forms.{at_most_form, is_object, list_form, list_of_length_form, literal_form, member_form, pair_form}
+use Rattle.sumcheck_jobs.specs.declared.member.Member.{Member}
+use Rattle.sumcheck_jobs.specs.declared.member.Member.TheVariants.{Whole, Field, Challenger as ChallengerMember, Order, Bits, Table, Variables, Groups, Batching, Mode as ModeMember}
+use Rattle.sumcheck_jobs.specs.declared.job.FieldName.{FieldName}
+use Rattle.sumcheck_jobs.specs.declared.job.Sizes.{Sizes}
+use Rattle.sumcheck_jobs.specs.declared.job.Script.{Script}
+use Rattle.sumcheck_jobs.specs.declared.job.Challenger.{Challenger}
+use Rattle.sumcheck_jobs.specs.declared.job.Challenger.TheVariants.{Scripted, Hash}
+use Rattle.sumcheck_jobs.specs.declared.job.Group.{Group}
+use Rattle.sumcheck_jobs.specs.declared.job.Group.TheVariants.{Equality, Successor, Scalars, Products}
+use Rattle.sumcheck_jobs.specs.declared.job.Proof.{Proof}
+use Rattle.sumcheck_jobs.specs.declared.job.Mode.{Mode}
+use Rattle.sumcheck_jobs.specs.declared.job.Mode.TheVariants.{Build, Check}
+use Rattle.sumcheck_jobs.specs.declared.job.Job.{Job}
+use Rattle.sumcheck_jobs.specs.Elements.{element_form, field_form, order_form, sizes_of}
+use Rattle.sumcheck_jobs.specs.Statements.{EqualityFits, SuccessorFits, ScalarFits, ProductFits, GroupFits, statement_count}
+use Rattle.sumcheck_jobs.specs.Groups.{equality_form, successor_form, scalar_form, product_form, select_by, select_form, group_named, group_form, most_statements, few_statements, groups_form}
+use Rattle.sumcheck_jobs.specs.Job.{script_form, challenger_form, proof_form, check_form, strategy_form, mode_by, mode_form, members_over, members_of, job_of, ScriptFits, ChallengerFits, ProofFits, ModeFits, JobFits}
+use Rattle.sumcheck_jobs.proofs.FormLaws.{Gives, option_map_some, below-gives, at_most-gives, list-gives, list_of_length-gives, pair-gives, member-gives, with_member-gives, needed-gives, any-gives, tested_ok}
+
+ok-same : (x y : Job) → ◌≡◌ {A = Result Job Member} (Ok x) (Ok y) → x ≡ y
+ok-same x y e = cc
+
+module _ (sizes : Sizes) where
+  abbrev base_element : Data → Option ℕ
+  base_element = element_form sizes.base
+
+  abbrev extension_element : Data → Option ℕ
+  extension_element = element_form sizes.extension
+
+  base-gives : Gives base_element (λ n. n < sizes.base)
+  base-gives = below-gives sizes.base
+
+  extension-gives : Gives extension_element (λ n. n < sizes.extension)
+  extension-gives = below-gives sizes.extension
+
+  -- ---- challengers
+
+  script-gives : Gives (script_form sizes) (ScriptFits sizes.base)
+  script-gives d script is =
+      with_member-gives d (codes "draws") (list_form base_element) _ script (list-gives base_element base-gives) is (λ draws low is.
+      with_member-gives d (codes "witnesses") (list_form (list_form base_element)) _ script (list-gives (list_form base_element) (list-gives base_element base-gives)) is (λ witnesses lows is.
+      subst (ScriptFits sizes.base) (same_Some (record { draws = draws; witnesses = witnesses }) script is) (record { draws = low; witnesses = lows })))
+
+  challenger-by : (hash : Bool) (script : Option Script) (c : Challenger) → ((s : Script) → script ≡ Some s → ScriptFits sizes.base s) →
+      (if hash then Some Hash else option_map (λ s. Scripted s) script) ≡ Some c → ChallengerFits sizes.base c
+  challenger-by true script c fits is = subst (ChallengerFits sizes.base) (same_Some Hash c is) tt
+  challenger-by false script c fits is =
+      option_map_some (λ s. Scripted s) script c is (λ s at same. subst (ChallengerFits sizes.base) same (fits s at))
+
+  pub challenger-gives : Gives (challenger_form sizes) (ChallengerFits sizes.base)
+  challenger-gives d c is = challenger-by (is_some (literal_form (codes "hash") d)) (script_form sizes d) c (script-gives d) is
+
+  -- ---- groups of claims
+
+  module _ (variables : ℕ) where
+    equality-gives : Gives (equality_form sizes variables) (EqualityFits sizes.extension variables)
+    equality-gives d c is =
+        with_member-gives d (codes "point") (list_of_length_form extension_element variables) _ c (list_of_length-gives extension_element extension-gives variables) is (λ point whole is.
+        with_member-gives d (codes "value") extension_element _ c extension-gives is (λ value low is.
+        subst (EqualityFits sizes.extension variables) (same_Some (record { point = point; value = value }) c is)
+        (record { arity = whole.1; point = whole.0; value = low })))
+
+    successor-gives : Gives (successor_form sizes variables) (SuccessorFits sizes.extension variables)
+    successor-gives d c is =
+        with_member-gives d (codes "selector") (list_form extension_element) _ c (list-gives extension_element extension-gives) is (λ selector fixed is.
+        with_member-gives d (codes "point") (list_form extension_element) _ c (list-gives extension_element extension-gives) is (λ point lows is.
+        with_member-gives d (codes "order") order_form _ c (any-gives order_form) is (λ order _ is.
+        with_member-gives d (codes "value") extension_element _ c extension-gives is (λ value low is.
+        let whole = cond_some (nat_eq (length selector + length point) variables) (record { selector = selector; point = point; order = order; value = value }) c is in
+        subst (SuccessorFits sizes.extension variables) whole.1
+        (record { arity = eqb-true _ _ whole.0; selector = fixed; point = lows; value = low })))))
+
+    scalar-gives : Gives (scalar_form sizes) (ScalarFits sizes)
+    scalar-gives d c is =
+        with_member-gives d (codes "at") base_element _ c base-gives is (λ scalar few is.
+        with_member-gives d (codes "value") extension_element _ c extension-gives is (λ value low is.
+        subst (ScalarFits sizes) (same_Some (record { scalar = scalar; value = value }) c is) (record { scalar = few; value = low })))
+
+    product-gives : Gives (product_form sizes variables) (ProductFits sizes variables)
+    product-gives d c is =
+        with_member-gives d (codes "at") (list_of_length_form base_element variables) _ c (list_of_length-gives base_element base-gives variables) is (λ point whole is.
+        with_member-gives d (codes "value") extension_element _ c extension-gives is (λ value low is.
+        subst (ProductFits sizes variables) (same_Some (record { point = point; value = value }) c is)
+        (record { arity = whole.1; point = whole.0; value = low })))
+
+    select-by : (scalars points : Option Data) (g : Group) → select_by sizes variables scalars points ≡ Some g → GroupFits sizes variables g
+    select-by (Some scalars) None g is =
+        option_map_some (λ cs. Scalars cs) (list_form (scalar_form sizes) scalars) g is (λ cs at same.
+        subst (GroupFits sizes variables) same (list-gives (scalar_form sizes) scalar-gives scalars cs at))
+    select-by None (Some points) g is =
+        option_map_some (λ cs. Products cs) (list_form (product_form sizes variables) points) g is (λ cs at same.
+        subst (GroupFits sizes variables) same (list-gives (product_form sizes variables) product-gives points cs at))
+    select-by None None g is = absurd (none-some g is)
+    select-by (Some scalars) (Some points) g is = absurd (none-some g is)
+
+    named-by : (eq next select : Bool) (d : Data) (g : Group) →
+        (if eq then option_map (λ cs. Equality cs) (member_form (list_form (equality_form sizes variables)) (codes "claims") d) else
+        (if next then option_map (λ cs. Successor cs) (member_form (list_form (successor_form sizes variables)) (codes "claims") d) else
+        (if select then select_form sizes variables d else None))) ≡ Some g → GroupFits sizes variables g
+    named-by true next select d g is =
+        option_map_some (λ cs. Equality cs) (member_form (list_form (equality_form sizes variables)) (codes "claims") d) g is (λ cs at same.
+        subst (GroupFits sizes variables) same
+        (member-gives (list_form (equality_form sizes variables)) (list-gives (equality_form sizes variables) equality-gives) (codes "claims") d cs at))
+    named-by false true select d g is =
+        option_map_some (λ cs. Successor cs) (member_form (list_form (successor_form sizes variables)) (codes "claims") d) g is (λ cs at same.
+        subst (GroupFits sizes variables) same
+        (member-gives (list_form (successor_form sizes variables)) (list-gives (successor_form sizes variables) successor-gives) (codes "claims") d cs at))
+    named-by false false true d g is = select-by (get (codes "scalars") d) (get (codes "points") d) g is
+    named-by false false false d g is = absurd (none-some g is)
+
+    group-gives : Gives (group_form sizes variables) (GroupFits sizes variables)
+    group-gives d g is =
+        with_member-gives d (codes "kind") as_str (group_named sizes variables d) g (any-gives as_str) is (λ kind _ is.
+        named-by (bytes_eq kind (codes "eq")) (bytes_eq kind (codes "next")) (bytes_eq kind (codes "select")) d g is)
+
+    pub groups-gives : Gives (groups_form sizes variables) (All (GroupFits sizes variables))
+    groups-gives d groups is =
+        option_and_then_some few_statements (list_form (group_form sizes variables) d) groups is (λ gs at some.
+        subst (All (GroupFits sizes variables)) (cond_some (nat_le (statement_count gs) most_statements) gs groups some).1
+        (list-gives (group_form sizes variables) group-gives d gs at))
+
+  -- ---- what is done
+
+  proof-gives : Gives (proof_form sizes) (ProofFits sizes)
+  proof-gives d p is =
+      with_member-gives d (codes "rounds") (list_form (pair_form extension_element)) _ p (list-gives (pair_form extension_element) (pair-gives extension_element extension-gives)) is (λ rounds lows is.
+      with_member-gives d (codes "witnesses") (list_form base_element) _ p (list-gives base_element base-gives) is (λ witnesses fews is.
+      subst (ProofFits sizes) (same_Some (record { rounds = rounds; witnesses = witnesses }) p is) (record { rounds = lows; witnesses = fews })))
+
+  check-by : (null : Bool) (proof : Option Proof) (checked : Option Proof) → ((p : Proof) → proof ≡ Some p → ProofFits sizes p) →
+      (if null then Some None else option_map (λ p. Some p) proof) ≡ Some checked → ModeFits sizes (Check checked)
+  check-by true proof checked fits is = subst (λ c. ModeFits sizes (Check c)) (same_Some None checked is) tt
+  check-by false proof checked fits is =
+      option_map_some (λ p. Some p) proof checked is (λ p at same. subst (λ c. ModeFits sizes (Check c)) same (fits p at))
+
+  mode-by : (build check : Option Data) (mode : Mode) → mode_by sizes build check ≡ Some mode → ModeFits sizes mode
+  mode-by (Some build) None mode is =
+      option_map_some (λ s. Build s) (strategy_form build) mode is (λ s at same. subst (ModeFits sizes) same tt)
+  mode-by None (Some check) mode is =
+      option_map_some (λ c. Check c) (check_form sizes check) mode is (λ c at same.
+      subst (ModeFits sizes) same (check-by (is_some (as_null check)) (proof_form sizes check) c (proof-gives check) at))
+  mode-by None None mode is = absurd (none-some mode is)
+  mode-by (Some build) (Some check) mode is = absurd (none-some mode is)
+
+  pub mode-gives : Gives (mode_form sizes) (ModeFits sizes)
+  mode-gives d mode is = mode-by (get (codes "build") d) (get (codes "check") d) mode is
+
+  -- ---- the members
+
+  members-fit : (field : FieldName) (d : Data) (job : Job) → members_over field sizes d ≡ Ok job → (job.field ≡ field) × JobFits sizes job
+  members-fit field d job is =
+      needed-gives (challenger_form sizes) ChallengerMember d _ job challenger-gives is (λ challenger c is.
+      needed-gives order_form Order d _ job (any-gives order_form) is (λ order _ is.
+      needed-gives (at_most_form 65535) Bits d _ job (at_most-gives 65535) is (λ bits _ is.
+      needed-gives (list_form base_element) Table d _ job (list-gives base_element base-gives) is (λ table t is.
+      needed-gives (at_most_form 64) Variables d _ job (at_most-gives 64) is (λ variables v is.
+      needed-gives (groups_form sizes variables) Groups d _ job (groups-gives variables) is (λ groups g is.
+      needed-gives extension_element Batching d _ job extension-gives is (λ batching b is.
+      needed-gives (mode_form sizes) ModeMember d _ job mode-gives is (λ mode m is.
+      subst (λ j. (j.field ≡ field) × JobFits sizes j) (ok-same (record { field = field; challenger = challenger; order = order; bits = bits; table = table; variables = variables; groups = groups; batching = batching; mode = mode }) job is)
+      (refl, record { challenger = c; table = t; few = v; groups = g; batching = b; mode = m })))))))))
+
+-- each number of a job that a value describes is that of an element
+pub job_of-fits : (d : Data) (job : Job) → job_of d ≡ Ok job → JobFits (sizes_of job.field) job
+job_of-fits d job is =
+    needed-gives field_form Field d (λ field. members_over field (sizes_of field) d) job (any-gives field_form)
+    (tested_ok (is_object d) (members_of d) Whole job is) (λ field _ is.
+    let fit = members-fit (sizes_of field) field d job is in
+    subst (λ f. JobFits (sizes_of f) job) (sym fit.0) fit.1)

@@ -1,0 +1,81 @@
+-- The numbers of a job of `product` that a value describes are those of elements.
+use Rattle.std.proofs.Common.{◌≡◌, ℕ, length, Bool, true, false, Option, Some, Result, Ok, refl, sym, subst, if◌then◌else◌}
+use Rattle.std.specs.Prelude.{◌&&◌, codes, nat_le, is_some, option_map}
+use Rattle.std.proofs.lemmas.Bool.{leb-true}
+use Rattle.std.proofs.lemmas.Option.{same_Some, cond_some, option_and_then_some}
+use Rattle.serde_json.specs.Data.{Data}
+use Rattle.sc_forms.specs.Forms.{at_most_form, is_object, list_form, literal_form, member_form}
+use Rattle.sumcheck_jobs.specs.declared.member.Member.{Member}
+use Rattle.sumcheck_jobs.specs.declared.member.Member.TheVariants.{Whole, Field, Challenger, Bits, Tables, Mode}
+use Rattle.sumcheck_jobs.specs.declared.job.FieldName.{FieldName}
+use Rattle.sumcheck_jobs.specs.declared.job.Sizes.{Sizes}
+use Rattle.sumcheck_jobs.specs.declared.product.ProductProof.{ProductProof}
+use Rattle.sumcheck_jobs.specs.declared.product.ProductMode.{ProductMode}
+use Rattle.sumcheck_jobs.specs.declared.product.ProductMode.TheVariants.{Build, Check}
+use Rattle.sumcheck_jobs.specs.declared.product.ProductJob.{ProductJob}
+use Rattle.sumcheck_jobs.specs.Elements.{element_form, field_form, sizes_of}
+use Rattle.sumcheck_jobs.specs.Job.{challenger_form}
+use Rattle.sumcheck_jobs.specs.ProductJob.{most_tables, some_tables, tables_form, product_proof_form, product_mode_form, product_members_over, product_members_of, product_job_of, ProductProofFits, ProductModeFits, TablesFit, ProductJobFits}
+use Rattle.sumcheck_jobs.proofs.FormLaws.{Gives, option_map_some, below-gives, at_most-gives, list-gives, member-gives, with_member-gives, needed-gives, any-gives, tested_ok}
+use Rattle.sumcheck_jobs.proofs.JobLaws.{challenger-gives}
+
+both_true : (a b : Bool) → a && b ≡ true → (a ≡ true) × (b ≡ true)
+both_true true b is = (refl, is)
+both_true false b is = cc
+
+ok-same : (x y : ProductJob) → ◌≡◌ {A = Result ProductJob Member} (Ok x) (Ok y) → x ≡ y
+ok-same x y e = cc
+
+module _ (sizes : Sizes) where
+  abbrev base_element : Data → Option ℕ
+  base_element = element_form sizes.base
+
+  abbrev extension_element : Data → Option ℕ
+  extension_element = element_form sizes.extension
+
+  tables-gives : Gives (tables_form sizes) (TablesFit sizes.base)
+  tables-gives d tables is =
+      option_and_then_some some_tables (list_form (list_form base_element) d) tables is (λ ts at some.
+      let counted = cond_some (nat_le 1 (length ts) && nat_le (length ts) most_tables) ts tables some in
+      let both = both_true (nat_le 1 (length ts)) (nat_le (length ts) most_tables) counted.0 in
+      subst (TablesFit sizes.base) counted.1 (record {
+        some = leb-true 1 (length ts) both.0;
+        few = leb-true (length ts) most_tables both.1;
+        elements = list-gives (list_form base_element) (list-gives base_element (below-gives sizes.base)) d ts at;
+      }))
+
+  proof-gives : Gives (product_proof_form sizes) (ProductProofFits sizes)
+  proof-gives d p is =
+      with_member-gives d (codes "claimed") extension_element _ p (below-gives sizes.extension) is (λ claimed low is.
+      with_member-gives d (codes "rounds") (list_form (list_form extension_element)) _ p (list-gives (list_form extension_element) (list-gives extension_element (below-gives sizes.extension))) is (λ rounds lows is.
+      with_member-gives d (codes "witnesses") (list_form base_element) _ p (list-gives base_element (below-gives sizes.base)) is (λ witnesses fews is.
+      subst (ProductProofFits sizes) (same_Some (record { claimed = claimed; rounds = rounds; witnesses = witnesses }) p is)
+      (record { claimed = low; rounds = lows; witnesses = fews }))))
+
+  mode-by : (build : Bool) (proof : Option ProductProof) (mode : ProductMode) → ((p : ProductProof) → proof ≡ Some p → ProductProofFits sizes p) →
+      (if build then Some Build else option_map (λ p. Check p) proof) ≡ Some mode → ProductModeFits sizes mode
+  mode-by true proof mode fits is = subst (ProductModeFits sizes) (same_Some Build mode is) tt
+  mode-by false proof mode fits is =
+      option_map_some (λ p. Check p) proof mode is (λ p at same. subst (ProductModeFits sizes) same (fits p at))
+
+  mode-gives : Gives (product_mode_form sizes) (ProductModeFits sizes)
+  mode-gives d mode is =
+      mode-by (is_some (literal_form (codes "build") d)) (member_form (product_proof_form sizes) (codes "check") d) mode
+      (member-gives (product_proof_form sizes) proof-gives (codes "check") d) is
+
+  members-fit : (field : FieldName) (d : Data) (job : ProductJob) → product_members_over field sizes d ≡ Ok job → (job.field ≡ field) × ProductJobFits sizes job
+  members-fit field d job is =
+      needed-gives (challenger_form sizes) Challenger d _ job (challenger-gives sizes) is (λ challenger c is.
+      needed-gives (at_most_form 65535) Bits d _ job (at_most-gives 65535) is (λ bits _ is.
+      needed-gives (tables_form sizes) Tables d _ job tables-gives is (λ tables t is.
+      needed-gives (product_mode_form sizes) Mode d _ job mode-gives is (λ mode m is.
+      subst (λ j. (j.field ≡ field) × ProductJobFits sizes j) (ok-same (record { field = field; challenger = challenger; bits = bits; tables = tables; mode = mode }) job is)
+      (refl, record { challenger = c; tables = t; mode = m })))))
+
+-- each number of a job that a value describes is that of an element
+pub product_job_of-fits : (d : Data) (job : ProductJob) → product_job_of d ≡ Ok job → ProductJobFits (sizes_of job.field) job
+product_job_of-fits d job is =
+    needed-gives field_form Field d (λ field. product_members_over field (sizes_of field) d) job (any-gives field_form)
+    (tested_ok (is_object d) (product_members_of d) Whole job is) (λ field _ is.
+    let fit = members-fit (sizes_of field) field d job is in
+    subst (λ f. ProductJobFits (sizes_of f) job) (sym fit.0) fit.1)
