@@ -2,3 +2,4 @@ pub mod NumberLaws
 pub mod LineLaws
 pub mod GridLines
 pub mod WitnessLaws
+pub mod KindLaws

@@ -3,3 +3,5 @@ pub mod Reply
 pub mod Lines
 pub mod Refusals
 pub mod Witnesses
+pub mod Kinds
+pub mod Inputs
