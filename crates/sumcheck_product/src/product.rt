@@ -14,7 +14,7 @@ ghost use Rattle.sumcheck_jobs.specs.ProductJob.{ProductJobFits, ProductModeFits
 ghost use Rattle.sumcheck_replies.specs.Lines.{Adds, round_line, round_lines};
 ghost use Rattle.sumcheck_replies.specs.Refusals.{finding_reply};
 ghost use Rattle.sumcheck_replies.specs.Reply.{Replies};
-ghost use Rattle.sumcheck_product.specs.CertifiedProducts.{CertifiesProduct};
+ghost use Rattle.sumcheck_product.specs.CertifiedProducts.{ProductPromise};
 ghost use Rattle.sumcheck_product.specs.Products.{case_of, case_over, degree_refusal, figures_in};
 ghost use Rattle.sumcheck_product.specs.Products.{given_proof, luck_found, mode_reply};
 ghost use Rattle.sumcheck_product.specs.Products.{product_answer, product_figures, product_given};
@@ -43,25 +43,13 @@ use sumcheck_replies::{
 
 /// The answer to a job of `product`: its report, or why there is none. The numbers are given up
 /// before the rounds begin.
+///
+/// So a build whose shape is not refused holds, and where a proof lets a false sum through a round's
+/// challenge is named lucky, and certified.
 pub fn judge_product(alloc: Global, job: ProductJob) -> Result<Answer, NoMemory>
     requires { ProductJobFits (sizes_of job.field) job }
     ensures reply { Replies result (product_answer job) }
-
-    // So a build whose shape is not refused holds, unless a round at a difficulty has no witness.
-    ensures holds { job.mode ≡ ProductMode.Build
-        → IsOk (product_shape job (product_rules job).max_bits)
-        → ((product_answer job).outcome ≡ Outcome.Holds)
-        ⊎ ((0 < job.bits) × ((product_answer job).outcome ≡ Outcome.NoWitness)) }
-
-    // Where a checked proof's residual is the product although its claimed sum is false, a round's
-    // challenge is named lucky, and certified: by a polynomial that is not zero and vanishes there,
-    // and the number of its roots.
-    ensures certified { (n : ℕ) (proof : ProductProof) (rounds : List Round)
-        → job.mode ≡ ProductMode.Check proof
-        → product_shape job (product_rules job).max_bits ≡ Ok n
-        → product_given (case_of job n) proof ≡ Ok rounds
-        → CertifiesProduct (case_of job n)
-        (product_figures (case_of job n) proof.claimed rounds) }
+    ensures promised { ProductPromise job }
 {
     match job.field {
         FieldName::F65537 => judge_in::<F65537, F65537>(alloc, job),
