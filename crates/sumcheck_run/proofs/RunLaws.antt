@@ -6,11 +6,12 @@ use Rattle.std.specs.Io.KnownBytes.{Appends}
 use Rattle.serde_json.specs.Data.{Data}
 use Rattle.sc_streams.specs.Faults.{HasRisen}
 use Rattle.sumcheck_run.specs.declared.command.Command.{Command}
-use Rattle.sumcheck_run.specs.declared.command.Command.TheVariants.{Audit, Product, Make}
+use Rattle.sumcheck_run.specs.declared.command.Command.TheVariants.{Judge, Make}
 use Rattle.sumcheck_replies.specs.declared.reply.Outcome.{Outcome}
 use Rattle.sumcheck_replies.specs.declared.reply.Outcome.TheVariants.{Holds, Refuted, Lucky, Usage, JobRefused, ProofRefused, NoWitness}
 use Rattle.sumcheck_replies.specs.Reply.{Reply, code_of}
-use Rattle.sumcheck_run.specs.Program.{max_input, too_long, audit_reply, product_reply, json_reply, reads_input, reply_of}
+use Rattle.sumcheck_replies.specs.Kinds.{max_input, too_long, json_reply}
+use Rattle.sumcheck_run.specs.Program.{kind_reply, reads_input, reply_of}
 use Rattle.sumcheck_run.specs.Run.{IsRead, IsAnswered, IsCutShort, IsInput, TellsUsage, WritesReply, Responds}
 use Rattle.sumcheck_run.proofs.Outcomes.{usage-only, usage-code}
 
@@ -49,8 +50,7 @@ same_reply : (command : Option Command) (left left' : Option (List ℕ)) (old ne
     IsInput (reads_input command) left old new input → reply_of command xs ≡ reply_of command input
 same_reply None left left' old new xs input read is = refl
 same_reply (Some (Make recipe)) left left' old new xs input read is = refl
-same_reply (Some Audit) left left' old new xs input read is = json_same audit_reply left left' old new xs input read is
-same_reply (Some Product) left left' old new xs input read is = json_same product_reply left left' old new xs input read is
+same_reply (Some (Judge kind)) left left' old new xs input read is = json_same (kind_reply kind) left left' old new xs input read is
 
 -- ---- a reply that is written
 

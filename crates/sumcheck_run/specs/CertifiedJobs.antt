@@ -1,4 +1,4 @@
--- What is certified of the reply to a job.
+-- What is promised of the reply to a job, and what is certified.
 use Rattle.std.specs.Prelude.{◌≡◌, ◌⊎◌, ◌<◌, List, None, Ok}
 use Rattle.sc_definitions.specs.Transcript.{Round}
 use Rattle.sc_jobs.specs.Cases.{Asked}
@@ -6,11 +6,14 @@ use Rattle.sc_jobs.specs.Refusals.{refusal_of}
 use Rattle.sc_jobs.specs.Audits.{figures_from}
 use Rattle.sc_jobs.specs.Certified.{CertifiesLuck}
 use Rattle.sc_table.specs.declared.strategy.Strategy.{Strategy}
+use Rattle.sumcheck_jobs.specs.Elements.{sizes_of}
+use Rattle.sumcheck_jobs.specs.Job.{job_of, JobFits}
 use Rattle.sumcheck_jobs.specs.declared.job.Job.{Job}
 use Rattle.sumcheck_jobs.specs.declared.job.Mode.TheVariants.{Build}
 use Rattle.sumcheck_replies.specs.Fields.{fields_of}
 use Rattle.sumcheck_replies.specs.declared.reply.Outcome.TheVariants.{Holds, NoWitness}
-use Rattle.sumcheck_run.specs.Report.{asked_by, judge, rounds_of}
+use Rattle.sumcheck_replies.specs.Kinds.{Jobs}
+use Rattle.sumcheck_run.specs.Report.{asked_by, judge, report_from, report_lines, report_reply, rounds_of}
 
 -- In the figures of rounds that are played a challenge that is named lucky is certified, and one is named where the residual is right although a
 -- statement is false.
@@ -26,3 +29,19 @@ abbrev pub BuildHolds : Job → Type 0
 BuildHolds job =
     (strategy : Strategy) → job.mode ≡ Build strategy → refusal_of (asked_by (fields_of job.field) job) ≡ None
     → ((judge job).outcome ≡ Holds) ⊎ ((0 < job.bits) × ((judge job).outcome ≡ NoWitness))
+
+-- a job that is not refused, and whose rounds can be played, is replied their report
+abbrev pub IsReported : Job → Type 0
+IsReported job =
+    refusal_of (asked_by (fields_of job.field) job) ≡ None → (rounds : List Round) → rounds_of (asked_by (fields_of job.field) job) (asked_by (fields_of job.field) job).case.task ≡ Ok rounds
+    → judge job ≡ report_reply report_lines (report_from (asked_by (fields_of job.field) job) rounds)
+
+pub record JobPromise (job : Job) : Type 0 where
+  pub reported : IsReported job
+  pub holds : BuildHolds job
+  -- a challenge that its report names lucky is certified, and one is named where the residual is right although a statement is false
+  pub certified : IsCertifiedJob job
+
+-- the jobs of `audit`
+abbrev pub audit_jobs : Jobs Job
+audit_jobs = record { describes = job_of; fits = λ job. JobFits (sizes_of job.field) job; replies = judge; promises = JobPromise }

@@ -1,14 +1,11 @@
 -- How a run ends.
 use Rattle.std.specs.Prelude.{◌≡◌, ◌⊎◌, ℕ, ◌<◌, ◌≤◌, ◌+◌, List, [], length, take, Bool, true, false, Option, Some, None}
 use Rattle.std.specs.Io.KnownBytes.{Consumes, Appends, IsAtEnd}
-use Rattle.serde_json.specs.Data.{Data}
-use Rattle.serde_json.specs.View.{view}
 use Rattle.sc_streams.specs.Faults.{HasRisen}
 use Rattle.sumcheck_run.specs.declared.command.Command.{Command}
 use Rattle.sumcheck_replies.specs.Reply.{Reply, code_of}
-use Rattle.sumcheck_run.specs.declared.program.Input.{Input}
-use Rattle.sumcheck_run.specs.declared.program.Input.TheVariants.{Value, Refused}
-use Rattle.sumcheck_run.specs.Program.{max_input, json_reply, reads_input, reply_of}
+use Rattle.sumcheck_replies.specs.Kinds.{max_input}
+use Rattle.sumcheck_run.specs.Program.{reads_input, reply_of}
 
 -- ---- the statuses of a run
 
@@ -28,13 +25,6 @@ writing_failed = 7
 
 abbrev pub want_of_memory : ℕ
 want_of_memory = 8
-
--- ---- an input as a value
-
--- What a command that replies to a value replies to an input: that to the value which the input is, or what refuses it.
-abbrev pub IsReadAs : List ℕ → Input → Type 0
-IsReadAs input (Value v) = (reply : Data → Reply) → json_reply reply input ≡ reply (view v)
-IsReadAs input (Refused answer) = (reply : Data → Reply) → json_reply reply input ≡ answer
 
 -- ---- what a run leaves
 

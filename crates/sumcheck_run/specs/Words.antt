@@ -5,7 +5,7 @@ use Rattle.sc_table.specs.declared.strategy.Strategy.{Strategy}
 use Rattle.sc_table.specs.declared.strategy.Strategy.TheVariants.{Plain, Represented, SmallValue}
 use Rattle.sc_verdicts.specs.Arities.{most_variables}
 use Rattle.sumcheck_run.specs.declared.command.Command.{Command}
-use Rattle.sumcheck_run.specs.declared.command.Command.TheVariants.{Audit, Product, Make}
+use Rattle.sumcheck_run.specs.declared.command.Command.TheVariants.{Judge, Make}
 use Rattle.sumcheck_run.specs.declared.command.Recipe.{Recipe}
 use Rattle.sumcheck_replies.specs.Witnesses.{least_below}
 
@@ -50,6 +50,5 @@ pub record IsMade (r : Recipe) : Type 0 where
 -- a recipe that a command has is one by which a job is made
 abbrev pub CommandFits : Option Command → Type 0
 CommandFits None = Unit {0}
-CommandFits (Some Audit) = Unit {0}
-CommandFits (Some Product) = Unit {0}
+CommandFits (Some (Judge kind)) = Unit {0}
 CommandFits (Some (Make recipe)) = IsMade recipe

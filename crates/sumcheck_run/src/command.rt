@@ -1,6 +1,6 @@
 //! The command line.
 ghost use Rattle.std.specs.Prelude.{◌≡◌, ◌≢◌, ℕ, ◌<◌, ◌^◌, MatchOption, decimal};
-ghost use Rattle.sumcheck_run.specs.Program.{command_in, reads_input};
+ghost use Rattle.sumcheck_run.specs.Program.{command_in, kind_named, reads_input};
 ghost use Rattle.sumcheck_run.specs.Words.{CommandFits, recipe_of, strategy_of, written_below};
 
 use itoa::Buffer;
@@ -26,14 +26,21 @@ pub struct Recipe {
     pub strategy: Strategy,
 }
 
+/// The kinds of jobs that an input may describe, each by the one word of its command.
+#[derive(Clone, Copy, Debug, PartialEq, Eq)]
+pub enum Kind {
+    /// A table with claims on it. Its rounds are built, or those of the proof that came with it are
+    /// checked, and reported on.
+    Audit,
+    /// Rounds over the product of several tables, built or checked in the same way.
+    Product,
+}
+
 /// What the program is asked for.
 #[derive(Clone, Copy, Debug, PartialEq, Eq)]
 pub enum Command {
-    /// Builds the rounds of the job that the input describes, or checks those of the proof that
-    /// came with it, and reports on them.
-    Audit,
-    /// The same of a job of rounds over the product of several tables.
-    Product,
+    /// Replies to the job of a kind that the input describes.
+    Judge(Kind),
     /// Makes a job, builds its rounds, and reports on them in short.
     Make(Recipe),
 }
@@ -44,8 +51,10 @@ pub fn read_command(words: &[String]) -> Option<Command>
     ensures fits { CommandFits result }
 {
     match words {
-        [name] if name.as_str() == "audit" => Some(Command::Audit),
-        [name] if name.as_str() == "product" => Some(Command::Product),
+        [name] => match read_kind(name.as_str()) {
+            Some(kind) => Some(Command::Judge(kind)),
+            None => None,
+        },
         [name, variables, number, strategy] if name.as_str() == "make" => {
             match read_recipe(variables.as_str(), number.as_str(), strategy.as_str()) {
                 Some(recipe) => Some(Command::Make(recipe)),
@@ -53,6 +62,19 @@ pub fn read_command(words: &[String]) -> Option<Command>
             }
         }
         _ => None,
+    }
+}
+
+// The kind of jobs that a word names, if it names one.
+fn read_kind(word: &str) -> Option<Kind>
+    ensures { result ≡ kind_named word.now }
+{
+    if word == "audit" {
+        Some(Kind::Audit)
+    } else if word == "product" {
+        Some(Kind::Product)
+    } else {
+        None
     }
 }
 
@@ -121,5 +143,5 @@ fn read_strategy(word: &str, variables: usize) -> Option<Strategy>
 pub fn needs_input(command: Option<Command>) -> bool
     ensures { result ≡ reads_input command }
 {
-    matches!(command, Some(Command::Audit | Command::Product))
+    matches!(command, Some(Command::Judge(_)))
 }

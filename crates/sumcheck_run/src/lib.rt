@@ -7,6 +7,7 @@
 mod asked;
 mod command;
 mod grids;
+mod kind;
 mod made;
 mod program;
 mod report;
@@ -14,7 +15,8 @@ mod statements;
 mod stride;
 mod values;
 
-pub use command::{Command, Recipe, needs_input, read_command};
+pub use command::{Command, Kind, Recipe, needs_input, read_command};
+pub use kind::AuditJobs;
 pub use program::{Status, run};
 pub use report::{judge_job, show_report};
 pub use sc_streams::{Failed, MemSink, MemSource, PlainSource, Sink, Source, StdSink, StdSource};
@@ -23,5 +25,5 @@ pub use sumcheck_jobs::{
     ProductMode, ProductProof, Proof, ScalarClaim, Script, Sizes, SuccessorClaim, Unread, read_job,
     read_product,
 };
-pub use sumcheck_product::judge_product;
-pub use sumcheck_replies::{Answer, Outcome};
+pub use sumcheck_product::{ProductJobs, judge_product};
+pub use sumcheck_replies::{Answer, JobKind, Outcome, reply_to};

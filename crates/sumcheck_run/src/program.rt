@@ -1,33 +1,25 @@
 //! From bytes to bytes.
-ghost use Rattle.std.specs.Prelude.{◌≡◌, ◌⊎◌, ◌≤◌, List, ℕ, Some, None, false};
+ghost use Rattle.std.specs.Prelude.{◌≡◌, ◌⊎◌, ◌≤◌, List, ℕ, Some, false};
 ghost use Rattle.std.specs.Prelude.{IfOk, IsOk, IsErrOf};
 ghost use Rattle.sc_streams.specs.Faults.{HasRisen};
-ghost use Rattle.sumcheck_run.specs.Program.{audit_reply, command_in, json_reply};
-ghost use Rattle.sumcheck_run.specs.Program.{product_reply, reads_input, reply_of};
-ghost use Rattle.sumcheck_replies.specs.Reply.{Replies, refused};
-ghost use Rattle.sumcheck_jobs.specs.Members.{misfit_text};
+ghost use Rattle.sumcheck_run.specs.Program.{CommandPromise, command_in, kind_reply};
+ghost use Rattle.sumcheck_run.specs.Program.{reads_input, reply_of};
+ghost use Rattle.sumcheck_replies.specs.Kinds.{json_reply};
+ghost use Rattle.sumcheck_replies.specs.Reply.{Replies};
 ghost use Rattle.sumcheck_run.specs.Run.{IsAnswered, IsCutShort, IsOfReply, IsRead, IsTold};
-ghost use Rattle.sumcheck_run.specs.Run.{IsReadAs};
 ghost use Rattle.sumcheck_run.specs.Run.{ReadsLittle, Responds, StopsAtFault, TellsFaults, TellsInput, TellsUsage};
 ghost use Rattle.sumcheck_run.specs.Run.{WritesReply, reading_failed, want_of_memory};
 ghost use Rattle.sumcheck_run.specs.Run.{writing_failed};
-ghost use Rattle.sumcheck_run.specs.Made.{made_reply};
 ghost use Rattle.sumcheck_run.specs.Words.{CommandFits};
 
-use crate::command::{Command, Recipe, needs_input, read_command};
+use crate::command::{Command, Kind, needs_input, read_command};
+use crate::kind::AuditJobs;
 use crate::made::make;
-use crate::report::judge_job;
 use sc_field::NoMemory;
-use sc_forms::{NoValue, read_value};
 use sc_streams::{ReadFault, Sink, Source, read_all, write_all};
-use serde_json::Value;
 use std::alloc::Global;
-use sumcheck_jobs::{Member, Unread, read_job, read_product};
-use sumcheck_product::judge_product;
-use sumcheck_replies::{Answer, Outcome, lines};
-
-// The greatest number of bytes of an input.
-const MAX_INPUT: usize = 67_108_864;
+use sumcheck_product::ProductJobs;
+use sumcheck_replies::{Answer, MAX_INPUT, reply_to};
 
 /// The status that the program ends with.
 #[derive(Clone, Copy, Debug, PartialEq, Eq)]
@@ -37,76 +29,25 @@ pub struct Status {
     pub code: u8,
 }
 
-// What an input is.
-#[derive(Drop)]
-enum Input {
-    // A JSON value.
-    Value(Value),
-    // None, or too long, which is answered so.
-    Refused(Answer),
-}
-
-// The value that an input is, if it is one. The bytes are given up.
-#[tactic(auto, unfolding(crate::specs::Program::too_long, crate::specs::Program::bad_json))]
-fn parse(alloc: Global, input: Vec<u8>) -> Result<Input, NoMemory>
-    ensures { IfOk result (IsReadAs input.items) }
-{
-    if input.len() > MAX_INPUT {
-        return Ok(Input::Refused(Answer::refused(alloc, "too-long")?));
-    }
-    match read_value(alloc, &input) {
-        Ok(value) => Ok(Input::Value(value)),
-        Err(NoValue::Bad) => Ok(Input::Refused(Answer::refused(alloc, "bad-json")?)),
-        Err(NoValue::NoMemory) => Err(NoMemory),
-    }
-}
-
-// What `audit` replies to an input. The parsed value is given up before the job is judged.
-fn audit(alloc: Global, input: Vec<u8>) -> Result<Answer, NoMemory>
-    ensures { Replies result (json_reply audit_reply input.items) }
-{
-    let value = match parse(alloc, input)? {
-        Input::Value(value) => value,
-        Input::Refused(answer) => return Ok(answer),
-    };
-    match read_job(alloc, value) {
-        Ok(job) => judge_job(alloc, job),
-        Err(Unread::Misfit(member)) => refuse_misfit(alloc, member),
-        Err(Unread::NoMemory) => Err(NoMemory),
-    }
-}
-
-// What `product` replies to an input. The parsed value is given up before the job is judged.
-fn product(alloc: Global, input: Vec<u8>) -> Result<Answer, NoMemory>
-    ensures { Replies result (json_reply product_reply input.items) }
-{
-    let value = match parse(alloc, input)? {
-        Input::Value(value) => value,
-        Input::Refused(answer) => return Ok(answer),
-    };
-    match read_product(alloc, value) {
-        Ok(job) => judge_product(alloc, job),
-        Err(Unread::Misfit(member)) => refuse_misfit(alloc, member),
-        Err(Unread::NoMemory) => Err(NoMemory),
-    }
-}
-
-fn refuse_misfit(alloc: Global, member: Member) -> Result<Answer, NoMemory>
-    ensures { Replies result (refused (misfit_text member)) }
-{
-    let why = lines::misfit_text(alloc, member)?;
-    Answer::refused(alloc, &why)
-}
-
+// What a command replies to an input.
 fn answer(alloc: Global, command: Option<Command>, input: Vec<u8>) -> Result<Answer, NoMemory>
     requires { CommandFits command }
     ensures { Replies result (reply_of command input.items) }
 {
     match command {
         None => Answer::usage(alloc),
-        Some(Command::Audit) => audit(alloc, input),
-        Some(Command::Product) => product(alloc, input),
+        Some(Command::Judge(kind)) => judge(alloc, kind, input),
         Some(Command::Make(recipe)) => make(alloc, recipe),
+    }
+}
+
+// What a kind of jobs replies to an input.
+fn judge(alloc: Global, kind: Kind, input: Vec<u8>) -> Result<Answer, NoMemory>
+    ensures { Replies result (json_reply (kind_reply kind) input.items) }
+{
+    match kind {
+        Kind::Audit => reply_to::<AuditJobs>(alloc, input),
+        Kind::Product => reply_to::<ProductJobs>(alloc, input),
     }
 }
 
@@ -182,10 +123,12 @@ pub fn run<S: Source, K: Sink>(
         → ¬ HasRisen (K.faults sink.old) (K.faults sink.new)
         → WritesReply (reply_of command input) (K.taken sink.old) (K.taken sink.new) result.code }
 
-    // The reply to a job that is made says that it holds.
-    ensures made { (recipe : Recipe)
-        → command_in words.now ≡ Some (Command.Make recipe)
-        → (made_reply recipe).outcome ≡ Outcome.Holds }
+    // Where an input is short enough and describes a job of the command's kind, the reply is that to
+    // the job, and the job has what the kind promises: a job that is not refused is reported on, a
+    // build holds, and a challenge that lets a false statement through is certified. The reply to a
+    // job that is made says that it holds.
+    ensures promised { (command : Command) (input : List ℕ)
+        → command_in words.now ≡ Some command → CommandPromise command input }
 
     // It reads at most one byte past the limit, and at most one read gives no byte.
     ensures sparing { ReadsLittle S.given S.dry source.old source.new }

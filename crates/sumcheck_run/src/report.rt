@@ -9,7 +9,7 @@ ghost use Rattle.sumcheck_replies.specs.Lines.{Adds, round_lines};
 ghost use Rattle.sumcheck_replies.specs.Fields.{fields_over, sizes_over};
 ghost use Rattle.sumcheck_replies.specs.Refusals.{finding_reply};
 ghost use Rattle.sumcheck_replies.specs.Reply.{Replies};
-ghost use Rattle.sumcheck_run.specs.CertifiedJobs.{BuildHolds, IsCertifiedJob};
+ghost use Rattle.sumcheck_run.specs.CertifiedJobs.{JobPromise};
 ghost use Rattle.sumcheck_run.specs.Report.{case_reply};
 ghost use Rattle.sumcheck_run.specs.Report.{judge, judge_over, report_lines, report_reply};
 
@@ -26,16 +26,13 @@ use sumcheck_jobs::{FieldName, Job};
 use sumcheck_replies::{Answer, Outcome, lines, number_at, refuse, scripted};
 
 /// The answer to a job: its report, or why there is none. The numbers are given up before the audit begins.
+///
+/// So a build that is not refused holds, and where a proof lets a false statement through a challenge is named lucky,
+/// and certified.
 pub fn judge_job(alloc: Global, job: Job) -> Result<Answer, NoMemory>
     requires { JobFits (sizes_of job.field) job }
     ensures reply { Replies result (judge job) }
-
-    // So a build that is not refused holds, unless a round at a difficulty has no witness.
-    ensures holds { BuildHolds job }
-
-    // A challenge that its report names lucky is certified, and one is named where the residual is
-    // right although a statement is false.
-    ensures certified { IsCertifiedJob job }
+    ensures promised { JobPromise job }
 {
     match job.field {
         FieldName::F65537 => judge_in::<F65537, F65537, F65537>(alloc, job),

@@ -2,7 +2,7 @@ use Rattle.std.proofs.Common.{◌∙◌, ap, refl, subst, inl, inr, arith}
 use Rattle.std.proofs.lemmas.Bool.{leb-true}
 use Rattle.sumcheck_run.specs.Program.{reads_input}
 use Rattle.sumcheck_run.specs.Words.{CommandFits}
-use Rattle.sumcheck_run.proofs.MadeJobs.{made-holds}
+use Rattle.sumcheck_run.proofs.Outcomes.{command-kept}
 use Rattle.sumcheck_run.proofs.RunLaws.{ran, ran_answered, ran_cut_short, ran_silent, ran_code, ran_usage, ran_headline, ran_write_fault, ran_write_told, not_six, at_most_eight, differ, too_high, never_rises, told, must_read, untold}
 use Rattle.sumcheck_run.proofs.program.run.Goals as goal
 
@@ -20,7 +20,7 @@ returns g c =
       untouched = λ none. (read.unread (needs ∙ ap reads_input is ∙ none)).0;
       usage = ran_usage r;
       headline = ran_headline r _ _;
-      made = λ recipe make. made-holds recipe (subst CommandFits (is ∙ make) c.read_command-command.ensures.fits);
+      promised = λ command input named. command-kept command input (subst CommandFits (is ∙ named) c.read_command-command.ensures.fits);
       sparing = read.sparing;
       reading = record { only = not_six _ (ran_code r); told = never_rises _ _ (read.faults.1 (λ e. cc)); stops = read.late };
       writing = record { only = ran_write_fault r; told = ran_write_told r; stops = c.respond.ensures.late };
@@ -41,7 +41,7 @@ returns-in-Err-Failed g c =
       untouched = λ none. (read.unread (needs ∙ ap reads_input is ∙ none)).0;
       usage = record { only = differ 6 2 refl; told = must_read is needs (λ none. (read.unread none).1) };
       headline = λ input given _. untold _ input is needs (λ none. (read.unread none).1) risen given;
-      made = λ recipe make. made-holds recipe (subst CommandFits (is ∙ make) c.read_command-command.ensures.fits);
+      promised = λ command input named. command-kept command input (subst CommandFits (is ∙ named) c.read_command-command.ensures.fits);
       sparing = read.sparing;
       reading = record { only = λ _. risen; told = λ _. refl; stops = read.late };
       writing = record { only = differ 6 7 refl; told = never_rises _ _ refl; stops = omega arith };
@@ -61,7 +61,7 @@ returns-in-Err-NoMemory g c =
       untouched = λ none. (read.unread (needs ∙ ap reads_input is ∙ none)).0;
       usage = record { only = differ 8 2 refl; told = λ _. inr (inr refl) };
       headline = λ _ _ _. inl refl;
-      made = λ recipe make. made-holds recipe (subst CommandFits (is ∙ make) c.read_command-command.ensures.fits);
+      promised = λ command input named. command-kept command input (subst CommandFits (is ∙ named) c.read_command-command.ensures.fits);
       sparing = read.sparing;
       reading = record { only = differ 8 6 refl; told = never_rises _ _ (read.faults.1 (λ e. cc)); stops = read.late };
       writing = record { only = differ 8 7 refl; told = never_rises _ _ refl; stops = omega arith };
