@@ -33,6 +33,8 @@ use Rattle.sumcheck_replies.specs.Witnesses.{honest_rounds}
 use Rattle.sumcheck_replies.specs.Lines.{claim_line, round_lines, residual_line, product_line, shape_fault_text, rounds_text, witnesses_text, width_text, witness_text}
 use Rattle.sumcheck_replies.specs.Fields.{Fields, fields_of, rules_by}
 use Rattle.sumcheck_replies.specs.Refusals.{finding_reply}
+use Rattle.sumcheck_replies.specs.Over.{Asks}
+use Rattle.sumcheck_jobs.specs.ProductJob.{ProductJobFits}
 
 -- ---- the shape
 
@@ -213,6 +215,10 @@ product_rules job = rules_by (fields_of job.field).base_size job.challenger
 -- what it asks of its challenger, over the fields that it names, on tables of n variables
 abbrev pub case_of : ProductJob → ℕ → ProductCase
 case_of job n = product_case (fields_of job.field) job n (product_rules job) []
+
+-- what jobs ask that name their field and their challenger
+abbrev pub product_asks : Asks ProductJob
+product_asks = record { field = λ job. job.field; challenger = λ job. job.challenger; fits = ProductJobFits; replies = product_judged }
 
 -- what a job is answered, over the fields that it names and under its own challenger
 abbrev pub product_answer : ProductJob → Reply

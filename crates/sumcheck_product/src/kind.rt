@@ -1,12 +1,14 @@
 //! The jobs of `product` as a kind.
 ghost use Rattle.sumcheck_product.specs.CertifiedProducts.{product_jobs};
+ghost use Rattle.sumcheck_product.specs.Products.{product_asks};
 
-use crate::product::judge_product;
-use sc_field::NoMemory;
+use crate::product::{answer_to, judge_product};
+use sc_challenger::Challenger;
+use sc_field::{ExtensionField, Field, IntoTranscriptField, NoMemory};
 use serde_json::Value;
 use std::alloc::Global;
-use sumcheck_jobs::{ProductJob, Unread, read_product};
-use sumcheck_replies::{Answer, JobKind};
+use sumcheck_jobs::{FieldName, ProductJob, Unread, read_product};
+use sumcheck_replies::{Answer, FieldJobs, JobKind};
 
 /// The jobs of `product`.
 pub struct ProductJobs;
@@ -22,5 +24,27 @@ impl JobKind for ProductJobs {
 
     fn judge(alloc: Global, job: ProductJob) -> Result<Answer, NoMemory> {
         judge_product(alloc, job)
+    }
+}
+
+impl FieldJobs for ProductJobs {
+    type Job = ProductJob;
+
+    ghost asks = { product_asks };
+
+    fn field(job: &ProductJob) -> FieldName {
+        job.field
+    }
+
+    fn challenger(job: &ProductJob) -> &sumcheck_jobs::Challenger {
+        &job.challenger
+    }
+
+    fn answer<F: Field, EF: ExtensionField<F>, R: IntoTranscriptField<EF>, C: Challenger<F>>(
+        alloc: Global,
+        job: ProductJob,
+        challenger: &mut C,
+    ) -> Result<Answer, NoMemory> {
+        answer_to::<F, EF, C>(alloc, job, challenger)
     }
 }

@@ -1,44 +1,41 @@
 //! The answer to a job of `product`.
-ghost use Rattle.std.specs.Prelude.{◌≡◌, ◌≢◌, ◌⊎◌, ℕ, ◌<◌, ◌≤◌, All, List, [], length};
-ghost use Rattle.std.specs.Prelude.{IfOk, IsOk, Ok, OnOk, map, option_map, string_bytes};
+ghost use Rattle.std.specs.Prelude.{◌≡◌, ◌≢◌, ◌<◌, ◌≤◌, All, [], length};
+ghost use Rattle.std.specs.Prelude.{IfOk, Ok, OnOk, map, option_map, string_bytes};
 ghost use Rattle.sc_definitions.specs.Channels.{channel};
 ghost use Rattle.sc_definitions.specs.Lucky.{first_turn, product_course};
 ghost use Rattle.sc_definitions.specs.Products.{values_product};
-ghost use Rattle.sc_definitions.specs.Transcript.{Round};
 ghost use Rattle.sc_degree.specs.Products.{arity_of, tables_of};
 ghost use Rattle.sc_degree.specs.Turns.{turn_in};
 ghost use Rattle.sc_verdicts.specs.Findings.{named};
-ghost use Rattle.sumcheck_jobs.specs.declared.product.ProductProof.{ProductProof};
 ghost use Rattle.sumcheck_jobs.specs.Elements.{sizes_of};
 ghost use Rattle.sumcheck_jobs.specs.ProductJob.{ProductJobFits, ProductModeFits};
 ghost use Rattle.sumcheck_replies.specs.Lines.{Adds, round_line, round_lines};
 ghost use Rattle.sumcheck_replies.specs.Refusals.{finding_reply};
 ghost use Rattle.sumcheck_replies.specs.Reply.{Replies};
 ghost use Rattle.sumcheck_product.specs.CertifiedProducts.{ProductPromise};
-ghost use Rattle.sumcheck_product.specs.Products.{case_of, case_over, degree_refusal, figures_in};
+ghost use Rattle.sumcheck_product.specs.Products.{case_over, degree_refusal, figures_in};
 ghost use Rattle.sumcheck_product.specs.Products.{given_proof, luck_found, mode_reply};
-ghost use Rattle.sumcheck_product.specs.Products.{product_answer, product_figures, product_given};
-ghost use Rattle.sumcheck_product.specs.Products.{product_judged, product_lines, product_rules};
-ghost use Rattle.sumcheck_product.specs.Products.{product_shape, shown_reply, task_mode, true_sum};
+ghost use Rattle.sumcheck_product.specs.Products.{product_answer};
+ghost use Rattle.sumcheck_product.specs.Products.{product_judged, product_lines};
+ghost use Rattle.sumcheck_product.specs.Products.{shown_reply, task_mode, true_sum};
 ghost use Rattle.sumcheck_product.specs.ProductPlays.{IsDegree, LeavesBuilt};
-ghost use Rattle.sumcheck_replies.specs.Fields.{fields_over, rules_by, sizes_over};
+ghost use Rattle.sumcheck_replies.specs.Fields.{fields_over, sizes_over};
 
 use crate::images::image_tables;
+use crate::kind::ProductJobs;
 use crate::shape::fitting_arity;
-use sc_challenger::{Challenger, HashChallenger, ScriptedChallenger};
+use sc_challenger::Challenger;
 use sc_degree::{
     FoundTurn, GenericDegreeError, GenericDegreeProof, RoundProver, TableProduct, find_turn,
 };
 use sc_field::laws::count_roots;
 use sc_field::{ExtensionField, Field, NoMemory};
-use sc_sixteen::Tower16;
-use sc_small_fields::{F257, F257x2, F65537};
 use sc_table::Point;
 use sc_verdicts::AuditError;
 use std::alloc::Global;
-use sumcheck_jobs::{FieldName, ProductJob, ProductMode};
+use sumcheck_jobs::{ProductJob, ProductMode};
 use sumcheck_replies::{
-    Answer, Outcome, element_lists, elements, lines, number_at, refuse, scripted,
+    Answer, Outcome, answer_named, element_lists, elements, lines, number_at, refuse,
 };
 
 /// The answer to a job of `product`: its report, or why there is none. The numbers are given up
@@ -51,37 +48,11 @@ pub fn judge_product(alloc: Global, job: ProductJob) -> Result<Answer, NoMemory>
     ensures reply { Replies result (product_answer job) }
     ensures promised { ProductPromise job }
 {
-    match job.field {
-        FieldName::F65537 => judge_in::<F65537, F65537>(alloc, job),
-        FieldName::F257x2 => judge_in::<F257, F257x2>(alloc, job),
-        FieldName::F16 => judge_in::<Tower16, Tower16>(alloc, job),
-    }
+    answer_named::<ProductJobs>(alloc, job)
 }
 
-// The same over fields of these types.
-fn judge_in<F: Field, EF: ExtensionField<F>>(
-    alloc: Global,
-    job: ProductJob,
-) -> Result<Answer, NoMemory>
-    requires { ProductJobFits (sizes_over F.ops EF.ops) job }
-    ensures { Replies result (product_judged
-        (fields_over F.ops EF.ops EF.extension EF.embedding) job
-        (rules_by F.ops.size job.challenger) []) }
-{
-    match &job.challenger {
-        sumcheck_jobs::Challenger::Scripted(script) => {
-            let mut challenger: ScriptedChallenger<F> = scripted(alloc, script)?;
-            answer_to::<F, EF, ScriptedChallenger<F>>(alloc, job, &mut challenger)
-        }
-        sumcheck_jobs::Challenger::Hash => {
-            let mut challenger: HashChallenger<F> = HashChallenger::new(alloc);
-            answer_to::<F, EF, HashChallenger<F>>(alloc, job, &mut challenger)
-        }
-    }
-}
-
-// The same under a challenger. The job is given up before a round is played.
-fn answer_to<F: Field, EF: ExtensionField<F>, C: Challenger<F>>(
+/// The same under a challenger, over these fields. The job is given up before a round is played.
+pub(crate) fn answer_to<F: Field, EF: ExtensionField<F>, C: Challenger<F>>(
     alloc: Global,
     job: ProductJob,
     challenger: &mut C,

@@ -5,3 +5,4 @@ pub mod Refusals
 pub mod Witnesses
 pub mod Kinds
 pub mod Inputs
+pub mod Over

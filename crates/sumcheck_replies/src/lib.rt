@@ -12,11 +12,13 @@ mod challengers;
 mod kind;
 pub mod lines;
 mod numbers;
+mod over;
 mod refusals;
 mod reply;
 
 pub use challengers::scripted;
 pub use kind::{JobKind, MAX_INPUT, reply_to};
 pub use numbers::{element_lists, elements, number_at};
+pub use over::{FieldJobs, answer_named};
 pub use refusals::refuse;
 pub use reply::{Answer, Outcome};
