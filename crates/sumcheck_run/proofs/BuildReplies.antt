@@ -30,7 +30,7 @@ use Rattle.sumcheck_replies.specs.Reply.{no_witness}
 use Rattle.sumcheck_replies.specs.Witnesses.{honest_rounds}
 use Rattle.sumcheck_replies.specs.Fields.{Fields, fields_of}
 use Rattle.sumcheck_replies.specs.Refusals.{finding_reply}
-use Rattle.sumcheck_run.specs.Report.{judge, task_of, asked_by, report_lines, or_no_witness, rounds_of, report_from, rounds_reply, reply_by, case_reply, judge_over}
+use Rattle.sumcheck_run.specs.Report.{judge, task_of, asked_by, report_lines, or_no_witness, rounds_of, report_from, rounds_reply, reply_by, case_reply, judged_under, judge_over}
 use Rattle.sumcheck_replies.proofs.WitnessLaws.{IsBuiltOr, honest_rounds-built}
 
 capped-none : (found : Option FalseClaim) → false_refusal (capped found) ≡ None → found ≡ None
@@ -89,7 +89,7 @@ case_holds lines q ring offered strategy task none =
 
 pub built_holds : (k : Fields) → IsRing k.ops → (job : Job) (strategy : Strategy) → job.mode ≡ Build strategy → refusal_of (asked_by k job) ≡ None →
     ((judge_over k job).outcome ≡ Holds) ⊎ ((0 < job.bits) × ((judge_over k job).outcome ≡ NoWitness))
-unfolding judge_over
+unfolding judged_under
 built_holds k ring job strategy mode none = case_holds report_lines (asked_by k job) ring tt strategy (ap task_of mode) none
 
 -- the fields of each name are lawful

@@ -18,7 +18,7 @@ use Rattle.sumcheck_replies.specs.Reply.{Reply, code_of, usage}
 use Rattle.sumcheck_replies.specs.Kinds.{IsAnswer, AreLawful}
 use Rattle.sumcheck_replies.proofs.KindLaws.{refusal-answer, finding-answer, jobs-answer, promise-kept}
 use Rattle.sumcheck_product.proofs.ProductPromises.{product-lawful}
-use Rattle.sumcheck_run.specs.Report.{asked_by, report_lines, rounds_of, report_from, report_reply, rounds_reply, reply_by, case_reply, judge_over}
+use Rattle.sumcheck_run.specs.Report.{asked_by, report_lines, rounds_of, report_from, report_reply, rounds_reply, reply_by, case_reply, judged_under, judge_over}
 use Rattle.sumcheck_run.specs.CertifiedJobs.{IsReported, JobPromise, audit_jobs}
 use Rattle.sumcheck_run.specs.Made.{made_asked}
 use Rattle.sumcheck_run.specs.Words.{CommandFits}
@@ -44,7 +44,7 @@ case-answer lines q =
     reply-answer (refusal_of q) (rounds_reply lines q rounds) (rounds-answer lines q rounds)
 
 judge-answer : (k : Fields) (job : Job) → IsAnswer (judge_over k job)
-unfolding judge_over
+unfolding judged_under
 judge-answer k job = case-answer report_lines (asked_by k job)
 
 case-reported : (lines : Reported → List ℕ) (q : Asked) → refusal_of q ≡ None → (rounds : List Round) → rounds_of q q.case.task ≡ Ok rounds →
@@ -54,7 +54,7 @@ case-reported lines q none rounds played =
     ap (λ first. reply_by first (rounds_reply lines q (rounds_of q q.case.task))) none ∙ ap (rounds_reply lines q) played
 
 job-reported : (job : Job) → IsReported job
-unfolding judge_over
+unfolding judged_under
 job-reported job none rounds played = case-reported report_lines (asked_by (fields_of job.field) job) none rounds played
 
 pub job-promised : (job : Job) → JobFits (sizes_of job.field) job → JobPromise job

@@ -21,7 +21,7 @@ use Rattle.sumcheck_jobs.specs.declared.job.Job.{Job}
 use Rattle.sumcheck_jobs.specs.Statements.{all_claims}
 use Rattle.sumcheck_replies.specs.Fields.{Fields}
 use Rattle.sumcheck_replies.specs.Refusals.{refusal_reply}
-use Rattle.sumcheck_run.specs.Report.{task_of, asked_with, rules_of, report_lines, report_reply, or_no_witness, unless_failing, passing_rounds, rounds_of, rounds_reply, reply_by, case_reply, judge_over}
+use Rattle.sumcheck_run.specs.Report.{task_of, asked_with, report_lines, report_reply, or_no_witness, unless_failing, passing_rounds, rounds_of, rounds_reply, reply_by, case_reply, judged_under}
 use Rattle.sumcheck_replies.proofs.NumberLaws.{entries-numbers}
 use Rattle.sumcheck_replies.proofs.WitnessLaws.{AreLow, honest_rounds-whole, honest_rounds-none, none_passes, first_failing-at, first_failing-none}
 
@@ -146,7 +146,7 @@ pub unrefused : {T : Type 0} (x : T) (result : Result T AuditError) (first : Opt
 unrefused x result None is told = refl
 unrefused x result (Some e) is told = elim told [ inl t ↦ cc (is, t) | inr t ↦ cc (is, t) ]
 
--- the answer to what a job asks of its challenger is the job's
-pub judged : (k : Fields) (job : Job) (R : Rules) (h : List Event) (q : Asked) → R ≡ rules_of k job → h ≡ [] → q ≡ asked_with k job R h → case_reply report_lines q ≡ judge_over k job
-unfolding judge_over
-judged k job R h q rules start is = ap (case_reply report_lines) (is ∙ ap (λ r. asked_with k job r h) rules ∙ ap (asked_with k job (rules_of k job)) start)
+-- the answer to what a job asks of a challenger is the job's
+pub judged : (k : Fields) (job : Job) (R : Rules) (h : List Event) (q : Asked) → q ≡ asked_with k job R h → case_reply report_lines q ≡ judged_under k job R h
+unfolding judged_under
+judged k job R h q is = ap (case_reply report_lines) is

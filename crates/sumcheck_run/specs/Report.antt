@@ -19,7 +19,9 @@ use Rattle.sumcheck_jobs.specs.declared.job.Job.{Job}
 use Rattle.sumcheck_jobs.specs.declared.job.Proof.{Proof}
 use Rattle.sumcheck_jobs.specs.declared.job.Mode.{Mode}
 use Rattle.sumcheck_jobs.specs.declared.job.Mode.TheVariants.{Build, Check}
+use Rattle.sumcheck_jobs.specs.Job.{JobFits}
 use Rattle.sumcheck_replies.specs.Fields.{Fields, fields_of, rules_by}
+use Rattle.sumcheck_replies.specs.Over.{Asks}
 use Rattle.sumcheck_replies.specs.Refusals.{refusal_reply, finding_reply}
 use Rattle.sumcheck_replies.specs.Reply.{Reply}
 use Rattle.sumcheck_jobs.specs.Statements.{all_claims}
@@ -134,9 +136,17 @@ reply_by None reply = reply
 unfoldable pub case_reply : (Reported → List ℕ) → Asked → Reply
 case_reply lines q = reply_by (refusal_of q) (rounds_reply lines q (rounds_of q q.case.task))
 
--- what a job is answered over these fields and under its own challenger
-unfoldable pub judge_over : Fields → Job → Reply
-judge_over k job = case_reply report_lines (asked_by k job)
+-- what a job is answered over these fields, under a challenger that answers by these rules and has this history
+unfoldable pub judged_under : Fields → Job → Rules → List Event → Reply
+judged_under k job R h = case_reply report_lines (asked_with k job R h)
+
+-- what jobs ask that name their field and their challenger
+abbrev pub job_asks : Asks Job
+job_asks = record { field = λ job. job.field; challenger = λ job. job.challenger; fits = JobFits; replies = judged_under }
+
+-- the same under its own challenger
+abbrev pub judge_over : Fields → Job → Reply
+judge_over k job = judged_under k job (rules_of k job) []
 
 -- what a job is answered, over the fields that it names
 abbrev pub judge : Job → Reply

@@ -1,12 +1,14 @@
 //! The jobs of `audit` as a kind.
 ghost use Rattle.sumcheck_run.specs.CertifiedJobs.{audit_jobs};
+ghost use Rattle.sumcheck_run.specs.Report.{job_asks};
 
-use crate::report::judge_job;
-use sc_field::NoMemory;
+use crate::report::{judge_job, judge_under};
+use sc_challenger::Challenger;
+use sc_field::{ExtensionField, Field, IntoTranscriptField, NoMemory};
 use serde_json::Value;
 use std::alloc::Global;
-use sumcheck_jobs::{Job, Unread, read_job};
-use sumcheck_replies::{Answer, JobKind};
+use sumcheck_jobs::{FieldName, Job, Unread, read_job};
+use sumcheck_replies::{Answer, FieldJobs, JobKind};
 
 /// The jobs of `audit`.
 pub struct AuditJobs;
@@ -22,5 +24,27 @@ impl JobKind for AuditJobs {
 
     fn judge(alloc: Global, job: Job) -> Result<Answer, NoMemory> {
         judge_job(alloc, job)
+    }
+}
+
+impl FieldJobs for AuditJobs {
+    type Job = Job;
+
+    ghost asks = { job_asks };
+
+    fn field(job: &Job) -> FieldName {
+        job.field
+    }
+
+    fn challenger(job: &Job) -> &sumcheck_jobs::Challenger {
+        &job.challenger
+    }
+
+    fn answer<F: Field, EF: ExtensionField<F>, R: IntoTranscriptField<EF>, C: Challenger<F>>(
+        alloc: Global,
+        job: Job,
+        challenger: &mut C,
+    ) -> Result<Answer, NoMemory> {
+        judge_under::<F, EF, R, C>(alloc, job, challenger)
     }
 }

@@ -11,19 +11,18 @@ ghost use Rattle.sumcheck_replies.specs.Refusals.{finding_reply};
 ghost use Rattle.sumcheck_replies.specs.Reply.{Replies};
 ghost use Rattle.sumcheck_run.specs.CertifiedJobs.{JobPromise};
 ghost use Rattle.sumcheck_run.specs.Report.{case_reply};
-ghost use Rattle.sumcheck_run.specs.Report.{judge, judge_over, report_lines, report_reply};
+ghost use Rattle.sumcheck_run.specs.Report.{judge, judged_under, report_lines, report_reply};
 
 use crate::asked::audit_job;
 use crate::grids::push_grids;
+use crate::kind::AuditJobs;
 use sc_audit::{Job as AuditJob, Report, Verdict, audit};
-use sc_challenger::{Challenger, HashChallenger, ScriptedChallenger};
+use sc_challenger::Challenger;
 use sc_field::{ExtensionField, Field, IntoTranscriptField, NoMemory};
-use sc_sixteen::{Poly16, Tower16};
-use sc_small_fields::{F257, F257x2, F65537};
 use sc_table::RoundMessage;
 use std::alloc::Global;
-use sumcheck_jobs::{FieldName, Job};
-use sumcheck_replies::{Answer, Outcome, lines, number_at, refuse, scripted};
+use sumcheck_jobs::Job;
+use sumcheck_replies::{Answer, Outcome, answer_named, lines, number_at, refuse};
 
 /// The answer to a job: its report, or why there is none. The numbers are given up before the audit begins.
 ///
@@ -34,41 +33,24 @@ pub fn judge_job(alloc: Global, job: Job) -> Result<Answer, NoMemory>
     ensures reply { Replies result (judge job) }
     ensures promised { JobPromise job }
 {
-    match job.field {
-        FieldName::F65537 => judge_in::<F65537, F65537, F65537>(alloc, job),
-        FieldName::F257x2 => judge_in::<F257, F257x2, F257x2>(alloc, job),
-        FieldName::F16 => judge_in::<Tower16, Tower16, Poly16>(alloc, job),
-    }
+    answer_named::<AuditJobs>(alloc, job)
 }
 
-// The same over fields of these types. Represented tables are in `R`.
-fn judge_in<F: Field, EF: ExtensionField<F>, R: IntoTranscriptField<EF>>(
-    alloc: Global,
-    job: Job,
-) -> Result<Answer, NoMemory>
+/// The same under a challenger, over these fields. Represented tables are in `R`. The numbers are
+/// given up before the audit begins.
+pub(crate) fn judge_under<
+    F: Field,
+    EF: ExtensionField<F>,
+    R: IntoTranscriptField<EF>,
+    C: Challenger<F>,
+>(alloc: Global, job: Job, challenger: &mut C) -> Result<Answer, NoMemory>
     requires { JobFits (sizes_over F.ops EF.ops) job }
-    ensures { Replies result (judge_over (fields_over F.ops EF.ops EF.extension EF.embedding) job) }
+    ensures { Replies result (judged_under (fields_over F.ops EF.ops EF.extension EF.embedding)
+        job (C.rules challenger.old) (C.history challenger.old)) }
 {
     let asked: AuditJob<F, EF> = audit_job(alloc, &job)?;
-    match challenger_in(job) {
-        sumcheck_jobs::Challenger::Scripted(script) => {
-            let mut challenger: ScriptedChallenger<F> = scripted(alloc, &script)?;
-            drop(script);
-            answer_of::<F, EF, R, ScriptedChallenger<F>>(alloc, &asked, &mut challenger)
-        }
-        sumcheck_jobs::Challenger::Hash => {
-            let mut challenger: HashChallenger<F> = HashChallenger::new(alloc);
-            answer_of::<F, EF, R, HashChallenger<F>>(alloc, &asked, &mut challenger)
-        }
-    }
-}
-
-// The challenger that a job describes. The rest of the job is given up.
-fn challenger_in(job: Job) -> sumcheck_jobs::Challenger
-    ensures { result ≡ job.challenger }
-{
-    let Job { challenger, .. } = job;
-    challenger
+    drop(job);
+    answer_of::<F, EF, R, C>(alloc, &asked, challenger)
 }
 
 // The answer to an audit.
