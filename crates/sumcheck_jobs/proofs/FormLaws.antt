@@ -8,8 +8,7 @@ use Rattle.std.proofs.lemmas.Option.{same_Some, none-some, cond_some, option_and
 use Rattle.serde_json.specs.Data.{Data}
 use Rattle.serde_json.specs.Find.{get, as_array}
 use Rattle.sc_forms.specs.Forms.{unsigned_form, below_form, at_most_form, list_of, all_of, list_form, list_of_length_form, both_of, pair_form, member_form}
-use Rattle.sumcheck_jobs.specs.declared.member.Member.{Member}
-use Rattle.sumcheck_jobs.specs.Members.{member_name, needed, unless_misfit}
+use Rattle.sumcheck_jobs.specs.Members.{Name, needed, unless_misfit}
 use Rattle.sumcheck_jobs.specs.Elements.{with_member}
 
 -- whatever is read has this
@@ -33,7 +32,7 @@ at_most-gives most d n is =
     (λ m at some. let low = cond_some (nat_le m most) m n some in subst (λ k. k ≤ most) low.1 (leb-true m most low.0))
 
 -- what goes on with a member of a job
-needed-by : {B C Q : Type 0} (found : Option B) (m : Member) (rest : B → Result C Member) (y : C) →
+needed-by : {B C Q : Type 0} (found : Option B) (m : Name) (rest : B → Result C Name) (y : C) →
     unless_misfit (ok_or found m) rest ≡ Ok y → ((x : B) → found ≡ Some x → rest x ≡ Ok y → Q) → Q
 needed-by None m rest y is next = let clash : ⊥ = cc in absurd clash
 needed-by (Some x) m rest y is next = next x refl is
@@ -82,16 +81,16 @@ module _ {B : Type 0} {P : B → Type 0} where
   with_member-gives d name form rest y gives is next =
       option_and_then_some rest (member_form form name d) y is (λ x found some. next x (member-gives form gives name d x found) some)
 
-  pub needed-gives : {C Q : Type 0} (form : Data → Option B) (m : Member) (d : Data) (rest : B → Result C Member) (y : C) → Gives form P →
+  pub needed-gives : {C Q : Type 0} (form : Data → Option B) (m : Name) (d : Data) (rest : B → Result C Name) (y : C) → Gives form P →
       unless_misfit (needed form m d) rest ≡ Ok y → ((x : B) → P x → rest x ≡ Ok y → Q) → Q
   needed-gives form m d rest y gives is next =
-      needed-by (member_form form (member_name m) d) m rest y is (λ x found done. next x (member-gives form gives (member_name m) d x found) done)
+      needed-by (member_form form m d) m rest y is (λ x found done. next x (member-gives form gives m d x found) done)
 
 -- a form of which nothing is asked
 pub any-gives : {A B : Type 0} (form : A → Option B) → Gives form (λ _. ⊤)
 any-gives form d x is = tt
 
 -- what a test lets through
-pub tested_ok : {C : Type 0} (b : Bool) (r : Result C Member) (m : Member) (y : C) → (if b then r else Err m) ≡ Ok y → r ≡ Ok y
+pub tested_ok : {C : Type 0} (b : Bool) (r : Result C Name) (m : Name) (y : C) → (if b then r else Err m) ≡ Ok y → r ≡ Ok y
 tested_ok true r m y is = is
 tested_ok false r m y is = cc

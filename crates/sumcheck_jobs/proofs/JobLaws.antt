@@ -6,8 +6,6 @@ use Rattle.std.proofs.lemmas.Option.{same_Some, none-some, cond_some, option_and
 use Rattle.serde_json.specs.Data.{Data}
 use Rattle.serde_json.specs.Find.{get, as_null, as_str}
 use Rattle.sc_forms.specs.Forms.{at_most_form, is_object, list_form, list_of_length_form, literal_form, member_form, pair_form}
-use Rattle.sumcheck_jobs.specs.declared.member.Member.{Member}
-use Rattle.sumcheck_jobs.specs.declared.member.Member.TheVariants.{Whole, Field, Challenger as ChallengerMember, Order, Bits, Table, Variables, Groups, Batching, Mode as ModeMember}
 use Rattle.sumcheck_jobs.specs.declared.job.FieldName.{FieldName}
 use Rattle.sumcheck_jobs.specs.declared.job.Sizes.{Sizes}
 use Rattle.sumcheck_jobs.specs.declared.job.Script.{Script}
@@ -19,13 +17,14 @@ use Rattle.sumcheck_jobs.specs.declared.job.Proof.{Proof}
 use Rattle.sumcheck_jobs.specs.declared.job.Mode.{Mode}
 use Rattle.sumcheck_jobs.specs.declared.job.Mode.TheVariants.{Build, Check}
 use Rattle.sumcheck_jobs.specs.declared.job.Job.{Job}
+use Rattle.sumcheck_jobs.specs.Members.{Name, whole_job}
 use Rattle.sumcheck_jobs.specs.Elements.{element_form, field_form, order_form, sizes_of}
 use Rattle.sumcheck_jobs.specs.Statements.{EqualityFits, SuccessorFits, ScalarFits, ProductFits, GroupFits, statement_count}
 use Rattle.sumcheck_jobs.specs.Groups.{equality_form, successor_form, scalar_form, product_form, select_by, select_form, group_named, group_form, most_statements, few_statements, groups_form}
 use Rattle.sumcheck_jobs.specs.Job.{script_form, challenger_form, proof_form, check_form, strategy_form, mode_by, mode_form, members_over, members_of, job_of, ScriptFits, ChallengerFits, ProofFits, ModeFits, JobFits}
 use Rattle.sumcheck_jobs.proofs.FormLaws.{Gives, option_map_some, below-gives, at_most-gives, list-gives, list_of_length-gives, pair-gives, member-gives, with_member-gives, needed-gives, any-gives, tested_ok}
 
-ok-same : (x y : Job) → ◌≡◌ {A = Result Job Member} (Ok x) (Ok y) → x ≡ y
+ok-same : (x y : Job) → ◌≡◌ {A = Result Job Name} (Ok x) (Ok y) → x ≡ y
 ok-same x y e = cc
 
 module _ (sizes : Sizes) where
@@ -157,21 +156,21 @@ module _ (sizes : Sizes) where
 
   members-fit : (field : FieldName) (d : Data) (job : Job) → members_over field sizes d ≡ Ok job → (job.field ≡ field) × JobFits sizes job
   members-fit field d job is =
-      needed-gives (challenger_form sizes) ChallengerMember d _ job challenger-gives is (λ challenger c is.
-      needed-gives order_form Order d _ job (any-gives order_form) is (λ order _ is.
-      needed-gives (at_most_form 65535) Bits d _ job (at_most-gives 65535) is (λ bits _ is.
-      needed-gives (list_form base_element) Table d _ job (list-gives base_element base-gives) is (λ table t is.
-      needed-gives (at_most_form 64) Variables d _ job (at_most-gives 64) is (λ variables v is.
-      needed-gives (groups_form sizes variables) Groups d _ job (groups-gives variables) is (λ groups g is.
-      needed-gives extension_element Batching d _ job extension-gives is (λ batching b is.
-      needed-gives (mode_form sizes) ModeMember d _ job mode-gives is (λ mode m is.
+      needed-gives (challenger_form sizes) (codes "challenger") d _ job challenger-gives is (λ challenger c is.
+      needed-gives order_form (codes "order") d _ job (any-gives order_form) is (λ order _ is.
+      needed-gives (at_most_form 65535) (codes "bits") d _ job (at_most-gives 65535) is (λ bits _ is.
+      needed-gives (list_form base_element) (codes "table") d _ job (list-gives base_element base-gives) is (λ table t is.
+      needed-gives (at_most_form 64) (codes "variables") d _ job (at_most-gives 64) is (λ variables v is.
+      needed-gives (groups_form sizes variables) (codes "groups") d _ job (groups-gives variables) is (λ groups g is.
+      needed-gives extension_element (codes "batching") d _ job extension-gives is (λ batching b is.
+      needed-gives (mode_form sizes) (codes "mode") d _ job mode-gives is (λ mode m is.
       subst (λ j. (j.field ≡ field) × JobFits sizes j) (ok-same (record { field = field; challenger = challenger; order = order; bits = bits; table = table; variables = variables; groups = groups; batching = batching; mode = mode }) job is)
       (refl, record { challenger = c; table = t; few = v; groups = g; batching = b; mode = m })))))))))
 
 -- each number of a job that a value describes is that of an element
 pub job_of-fits : (d : Data) (job : Job) → job_of d ≡ Ok job → JobFits (sizes_of job.field) job
 job_of-fits d job is =
-    needed-gives field_form Field d (λ field. members_over field (sizes_of field) d) job (any-gives field_form)
-    (tested_ok (is_object d) (members_of d) Whole job is) (λ field _ is.
+    needed-gives field_form (codes "field") d (λ field. members_over field (sizes_of field) d) job (any-gives field_form)
+    (tested_ok (is_object d) (members_of d) whole_job job is) (λ field _ is.
     let fit = members-fit (sizes_of field) field d job is in
     subst (λ f. JobFits (sizes_of f) job) (sym fit.0) fit.1)

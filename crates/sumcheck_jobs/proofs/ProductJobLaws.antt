@@ -5,14 +5,13 @@ use Rattle.std.proofs.lemmas.Bool.{leb-true}
 use Rattle.std.proofs.lemmas.Option.{same_Some, cond_some, option_and_then_some}
 use Rattle.serde_json.specs.Data.{Data}
 use Rattle.sc_forms.specs.Forms.{at_most_form, is_object, list_form, literal_form, member_form}
-use Rattle.sumcheck_jobs.specs.declared.member.Member.{Member}
-use Rattle.sumcheck_jobs.specs.declared.member.Member.TheVariants.{Whole, Field, Challenger, Bits, Tables, Mode}
 use Rattle.sumcheck_jobs.specs.declared.job.FieldName.{FieldName}
 use Rattle.sumcheck_jobs.specs.declared.job.Sizes.{Sizes}
 use Rattle.sumcheck_jobs.specs.declared.product.ProductProof.{ProductProof}
 use Rattle.sumcheck_jobs.specs.declared.product.ProductMode.{ProductMode}
 use Rattle.sumcheck_jobs.specs.declared.product.ProductMode.TheVariants.{Build, Check}
 use Rattle.sumcheck_jobs.specs.declared.product.ProductJob.{ProductJob}
+use Rattle.sumcheck_jobs.specs.Members.{Name, whole_job}
 use Rattle.sumcheck_jobs.specs.Elements.{element_form, field_form, sizes_of}
 use Rattle.sumcheck_jobs.specs.Job.{challenger_form}
 use Rattle.sumcheck_jobs.specs.ProductJob.{most_tables, some_tables, tables_form, product_proof_form, product_mode_form, product_members_over, product_members_of, product_job_of, ProductProofFits, ProductModeFits, TablesFit, ProductJobFits}
@@ -23,7 +22,7 @@ both_true : (a b : Bool) → a && b ≡ true → (a ≡ true) × (b ≡ true)
 both_true true b is = (refl, is)
 both_true false b is = cc
 
-ok-same : (x y : ProductJob) → ◌≡◌ {A = Result ProductJob Member} (Ok x) (Ok y) → x ≡ y
+ok-same : (x y : ProductJob) → ◌≡◌ {A = Result ProductJob Name} (Ok x) (Ok y) → x ≡ y
 ok-same x y e = cc
 
 module _ (sizes : Sizes) where
@@ -65,17 +64,17 @@ module _ (sizes : Sizes) where
 
   members-fit : (field : FieldName) (d : Data) (job : ProductJob) → product_members_over field sizes d ≡ Ok job → (job.field ≡ field) × ProductJobFits sizes job
   members-fit field d job is =
-      needed-gives (challenger_form sizes) Challenger d _ job (challenger-gives sizes) is (λ challenger c is.
-      needed-gives (at_most_form 65535) Bits d _ job (at_most-gives 65535) is (λ bits _ is.
-      needed-gives (tables_form sizes) Tables d _ job tables-gives is (λ tables t is.
-      needed-gives (product_mode_form sizes) Mode d _ job mode-gives is (λ mode m is.
+      needed-gives (challenger_form sizes) (codes "challenger") d _ job (challenger-gives sizes) is (λ challenger c is.
+      needed-gives (at_most_form 65535) (codes "bits") d _ job (at_most-gives 65535) is (λ bits _ is.
+      needed-gives (tables_form sizes) (codes "tables") d _ job tables-gives is (λ tables t is.
+      needed-gives (product_mode_form sizes) (codes "mode") d _ job mode-gives is (λ mode m is.
       subst (λ j. (j.field ≡ field) × ProductJobFits sizes j) (ok-same (record { field = field; challenger = challenger; bits = bits; tables = tables; mode = mode }) job is)
       (refl, record { challenger = c; tables = t; mode = m })))))
 
 -- each number of a job that a value describes is that of an element
 pub product_job_of-fits : (d : Data) (job : ProductJob) → product_job_of d ≡ Ok job → ProductJobFits (sizes_of job.field) job
 product_job_of-fits d job is =
-    needed-gives field_form Field d (λ field. product_members_over field (sizes_of field) d) job (any-gives field_form)
-    (tested_ok (is_object d) (product_members_of d) Whole job is) (λ field _ is.
+    needed-gives field_form (codes "field") d (λ field. product_members_over field (sizes_of field) d) job (any-gives field_form)
+    (tested_ok (is_object d) (product_members_of d) whole_job job is) (λ field _ is.
     let fit = members-fit (sizes_of field) field d job is in
     subst (λ f. ProductJobFits (sizes_of f) job) (sym fit.0) fit.1)

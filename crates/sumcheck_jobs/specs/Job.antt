@@ -3,12 +3,10 @@ use Rattle.std.specs.Prelude.{ℕ, ◌<◌, ◌≤◌, List, All, ⊤, codes, by
 use Rattle.serde_json.specs.Data.{Data}
 use Rattle.serde_json.specs.Find.{get, as_null, as_str}
 use Rattle.sc_forms.specs.Forms.{at_most_form, is_object, list_form, literal_form, member_form, pair_form}
-use Rattle.sumcheck_jobs.specs.Members.{needed, unless_misfit}
+use Rattle.sumcheck_jobs.specs.Members.{Name, whole_job, needed, unless_misfit}
 use Rattle.sumcheck_jobs.specs.Elements.{with_member, element_form, field_form, order_form, sizes_of}
 use Rattle.sumcheck_jobs.specs.Groups.{groups_form}
 use Rattle.sumcheck_jobs.specs.Statements.{GroupFits}
-use Rattle.sumcheck_jobs.specs.declared.member.Member.{Member}
-use Rattle.sumcheck_jobs.specs.declared.member.Member.TheVariants.{Whole, Field, Challenger as ChallengerMember, Order, Bits, Table, Variables, Groups, Batching, Mode as ModeMember}
 use Rattle.sumcheck_jobs.specs.declared.job.FieldName.{FieldName}
 use Rattle.sumcheck_jobs.specs.declared.job.Sizes.{Sizes}
 use Rattle.sc_table.specs.declared.strategy.Strategy.{Strategy}
@@ -70,26 +68,26 @@ abbrev pub mode_form : Sizes → Data → Option Mode
 mode_form sizes d = mode_by sizes (get (codes "build") d) (get (codes "check") d)
 
 -- the members behind the field, in the order in which they are tested
-abbrev pub members_over : FieldName → Sizes → Data → Result Job Member
+abbrev pub members_over : FieldName → Sizes → Data → Result Job Name
 members_over field sizes d =
-    unless_misfit (needed (challenger_form sizes) ChallengerMember d) (λ challenger.
-    unless_misfit (needed order_form Order d) (λ order.
-    unless_misfit (needed (at_most_form 65535) Bits d) (λ bits.
-    unless_misfit (needed (list_form (element_form sizes.base)) Table d) (λ table.
-    unless_misfit (needed (at_most_form 64) Variables d) (λ variables.
-    unless_misfit (needed (groups_form sizes variables) Groups d) (λ groups.
-    unless_misfit (needed (element_form sizes.extension) Batching d) (λ batching.
-    unless_misfit (needed (mode_form sizes) ModeMember d) (λ mode.
+    unless_misfit (needed (challenger_form sizes) (codes "challenger") d) (λ challenger.
+    unless_misfit (needed order_form (codes "order") d) (λ order.
+    unless_misfit (needed (at_most_form 65535) (codes "bits") d) (λ bits.
+    unless_misfit (needed (list_form (element_form sizes.base)) (codes "table") d) (λ table.
+    unless_misfit (needed (at_most_form 64) (codes "variables") d) (λ variables.
+    unless_misfit (needed (groups_form sizes variables) (codes "groups") d) (λ groups.
+    unless_misfit (needed (element_form sizes.extension) (codes "batching") d) (λ batching.
+    unless_misfit (needed (mode_form sizes) (codes "mode") d) (λ mode.
     Ok (record { field = field; challenger = challenger; order = order; bits = bits; table = table; variables = variables; groups = groups; batching = batching; mode = mode })))))))))
 
 -- the members, the field first
-abbrev pub members_of : Data → Result Job Member
-members_of d = unless_misfit (needed field_form Field d) (λ field. members_over field (sizes_of field) d)
+abbrev pub members_of : Data → Result Job Name
+members_of d = unless_misfit (needed field_form (codes "field") d) (λ field. members_over field (sizes_of field) d)
 
 -- the job that a value describes: one over one of three fields under a scripted or the hash challenger, in either order, at
 -- any difficulty, with statements of every kind; else its first member that is missing or not of its form
-abbrev pub job_of : Data → Result Job Member
-job_of d = if is_object d then members_of d else Err Whole
+abbrev pub job_of : Data → Result Job Name
+job_of d = if is_object d then members_of d else Err whole_job
 
 -- ---- what the numbers of a job that was read have
 

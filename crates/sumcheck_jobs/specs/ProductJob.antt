@@ -2,11 +2,9 @@
 use Rattle.std.specs.Prelude.{ℕ, ◌<◌, ◌≤◌, ◌&&◌, List, All, ⊤, length, codes, nat_le, if◌then◌else◌, Option, Some, None, is_some, option_map, option_and_then, Result, Ok, Err}
 use Rattle.serde_json.specs.Data.{Data}
 use Rattle.sc_forms.specs.Forms.{at_most_form, is_object, list_form, literal_form, member_form}
-use Rattle.sumcheck_jobs.specs.Members.{needed, unless_misfit}
+use Rattle.sumcheck_jobs.specs.Members.{Name, whole_job, needed, unless_misfit}
 use Rattle.sumcheck_jobs.specs.Elements.{with_member, element_form, field_form, sizes_of}
 use Rattle.sumcheck_jobs.specs.Job.{challenger_form, AreElements, ChallengerFits}
-use Rattle.sumcheck_jobs.specs.declared.member.Member.{Member}
-use Rattle.sumcheck_jobs.specs.declared.member.Member.TheVariants.{Whole, Field, Challenger, Bits, Tables, Mode}
 use Rattle.sumcheck_jobs.specs.declared.job.FieldName.{FieldName}
 use Rattle.sumcheck_jobs.specs.declared.job.Sizes.{Sizes}
 use Rattle.sumcheck_jobs.specs.declared.product.ProductProof.{ProductProof}
@@ -41,21 +39,21 @@ product_mode_form sizes d =
     else option_map (λ proof. Check proof) (member_form (product_proof_form sizes) (codes "check") d)
 
 -- the members behind the field, in the order in which they are tested
-abbrev pub product_members_over : FieldName → Sizes → Data → Result ProductJob Member
+abbrev pub product_members_over : FieldName → Sizes → Data → Result ProductJob Name
 product_members_over field sizes d =
-    unless_misfit (needed (challenger_form sizes) Challenger d) (λ challenger.
-    unless_misfit (needed (at_most_form 65535) Bits d) (λ bits.
-    unless_misfit (needed (tables_form sizes) Tables d) (λ tables.
-    unless_misfit (needed (product_mode_form sizes) Mode d) (λ mode.
+    unless_misfit (needed (challenger_form sizes) (codes "challenger") d) (λ challenger.
+    unless_misfit (needed (at_most_form 65535) (codes "bits") d) (λ bits.
+    unless_misfit (needed (tables_form sizes) (codes "tables") d) (λ tables.
+    unless_misfit (needed (product_mode_form sizes) (codes "mode") d) (λ mode.
     Ok (record { field = field; challenger = challenger; bits = bits; tables = tables; mode = mode })))))
 
 -- the members, the field first
-abbrev pub product_members_of : Data → Result ProductJob Member
-product_members_of d = unless_misfit (needed field_form Field d) (λ field. product_members_over field (sizes_of field) d)
+abbrev pub product_members_of : Data → Result ProductJob Name
+product_members_of d = unless_misfit (needed field_form (codes "field") d) (λ field. product_members_over field (sizes_of field) d)
 
 -- the job that a value describes, from 1 to 8 tables over one of three fields; else its first member that is missing or not of its form
-abbrev pub product_job_of : Data → Result ProductJob Member
-product_job_of d = if is_object d then product_members_of d else Err Whole
+abbrev pub product_job_of : Data → Result ProductJob Name
+product_job_of d = if is_object d then product_members_of d else Err whole_job
 
 -- ---- what the numbers of a job that was read have
 

@@ -1,24 +1,22 @@
 -- The members of a job that stand behind its table.
-use Rattle.std.specs.Prelude.{◌<◌, ◌≤◌, All, Result, Ok}
+use Rattle.std.specs.Prelude.{◌<◌, ◌≤◌, All, codes, Result, Ok}
 use Rattle.serde_json.specs.Data.{Data}
 use Rattle.sc_forms.specs.Forms.{at_most_form}
-use Rattle.sumcheck_jobs.specs.Members.{needed, unless_misfit}
+use Rattle.sumcheck_jobs.specs.Members.{Name, needed, unless_misfit}
 use Rattle.sumcheck_jobs.specs.Elements.{element_form}
 use Rattle.sumcheck_jobs.specs.Groups.{groups_form}
 use Rattle.sumcheck_jobs.specs.Statements.{GroupFits}
 use Rattle.sumcheck_jobs.specs.Job.{mode_form, ModeFits}
 use Rattle.sumcheck_jobs.specs.declared.job.Sizes.{Sizes}
-use Rattle.sumcheck_jobs.specs.declared.member.Member.{Member}
-use Rattle.sumcheck_jobs.specs.declared.member.Member.TheVariants.{Variables, Groups, Batching, Mode as ModeMember}
 use Rattle.sumcheck_jobs.specs.declared.reading.Rest.{Rest}
 
 -- these members, in the order in which they are tested
-abbrev pub rest_over : Sizes → Data → Result Rest Member
+abbrev pub rest_over : Sizes → Data → Result Rest Name
 rest_over sizes d =
-    unless_misfit (needed (at_most_form 64) Variables d) (λ variables.
-    unless_misfit (needed (groups_form sizes variables) Groups d) (λ groups.
-    unless_misfit (needed (element_form sizes.extension) Batching d) (λ batching.
-    unless_misfit (needed (mode_form sizes) ModeMember d) (λ mode.
+    unless_misfit (needed (at_most_form 64) (codes "variables") d) (λ variables.
+    unless_misfit (needed (groups_form sizes variables) (codes "groups") d) (λ groups.
+    unless_misfit (needed (element_form sizes.extension) (codes "batching") d) (λ batching.
+    unless_misfit (needed (mode_form sizes) (codes "mode") d) (λ mode.
     Ok (record { variables = variables; groups = groups; batching = batching; mode = mode })))))
 
 -- what their numbers have

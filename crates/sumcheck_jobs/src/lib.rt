@@ -16,6 +16,6 @@ pub use job::{
     Challenger, EqualityClaim, FieldName, Group, Job, Mode, ProductClaim, Proof, ScalarClaim,
     Script, Sizes, SuccessorClaim,
 };
-pub use member::{Member, Unread};
+pub use member::{Member, Unread, need, take};
 pub use product::{ProductJob, ProductMode, ProductProof, read_product};
-pub use reading::read_job;
+pub use reading::{ChallengerForm, FieldForm, MOST_BITS, OrderForm, read_job};

@@ -8,20 +8,10 @@ use serde_json::Value;
 use std::alloc::Global;
 use thiserror::Error;
 
-/// A member of a job, or the job as a whole.
+/// The name of a member of a job, or `job` for the job as a whole.
 #[derive(Clone, Copy, Debug, PartialEq, Eq)]
-pub enum Member {
-    Whole,
-    Field,
-    Challenger,
-    Order,
-    Bits,
-    Table,
-    Tables,
-    Variables,
-    Groups,
-    Batching,
-    Mode,
+pub struct Member {
+    word: &'static str,
 }
 
 /// Why a job was not read.
@@ -36,69 +26,64 @@ pub enum Unread {
 }
 
 impl Member {
+    /// The member of this name.
+    pub fn named(word: &'static str) -> Self
+        ensures { member_name result ≡ word.now }
+    {
+        Member { word }
+    }
+
     /// The name that it has in a job, and in a refusal.
     pub fn name(self) -> &'static str
         ensures { result.now ≡ member_name self }
     {
-        match self {
-            Member::Whole => "job",
-            Member::Field => "field",
-            Member::Challenger => "challenger",
-            Member::Order => "order",
-            Member::Bits => "bits",
-            Member::Table => "table",
-            Member::Tables => "tables",
-            Member::Variables => "variables",
-            Member::Groups => "groups",
-            Member::Batching => "batching",
-            Member::Mode => "mode",
-        }
+        self.word
     }
 }
 
 /// A member of a job in its form.
-pub(crate) fn need<F: Form>(
+pub fn need<F: Form>(
     alloc: Global,
     form: &F,
     value: &Value,
-    name: Member,
+    name: &'static str,
 ) -> Result<F::Out, Unread>
-    ensures ok { IfOk result (λ x. needed (F.reads form.now) name (view value.now) ≡ Ok x) }
+    ensures ok { IfOk result (λ x. needed (F.reads form.now) name.now (view value.now) ≡ Ok x) }
     ensures misfit { (m : Member) → result ≡ Err (Unread.Misfit m)
-        → needed (F.reads form.now) name (view value.now) ≡ Err m }
+        → needed (F.reads form.now) name.now (view value.now) ≡ Err (member_name m) }
     ensures fits { IfOk result (F.fits form.now) }
 {
-    match member(alloc, form, value, name.name()) {
+    match member(alloc, form, value, name) {
         Ok(found) => Ok(found),
         Err(error) => Err(told_of(error, name)),
     }
 }
 
 /// The same of an object that is given up.
-pub(crate) fn take<F: Form>(
+pub fn take<F: Form>(
     alloc: Global,
     form: &F,
     value: Value,
-    name: Member,
+    name: &'static str,
 ) -> Result<F::Out, Unread>
-    ensures ok { IfOk result (λ x. needed (F.reads form.now) name (view value) ≡ Ok x) }
+    ensures ok { IfOk result (λ x. needed (F.reads form.now) name.now (view value) ≡ Ok x) }
     ensures misfit { (m : Member) → result ≡ Err (Unread.Misfit m)
-        → needed (F.reads form.now) name (view value) ≡ Err m }
+        → needed (F.reads form.now) name.now (view value) ≡ Err (member_name m) }
     ensures fits { IfOk result (F.fits form.now) }
 {
-    match take_member(alloc, form, value, name.name()) {
+    match take_member(alloc, form, value, name) {
         Ok(found) => Ok(found),
         Err(error) => Err(told_of(error, name)),
     }
 }
 
 // Why the job is not read whose member of this name is not read.
-fn told_of(error: Misread, name: Member) -> Unread
+fn told_of(error: Misread, name: &'static str) -> Unread
     ensures { (m : Member) → result ≡ Unread.Misfit m
-        → (error ≡ Misread.NotOfForm) × (m ≡ name) }
+        → (error ≡ Misread.NotOfForm) × (member_name m ≡ name.now) }
 {
     match error {
-        Misread::NotOfForm => Unread::Misfit(name),
+        Misread::NotOfForm => Unread::Misfit(Member::named(name)),
         Misread::NoMemory => Unread::NoMemory,
     }
 }

@@ -1,6 +1,7 @@
 //! The job of `product` that a JSON value describes, or the first member that is not of its form.
 ghost use Rattle.std.specs.Prelude.{◌≡◌, ◌≢◌, ◌≤◌, Some, None, Ok, Err, IfOk, IsErrOf, length};
 ghost use Rattle.serde_json.specs.View.{view};
+ghost use Rattle.sumcheck_jobs.specs.Members.{member_name};
 ghost use Rattle.sumcheck_jobs.specs.Elements.{sizes_of};
 ghost use Rattle.sumcheck_jobs.specs.ProductJob.{ProductJobFits, ProductModeFits};
 ghost use Rattle.sumcheck_jobs.specs.ProductJob.{ProductProofFits, TablesFit, product_job_of};
@@ -164,13 +165,13 @@ impl Form for ProductModeForm {
 pub fn read_product(alloc: Global, value: Value) -> Result<ProductJob, Unread>
     ensures job { IfOk result (λ job. product_job_of (view value) ≡ Ok job) }
     ensures misfit { (m : Member) → result ≡ Err (Unread.Misfit m)
-        → product_job_of (view value) ≡ Err m }
+        → product_job_of (view value) ≡ Err (member_name m) }
     ensures fits { IfOk result (λ job. ProductJobFits (sizes_of job.field) job) }
 {
     if !is_object(&value) {
-        return Err(Unread::Misfit(Member::Whole));
+        return Err(Unread::Misfit(Member::named("job")));
     }
-    let field = need(alloc, &FieldForm, &value, Member::Field)?;
+    let field = need(alloc, &FieldForm, &value, "field")?;
     read_product_members(alloc, value, field, field.sizes())
 }
 
@@ -184,16 +185,16 @@ fn read_product_members(
 ) -> Result<ProductJob, Unread>
     ensures job { IfOk result (λ job. product_members_over field sizes (view value) ≡ Ok job) }
     ensures misfit { (m : Member) → result ≡ Err (Unread.Misfit m)
-        → product_members_over field sizes (view value) ≡ Err m }
+        → product_members_over field sizes (view value) ≡ Err (member_name m) }
     ensures field { IfOk result (λ job. job.field ≡ field) }
     ensures fits { IfOk result (λ job. ProductJobFits sizes job) }
 {
     let challenger = ChallengerForm { sizes };
-    let challenger = need(alloc, &challenger, &value, Member::Challenger)?;
+    let challenger = need(alloc, &challenger, &value, "challenger")?;
     let most = AtMost { most: MOST_BITS };
-    let bits = need(alloc, &most, &value, Member::Bits)?;
-    let mode = need(alloc, &ProductModeForm { sizes }, &value, Member::Mode);
-    let tables = take(alloc, &TablesForm { sizes }, value, Member::Tables)?;
+    let bits = need(alloc, &most, &value, "bits")?;
+    let mode = need(alloc, &ProductModeForm { sizes }, &value, "mode");
+    let tables = take(alloc, &TablesForm { sizes }, value, "tables")?;
     Ok(ProductJob {
         field,
         challenger,

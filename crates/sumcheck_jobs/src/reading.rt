@@ -1,6 +1,7 @@
 //! The job that a JSON value describes, or the first member that is not of its form.
 ghost use Rattle.std.specs.Prelude.{◌≡◌, ◌<◌, Option, Some, None, Ok, Err, IfOk};
 ghost use Rattle.serde_json.specs.View.{view};
+ghost use Rattle.sumcheck_jobs.specs.Members.{member_name};
 ghost use Rattle.sumcheck_jobs.specs.Elements.{field_form, order_form, sizes_of};
 ghost use Rattle.sumcheck_jobs.specs.Job.{JobFits, ProofFits, ModeFits, ScriptFits, ChallengerFits, challenger_form, check_form, job_of, members_over, mode_form, proof_form, script_form, strategy_form};
 ghost use Rattle.sumcheck_jobs.specs.Rest.{rest_over, RestFits};
@@ -17,11 +18,11 @@ use std::alloc::Global;
 const MOST_VARIABLES: u64 = 64;
 
 /// The greatest difficulty that a job can name.
-pub(crate) const MOST_BITS: u64 = 65535;
+pub const MOST_BITS: u64 = 65535;
 
 /// A field by its name.
 #[derive(Clone, Copy)]
-pub(crate) struct FieldForm;
+pub struct FieldForm;
 
 impl Form for FieldForm {
     type Out = FieldName;
@@ -64,8 +65,8 @@ impl Form for ScriptForm {
 
 /// The hash challenger by its name, or a scripted one.
 #[derive(Clone, Copy)]
-pub(crate) struct ChallengerForm {
-    pub(crate) sizes: Sizes,
+pub struct ChallengerForm {
+    pub sizes: Sizes,
 }
 
 impl Form for ChallengerForm {
@@ -88,7 +89,7 @@ impl Form for ChallengerForm {
 
 /// Which variable a round binds, or on which side a selector stands, by its name.
 #[derive(Clone, Copy)]
-pub(crate) struct OrderForm;
+pub struct OrderForm;
 
 impl Form for OrderForm {
     type Out = VariableOrder;
@@ -215,13 +216,13 @@ impl Form for ModeForm {
 pub fn read_job(alloc: Global, value: Value) -> Result<Job, Unread>
     ensures job { IfOk result (λ job. job_of (view value) ≡ Ok job) }
     ensures misfit { (m : Member) → result ≡ Err (Unread.Misfit m)
-        → job_of (view value) ≡ Err m }
+        → job_of (view value) ≡ Err (member_name m) }
     ensures fits { IfOk result (λ job. JobFits (sizes_of job.field) job) }
 {
     if !is_object(&value) {
-        return Err(Unread::Misfit(Member::Whole));
+        return Err(Unread::Misfit(Member::named("job")));
     }
-    let field = need(alloc, &FieldForm, &value, Member::Field)?;
+    let field = need(alloc, &FieldForm, &value, "field")?;
     read_members(alloc, value, field, field.sizes())
 }
 
@@ -230,20 +231,20 @@ pub fn read_job(alloc: Global, value: Value) -> Result<Job, Unread>
 fn read_members(alloc: Global, value: Value, field: FieldName, sizes: Sizes) -> Result<Job, Unread>
     ensures job { IfOk result (λ job. members_over field sizes (view value) ≡ Ok job) }
     ensures misfit { (m : Member) → result ≡ Err (Unread.Misfit m)
-        → members_over field sizes (view value) ≡ Err m }
+        → members_over field sizes (view value) ≡ Err (member_name m) }
     ensures field { IfOk result (λ job. job.field ≡ field) }
     ensures fits { IfOk result (λ job. JobFits sizes job) }
 {
     let challenger = ChallengerForm { sizes };
-    let challenger = need(alloc, &challenger, &value, Member::Challenger)?;
-    let order = need(alloc, &OrderForm, &value, Member::Order)?;
+    let challenger = need(alloc, &challenger, &value, "challenger")?;
+    let order = need(alloc, &OrderForm, &value, "order")?;
     let most = AtMost { most: MOST_BITS };
-    let bits = need(alloc, &most, &value, Member::Bits)?;
+    let bits = need(alloc, &most, &value, "bits")?;
     let rest = read_rest(alloc, &value, sizes);
     let entries = ListOf {
         item: Below { bound: sizes.base },
     };
-    let table = take(alloc, &entries, value, Member::Table)?;
+    let table = take(alloc, &entries, value, "table")?;
     let Rest {
         variables,
         groups,
@@ -276,23 +277,23 @@ struct Rest {
 fn read_rest(alloc: Global, value: &Value, sizes: Sizes) -> Result<Rest, Unread>
     ensures rest { IfOk result (λ rest. rest_over sizes (view value.now) ≡ Ok rest) }
     ensures misfit { (m : Member) → result ≡ Err (Unread.Misfit m)
-        → rest_over sizes (view value.now) ≡ Err m }
+        → rest_over sizes (view value.now) ≡ Err (member_name m) }
     ensures fits { IfOk result (λ rest. RestFits sizes rest) }
 {
     let most = AtMost {
         most: MOST_VARIABLES,
     };
-    let variables = need(alloc, &most, value, Member::Variables)?;
+    let variables = need(alloc, &most, value, "variables")?;
     let groups = GroupsForm {
         sizes,
         variables: variables as usize,
     };
-    let groups = need(alloc, &groups, value, Member::Groups)?;
+    let groups = need(alloc, &groups, value, "groups")?;
     let challenge = Below {
         bound: sizes.extension,
     };
-    let batching = need(alloc, &challenge, value, Member::Batching)?;
-    let mode = need(alloc, &ModeForm { sizes }, value, Member::Mode)?;
+    let batching = need(alloc, &challenge, value, "batching")?;
+    let mode = need(alloc, &ModeForm { sizes }, value, "mode")?;
     Ok(Rest {
         variables,
         groups,

@@ -1,13 +1,13 @@
 -- Replies that are no usage, and promises that are kept.
-use Rattle.std.proofs.Common.{◌≡◌, ◌≤◌, ℕ, List, Bool, true, false, Option, Some, None, Result, Ok, Err, length, sym, ap, ◌∙◌, rules}
+use Rattle.std.proofs.Common.{◌≡◌, ◌≤◌, ℕ, List, Bool, true, false, Option, Some, None, Result, Ok, Err, length, ap, ◌∙◌, rules}
 use Rattle.std.specs.Prelude.{if◌then◌else◌, nat_lt}
 use Rattle.serde_json.specs.Data.{Data}
 use Rattle.sc_forms.specs.Values.{value_of}
 use Rattle.sc_verdicts.specs.declared.error.AuditError.{AuditError}
 use Rattle.sc_verdicts.specs.declared.error.AuditError.TheVariants.{JobShape, StrategyUnfit, FalseClaim, MissingSumcheckData, RoundCountMismatch, PowWitnessCountMismatch, InvalidPowWitness, NoWitness, NoMemory}
 use Rattle.sc_verdicts.specs.Findings.{Finding, holds, refuted, lucky}
-use Rattle.sumcheck_jobs.specs.declared.member.Member.{Member}
-use Rattle.sumcheck_replies.specs.Reply.{Reply, code_of, no_witness, proof_refused, refused}
+use Rattle.sumcheck_jobs.specs.Members.{Name}
+use Rattle.sumcheck_replies.specs.Reply.{Reply, no_witness, proof_refused, refused}
 use Rattle.sumcheck_replies.specs.Refusals.{refusal_reply, finding_reply}
 use Rattle.sumcheck_replies.specs.Kinds.{max_input, too_long, bad_json, value_reply, json_reply, Jobs, job_reply, jobs_reply, KeepsPromise, IsAnswer, AreLawful}
 
@@ -63,7 +63,7 @@ fitting input short = search rules
 -- ---- jobs of a kind
 
 module _ {J : Type 0} (jobs : Jobs J) (lawful : AreLawful jobs) where
-  job-answer : (r : Result J Member) → IsAnswer (job_reply jobs r)
+  job-answer : (r : Result J Name) → IsAnswer (job_reply jobs r)
   job-answer (Ok job) = lawful.answer job
   job-answer (Err m) = refused-answer _
 

@@ -2,8 +2,7 @@
 use Rattle.std.specs.Prelude.{◌≡◌, ℕ, ◌≤◌, List, length, codes, Option, Some, None, Result, Ok, Err, nat_lt, if◌then◌else◌}
 use Rattle.serde_json.specs.Data.{Data}
 use Rattle.sc_forms.specs.Values.{value_of}
-use Rattle.sumcheck_jobs.specs.declared.member.Member.{Member}
-use Rattle.sumcheck_jobs.specs.Members.{misfit_text}
+use Rattle.sumcheck_jobs.specs.Members.{Name, misfit_text}
 use Rattle.sumcheck_replies.specs.Reply.{Reply, code_of, refused}
 
 -- ---- an input
@@ -31,7 +30,7 @@ json_reply reply input = if nat_lt max_input (length input) then too_long else v
 -- What jobs of a kind are.
 pub record Jobs (J : Type 0) : Type 1 where
   -- the job that a value describes, or its first member that is missing or not of its form
-  pub describes : Data → Result J Member
+  pub describes : Data → Result J Name
   -- what the numbers of a job have that a value describes
   pub fits : J → Type 0
   -- what a job is replied
@@ -39,7 +38,7 @@ pub record Jobs (J : Type 0) : Type 1 where
   -- what is promised of a job and of this reply
   pub promises : J → Type 0
 
-abbrev pub job_reply : {J : Type 0} → Jobs J → Result J Member → Reply
+abbrev pub job_reply : {J : Type 0} → Jobs J → Result J Name → Reply
 job_reply jobs (Ok job) = jobs.replies job
 job_reply jobs (Err m) = refused (misfit_text m)
 

@@ -1,7 +1,7 @@
 //! Kinds of jobs, and what is replied to an input that may describe one.
 ghost use Rattle.std.specs.Prelude.{◌≡◌, Ok, Err, IfOk};
 ghost use Rattle.serde_json.specs.View.{view};
-ghost use Rattle.sumcheck_jobs.specs.Members.{misfit_text};
+ghost use Rattle.sumcheck_jobs.specs.Members.{member_name, misfit_text};
 ghost use Rattle.sumcheck_replies.specs.Inputs.{IsReadAs};
 ghost use Rattle.sumcheck_replies.specs.Kinds.{Jobs, json_reply, jobs_reply};
 ghost use Rattle.sumcheck_replies.specs.Reply.{Replies, refused};
@@ -31,7 +31,7 @@ pub trait JobKind {
     fn read(alloc: Global, value: Value) -> Result<Self::Job, Unread>
         ensures job { IfOk result (λ job. jobs.describes (view value) ≡ Ok job) }
         ensures misfit { (m : Member) → result ≡ Err (Unread.Misfit m)
-            → jobs.describes (view value) ≡ Err m }
+            → jobs.describes (view value) ≡ Err (member_name m) }
         ensures fits { IfOk result jobs.fits };
 
     /// The answer to a job, which is given up.
@@ -82,7 +82,7 @@ fn parse(alloc: Global, input: Vec<u8>) -> Result<Input, NoMemory>
 }
 
 fn refuse_misfit(alloc: Global, member: Member) -> Result<Answer, NoMemory>
-    ensures { Replies result (refused (misfit_text member)) }
+    ensures { Replies result (refused (misfit_text (member_name member))) }
 {
     let why = lines::misfit_text(alloc, member)?;
     Answer::refused(alloc, &why)

@@ -9,7 +9,7 @@ ghost use Rattle.sumcheck_replies.specs.Lines.{rounds_text, shape_fault_text, sp
 ghost use Rattle.sumcheck_replies.specs.Lines.{weight_line, witness_text, witnesses_text};
 ghost use Rattle.sumcheck_replies.specs.Lines.{challenge_part, product_line, round_name, width_text};
 ghost use Rattle.sumcheck_replies.specs.Lines.{witness_part};
-ghost use Rattle.sumcheck_jobs.specs.Members.{misfit_text};
+ghost use Rattle.sumcheck_jobs.specs.Members.{member_name, misfit_text};
 
 use sc_field::{Field, NoMemory};
 use sc_verdicts::{FitFault, ShapeFault};
@@ -222,7 +222,7 @@ fn push_lucky_round_name(text: &mut String, round: usize, vanishing: u64) -> Res
 /// A member that is missing or not of its form.
 #[tactic(auto, unfolding(sumcheck_jobs::specs::Members::misfit_text))]
 pub fn misfit_text(alloc: Global, member: Member) -> Result<String, AllocError>
-    ensures { IfOk result (λ s. string_bytes s ≡ misfit_text member) }
+    ensures { IfOk result (λ s. string_bytes s ≡ misfit_text (member_name member)) }
 {
     let name = member.name();
     format!(in alloc; "bad-job {name}")

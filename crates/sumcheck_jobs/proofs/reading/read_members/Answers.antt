@@ -2,6 +2,7 @@ use Rattle.std.proofs.Common.{◌≡◌, Err, rules}
 use Rattle.std.proofs.lemmas.Result.{IfOk-from_err}
 use Rattle.serde_json.specs.View.{view}
 use Rattle.sumcheck_jobs.specs.declared.member.Unread.TheVariants.{Misfit}
+use Rattle.sumcheck_jobs.specs.Members.{member_name}
 use Rattle.sumcheck_jobs.proofs.RestLaws.{rest_misfit, rest_ok}
 use Rattle.sumcheck_jobs.proofs.reading.read_members.Goals as goal
 
@@ -46,7 +47,7 @@ returns-in_err-table-clause-fits c = IfOk-from_err c.from_residual-in_err-table.
 pub returns-in_err-variables-clause-misfit : goal.returns-in_err-variables-clause-misfit
 returns-in_err-variables-clause-misfit c = λ m told.
     let is : c.read_rest-rest.result ≡ Err (Misfit m) = search rules in
-    rest_misfit c.args.field c.args.sizes (view c.args.value) _ _ _ _ c.in_ok-challenger.ensures.ok c.in_ok-order.ensures.ok c.in_ok-bits.ensures.ok c.in_ok-table.ensures.ok m (c.read_rest-rest.ensures.misfit m is)
+    rest_misfit c.args.field c.args.sizes (view c.args.value) _ _ _ _ c.in_ok-challenger.ensures.ok c.in_ok-order.ensures.ok c.in_ok-bits.ensures.ok c.in_ok-table.ensures.ok (member_name m) (c.read_rest-rest.ensures.misfit m is)
 
 pub returns-clause-job : goal.returns-clause-job
 returns-clause-job c =
