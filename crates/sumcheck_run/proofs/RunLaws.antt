@@ -10,8 +10,8 @@ use Rattle.sumcheck_run.specs.declared.command.Command.TheVariants.{Judge, Make}
 use Rattle.sumcheck_replies.specs.declared.reply.Outcome.{Outcome}
 use Rattle.sumcheck_replies.specs.declared.reply.Outcome.TheVariants.{Holds, Refuted, Lucky, Usage, JobRefused, ProofRefused, NoWitness}
 use Rattle.sumcheck_replies.specs.Reply.{Reply, code_of}
-use Rattle.sumcheck_replies.specs.Kinds.{max_input, too_long, json_reply}
-use Rattle.sumcheck_run.specs.Program.{kind_reply, reads_input, reply_of}
+use Rattle.sumcheck_replies.specs.Kinds.{max_input, too_long, json_reply, jobs_reply}
+use Rattle.sumcheck_run.specs.Program.{jobs_of, reads_input, reply_of}
 use Rattle.sumcheck_run.specs.Run.{IsRead, IsAnswered, IsCutShort, IsInput, TellsUsage, WritesReply, Responds}
 use Rattle.sumcheck_run.proofs.Outcomes.{usage-only, usage-code}
 
@@ -50,7 +50,7 @@ same_reply : (command : Option Command) (left left' : Option (List ℕ)) (old ne
     IsInput (reads_input command) left old new input → reply_of command xs ≡ reply_of command input
 same_reply None left left' old new xs input read is = refl
 same_reply (Some (Make recipe)) left left' old new xs input read is = refl
-same_reply (Some (Judge kind)) left left' old new xs input read is = json_same (kind_reply kind) left left' old new xs input read is
+same_reply (Some (Judge kind)) left left' old new xs input read is = json_same (jobs_reply (jobs_of kind).jobs) left left' old new xs input read is
 
 -- ---- a reply that is written
 

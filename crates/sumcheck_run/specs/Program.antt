@@ -1,7 +1,6 @@
 -- The reply to a command line and an input.
 use Rattle.std.specs.Prelude.{◌≡◌, ℕ, List, [], ◌∷◌, map, String, string_bytes, codes, Bool, true, false, Option, Some, None, bytes_eq, if◌then◌else◌}
 use Rattle.std.specs.Option.{option_map}
-use Rattle.serde_json.specs.Data.{Data}
 use Rattle.sumcheck_jobs.specs.declared.job.Job.{Job}
 use Rattle.sumcheck_jobs.specs.declared.product.ProductJob.{ProductJob}
 use Rattle.sumcheck_replies.specs.declared.reply.Outcome.TheVariants.{Holds}
@@ -27,10 +26,6 @@ abbrev pub jobs_of : Kind → AnyJobs
 jobs_of Audit = record { Job = Job; jobs = audit_jobs }
 jobs_of Product = record { Job = ProductJob; jobs = product_jobs }
 
--- what one replies to a value
-abbrev pub kind_reply : Kind → Data → Reply
-kind_reply kind d = jobs_reply (jobs_of kind).jobs d
-
 -- ---- commands
 
 -- the command that the words are
@@ -52,7 +47,7 @@ reads_input (Some (Make recipe)) = false
 -- what a command and an input are answered
 abbrev pub reply_of : Option Command → List ℕ → Reply
 reply_of None input = usage
-reply_of (Some (Judge kind)) input = json_reply (kind_reply kind) input
+reply_of (Some (Judge kind)) input = json_reply (jobs_reply (jobs_of kind).jobs) input
 reply_of (Some (Make recipe)) input = made_reply recipe
 
 -- What a command promises of an input: what jobs of its kind do; and the reply to a job that is made says that it holds.

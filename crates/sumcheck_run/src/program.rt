@@ -2,9 +2,9 @@
 ghost use Rattle.std.specs.Prelude.{◌≡◌, ◌⊎◌, ◌≤◌, List, ℕ, Some, false};
 ghost use Rattle.std.specs.Prelude.{IfOk, IsOk, IsErrOf};
 ghost use Rattle.sc_streams.specs.Faults.{HasRisen};
-ghost use Rattle.sumcheck_run.specs.Program.{CommandPromise, command_in, kind_reply};
+ghost use Rattle.sumcheck_run.specs.Program.{CommandPromise, command_in, jobs_of};
 ghost use Rattle.sumcheck_run.specs.Program.{reads_input, reply_of};
-ghost use Rattle.sumcheck_replies.specs.Kinds.{json_reply};
+ghost use Rattle.sumcheck_replies.specs.Kinds.{json_reply, jobs_reply};
 ghost use Rattle.sumcheck_replies.specs.Reply.{Replies};
 ghost use Rattle.sumcheck_run.specs.Run.{IsAnswered, IsCutShort, IsOfReply, IsRead, IsTold};
 ghost use Rattle.sumcheck_run.specs.Run.{ReadsLittle, Responds, StopsAtFault, TellsFaults, TellsInput, TellsUsage};
@@ -43,7 +43,7 @@ fn answer(alloc: Global, command: Option<Command>, input: Vec<u8>) -> Result<Ans
 
 // What a kind of jobs replies to an input.
 fn judge(alloc: Global, kind: Kind, input: Vec<u8>) -> Result<Answer, NoMemory>
-    ensures { Replies result (json_reply (kind_reply kind) input.items) }
+    ensures { Replies result (json_reply (jobs_reply (jobs_of kind).jobs) input.items) }
 {
     match kind {
         Kind::Audit => reply_to::<AuditJobs>(alloc, input),
