@@ -34,7 +34,7 @@ use Rattle.sumcheck_jobs.specs.declared.product.ProductJob.{ProductJob}
 use Rattle.sumcheck_jobs.specs.Elements.{sizes_of}
 use Rattle.sumcheck_jobs.specs.ProductJob.{ProductJobFits}
 use Rattle.sumcheck_replies.specs.declared.reply.Outcome.TheVariants.{Holds, NoWitness as LacksWitness}
-use Rattle.sumcheck_replies.specs.Reply.{no_witness}
+use Rattle.sumcheck_replies.specs.Reply.{no_witness_at}
 use Rattle.sumcheck_replies.specs.Fields.{Fields, fields_of}
 use Rattle.sumcheck_replies.specs.Refusals.{finding_reply}
 use Rattle.sumcheck_product.specs.Products.{ProductCase, ProductFigures, image_table, case_over, product_case, product_shape, true_sum, product_start, product_built, first_refused, product_played, unless_refused, product_given, product_finding, product_figures, product_luck, product_lines, figures_reply, shown_reply, degree_refusal, given_reply, built_reply, mode_reply, shaped_reply, product_judged, product_rules, product_answer}
@@ -248,7 +248,7 @@ module _ (q : ProductCase) where
   holds-by : IsField q.ops → 1 ≤ length q.tables → length q.tables < q.ops.size → (r : Result (List Round) ℕ) →
       IsBuiltOr q.channel.rules q.channel.extension q.channel.base_size (honest_values q.ops q.tables) q.channel.bits (product_start q (true_sum q)) [] q.variables r →
       ((built_reply q r).outcome ≡ Holds) ⊎ ((0 < q.channel.bits) × ((built_reply q r).outcome ≡ LacksWitness))
-  unfolding figures_reply no_witness
+  unfolding figures_reply no_witness_at
   holds-by field some few (Ok rounds) built =
       let start = product_start q (true_sum q) in
       let f = product_figures q (true_sum q) rounds in

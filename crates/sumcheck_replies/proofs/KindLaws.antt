@@ -7,7 +7,7 @@ use Rattle.sc_verdicts.specs.declared.error.AuditError.{AuditError}
 use Rattle.sc_verdicts.specs.declared.error.AuditError.TheVariants.{JobShape, StrategyUnfit, FalseClaim, MissingSumcheckData, RoundCountMismatch, PowWitnessCountMismatch, InvalidPowWitness, NoWitness, NoMemory}
 use Rattle.sc_verdicts.specs.Findings.{Finding, holds, refuted, lucky}
 use Rattle.sumcheck_jobs.specs.Members.{Name}
-use Rattle.sumcheck_replies.specs.Reply.{Reply, no_witness, proof_refused, refused}
+use Rattle.sumcheck_replies.specs.Reply.{Reply, no_witness, no_witness_at, proof_refused, refused}
 use Rattle.sumcheck_replies.specs.Refusals.{refusal_reply, finding_reply}
 use Rattle.sumcheck_replies.specs.Kinds.{max_input, too_long, bad_json, value_reply, json_reply, Jobs, job_reply, jobs_reply, KeepsPromise, IsAnswer, AreLawful}
 
@@ -21,9 +21,12 @@ pub proof_refused-answer : (why : List ℕ) → IsAnswer (proof_refused why)
 unfolding proof_refused
 proof_refused-answer why e = cc
 
+pub no_witness_at-answer : (place : List ℕ) → IsAnswer (no_witness_at place)
+unfolding no_witness_at
+no_witness_at-answer place e = cc
+
 pub no_witness-answer : (round : ℕ) → IsAnswer (no_witness round)
-unfolding no_witness
-no_witness-answer round e = cc
+no_witness-answer round = no_witness_at-answer _
 
 pub refusal-answer : (e : AuditError) → IsAnswer (refusal_reply e)
 refusal-answer (JobShape fault) = refused-answer _

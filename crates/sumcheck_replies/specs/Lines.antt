@@ -46,6 +46,18 @@ round_lines i (values ∷ messages) witnesses [] = []
 round_lines i (values ∷ messages) [] (r ∷ challenges) = round_line i values None r ++ round_lines (suc i) messages [] challenges
 round_lines i (values ∷ messages) (w ∷ witnesses) (r ∷ challenges) = round_line i values (Some w) r ++ round_lines (suc i) messages witnesses challenges
 
+-- a round, as the place of something
+unfoldable pub round_text : ℕ → List ℕ
+round_text i = codes "round " ++ decimal i
+
+-- the beginning of a line that is of a layer
+unfoldable pub layer_name : ℕ → List ℕ
+layer_name i = codes "layer " ++ decimal i ++ codes " "
+
+-- a text that is of a layer
+abbrev pub in_layer : ℕ → List ℕ → List ℕ
+in_layer i text = layer_name i ++ text
+
 -- the sum of all values that the rounds sent
 unfoldable pub pairs_line : ℕ → List ℕ
 pairs_line sum = codes "pairs " ++ decimal sum ++ codes "\n"

@@ -1,7 +1,8 @@
 -- What a command line and an input are answered: how it ends, and the text that is written.
-use Rattle.std.specs.Prelude.{◌≡◌, ℕ, List, ◌++◌, codes, decimal, Result, IfOk}
+use Rattle.std.specs.Prelude.{◌≡◌, ℕ, List, ◌++◌, codes, Result, IfOk}
 use Rattle.sumcheck_replies.specs.declared.reply.Outcome.{Outcome}
-use Rattle.sumcheck_replies.specs.declared.reply.Outcome.TheVariants.{Holds, Refuted, Lucky, Usage, JobRefused, ProofRefused, NoWitness}
+use Rattle.sumcheck_replies.specs.declared.reply.Outcome.TheVariants.{Holds, Told, Refuted, Lucky, Usage, JobRefused, ProofRefused, NoWitness}
+use Rattle.sumcheck_replies.specs.Lines.{round_text}
 
 pub record Reply : Type 0 where
   pub outcome : Outcome
@@ -10,6 +11,7 @@ pub record Reply : Type 0 where
 -- the status that an outcome has
 abbrev pub code_of : Outcome → ℕ
 code_of Holds = 0
+code_of Told = 0
 code_of Refuted = 1
 code_of Lucky = 1
 code_of Usage = 2
@@ -25,9 +27,13 @@ refused why = record { outcome = JobRefused; text = codes "refused " ++ why ++ c
 unfoldable pub proof_refused : List ℕ → Reply
 proof_refused why = record { outcome = ProofRefused; text = codes "proof refused " ++ why ++ codes "\n" }
 
--- a build that finds no witness in this round
-unfoldable pub no_witness : ℕ → Reply
-no_witness round = record { outcome = NoWitness; text = codes "no witness round " ++ decimal round ++ codes "\n" }
+-- a build that finds no witness, in one line that says where
+unfoldable pub no_witness_at : List ℕ → Reply
+no_witness_at place = record { outcome = NoWitness; text = codes "no witness " ++ place ++ codes "\n" }
+
+-- the same in this round
+abbrev pub no_witness : ℕ → Reply
+no_witness round = no_witness_at (round_text round)
 
 -- the answer to words that are no command
 unfoldable pub usage : Reply

@@ -1,7 +1,9 @@
 //! What a command line and an input are answered.
 ghost use Rattle.std.specs.Prelude.{◌≡◌, ◌≤◌, string_bytes};
-ghost use Rattle.sumcheck_replies.specs.Reply.{Replies, Reply, code_of, no_witness, proof_refused, refused, usage};
+ghost use Rattle.sumcheck_replies.specs.Reply.{Replies, Reply, code_of, no_witness, no_witness_at};
+ghost use Rattle.sumcheck_replies.specs.Reply.{proof_refused, refused, usage};
 
+use crate::lines;
 use sc_field::NoMemory;
 use std::alloc::Global;
 use std::marker::Model;
@@ -11,6 +13,8 @@ use std::marker::Model;
 pub enum Outcome {
     /// Every statement is true of the table, and the report says so.
     Holds,
+    /// What was asked for is told, and there is no verdict.
+    Told,
     /// What the proof leaves is not the product of the two values.
     Refuted,
     /// What the proof leaves is the product of the two values although a statement is false: a
@@ -34,6 +38,7 @@ impl Outcome {
     {
         match self {
             Outcome::Holds => 0,
+            Outcome::Told => 0,
             Outcome::Refuted => 1,
             Outcome::Lucky => 1,
             Outcome::Usage => 2,
@@ -86,13 +91,21 @@ impl Answer {
         Ok(Answer::new(Outcome::ProofRefused, text))
     }
 
-    /// A build that finds no witness in this round, in one line.
-    #[tactic(auto, unfolding(crate::specs::Reply::no_witness))]
+    /// A build that finds no witness, in one line that says where.
+    #[tactic(auto, unfolding(crate::specs::Reply::no_witness_at))]
+    pub fn no_witness_at(alloc: Global, place: &str) -> Result<Self, NoMemory>
+        ensures { Replies result (no_witness_at place.now) }
+    {
+        let text = format!(in alloc; "no witness {place}\n")?;
+        Ok(Answer::new(Outcome::NoWitness, text))
+    }
+
+    /// The same in this round.
     pub fn no_witness(alloc: Global, round: usize) -> Result<Self, NoMemory>
         ensures { Replies result (no_witness round) }
     {
-        let text = format!(in alloc; "no witness round {round}\n")?;
-        Ok(Answer::new(Outcome::NoWitness, text))
+        let place = lines::round_text(alloc, round)?;
+        Answer::no_witness_at(alloc, &place)
     }
 
     /// The answer to words that are no command.

@@ -26,7 +26,7 @@ use Rattle.sumcheck_jobs.specs.declared.job.FieldName.TheVariants.{F65537, F257x
 use Rattle.sumcheck_jobs.specs.declared.job.Job.{Job}
 use Rattle.sumcheck_jobs.specs.declared.job.Mode.TheVariants.{Build}
 use Rattle.sumcheck_replies.specs.declared.reply.Outcome.TheVariants.{Holds, NoWitness}
-use Rattle.sumcheck_replies.specs.Reply.{no_witness}
+use Rattle.sumcheck_replies.specs.Reply.{no_witness_at}
 use Rattle.sumcheck_replies.specs.Witnesses.{honest_rounds}
 use Rattle.sumcheck_replies.specs.Fields.{Fields, fields_of}
 use Rattle.sumcheck_replies.specs.Refusals.{finding_reply}
@@ -69,7 +69,7 @@ module _ (q : Asked) (ring : IsRing q.ops) (offered : IsOffered q.case.problem.b
   built-outcome : (lines : Reported → List ℕ) (r : Result (List Round) ℕ) →
       IsBuiltOr q.channel.rules q.channel.extension q.channel.base_size (honest_of q.ops q.case.problem) q.channel.bits (start_of q).history [] q.case.problem.variables r →
       ((rounds_reply lines q (or_no_witness r)).outcome ≡ Holds) ⊎ ((0 < q.channel.bits) × ((rounds_reply lines q (or_no_witness r)).outcome ≡ NoWitness))
-  unfolding no_witness
+  unfolding no_witness_at
   built-outcome lines (Ok rounds) built =
       inl (ap (λ finding. (finding_reply finding (lines (report_from q rounds))).outcome) (built-finding rounds built.0 built.1))
   built-outcome lines (Err i) positive = inr (positive, refl)

@@ -8,7 +8,7 @@ use Rattle.sc_streams.specs.Faults.{HasRisen}
 use Rattle.sumcheck_run.specs.declared.command.Command.{Command}
 use Rattle.sumcheck_run.specs.declared.command.Command.TheVariants.{Judge, Make}
 use Rattle.sumcheck_replies.specs.declared.reply.Outcome.{Outcome}
-use Rattle.sumcheck_replies.specs.declared.reply.Outcome.TheVariants.{Holds, Refuted, Lucky, Usage, JobRefused, ProofRefused, NoWitness}
+use Rattle.sumcheck_replies.specs.declared.reply.Outcome.TheVariants.{Holds, Told, Refuted, Lucky, Usage, JobRefused, ProofRefused, NoWitness}
 use Rattle.sumcheck_replies.specs.Reply.{Reply, code_of}
 use Rattle.sumcheck_replies.specs.Kinds.{max_input, too_long, json_reply, jobs_reply}
 use Rattle.sumcheck_run.specs.Program.{jobs_of, reads_input, reply_of}
@@ -89,6 +89,7 @@ ran taken faults {input} is needs read reply = record {
 -- an outcome's status is at most 5
 low : (o : Outcome) → code_of o ≤ 5
 low Holds = omega arith
+low Told = omega arith
 low Refuted = omega arith
 low Lucky = omega arith
 low Usage = omega arith

@@ -24,7 +24,7 @@ use sumcheck_replies::{Answer, MAX_INPUT, reply_to};
 /// The status that the program ends with.
 #[derive(Clone, Copy, Debug, PartialEq, Eq)]
 pub struct Status {
-    /// 0 a report that holds; 1 another report; 2 usage; 3 a refused job; 4 a refused proof; 5 a build without a witness;
+    /// 0 a report that holds, or what is told without a verdict; 1 another report; 2 usage; 3 a refused job; 4 a refused proof; 5 a build without a witness;
     /// 6 a read fault; 7 a write fault; 8 want of memory.
     pub code: u8,
 }
