@@ -23,8 +23,6 @@ use Rattle.sc_transcript.specs.Data.{witness_count}
 use Rattle.sc_degree.specs.declared.error.GenericDegreeError.{GenericDegreeError}
 use Rattle.sc_degree.specs.declared.error.GenericDegreeError.TheVariants.{RoundCountMismatch, PowWitnessCountMismatch, PolyEvalCountMismatch, InvalidPowWitness}
 use Rattle.sc_verdicts.specs.Findings.{lucky, named}
-use Rattle.sumcheck_jobs.specs.declared.job.FieldName.{FieldName}
-use Rattle.sumcheck_jobs.specs.declared.job.FieldName.TheVariants.{F65537, F257x2, F16}
 use Rattle.sumcheck_jobs.specs.declared.product.ProductProof.{ProductProof}
 use Rattle.sumcheck_jobs.specs.declared.product.ProductMode.TheVariants.{Check}
 use Rattle.sumcheck_jobs.specs.declared.product.ProductJob.{ProductJob}
@@ -33,7 +31,7 @@ use Rattle.sumcheck_jobs.specs.ProductJob.{ProductModeFits, ProductJobFits}
 use Rattle.sumcheck_replies.specs.Fields.{fields_of}
 use Rattle.sumcheck_product.specs.Products.{ProductCase, ProductFigures, image_table, product_shape, true_sum, product_start, first_refused, unless_refused, product_played, product_given, product_finding, product_figures, product_luck, product_rules, case_of}
 use Rattle.sumcheck_product.specs.CertifiedProducts.{IsProductCertified, CertifiesProduct}
-use Rattle.sumcheck_product.proofs.ProductReplies.{fields_field}
+use Rattle.sumcheck_replies.proofs.FieldLaws.{fields_field, sizes-are}
 
 -- ---- rounds that none of is refused
 
@@ -143,12 +141,6 @@ module _ (q : ProductCase) (field : IsField q.ops) (some : 1 ≤ length q.tables
 
 -- ---- a job
 
--- the extension of a name has as many elements as jobs allow numbers
-sizes-same : (name : FieldName) → (sizes_of name).extension ≡ (fields_of name).ops.size
-sizes-same F65537 = refl
-sizes-same F257x2 = refl
-sizes-same F16 = refl
-
 pub job-certified : (job : ProductJob) → ProductJobFits (sizes_of job.field) job → (n : ℕ) (proof : ProductProof) (rounds : List Round) → job.mode ≡ Check proof →
     product_shape job (product_rules job).max_bits ≡ Ok n → product_given (case_of job n) proof ≡ Ok rounds →
     CertifiesProduct (case_of job n) (product_figures (case_of job n) proof.claimed rounds)
@@ -158,5 +150,5 @@ job-certified job fits n proof rounds mode shape given =
     let count : length q.tables ≡ length job.tables = length-map job.tables (image_table (fields_of job.field).embedding) in
     let enough = field.at_least in
     let fitting = subst (ProductModeFits (sizes_of job.field)) mode fits.mode in
-    let low : proof.claimed < q.ops.size = omega (arith, fitting.claimed, sizes-same job.field) in
+    let low : proof.claimed < q.ops.size = omega (arith, fitting.claimed, sizes-are job.field) in
     certified-given q field (omega (arith, count, fits.tables.some)) (omega (arith, count, fits.tables.few, enough)) proof low rounds given

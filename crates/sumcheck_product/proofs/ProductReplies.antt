@@ -22,12 +22,7 @@ use Rattle.sc_degree.specs.declared.error.GenericDegreeError.{GenericDegreeError
 use Rattle.sc_degree.specs.declared.error.GenericDegreeError.TheVariants.{InvalidDegree, RoundCountMismatch, PowWitnessCountMismatch, PolyEvalCountMismatch, InvalidPowWitness, NoWitness, NoMemory}
 use Rattle.sc_degree.specs.Proofs.{Replay, AreWide, rounds_in, start_of, IsCounted, IsReplayedTo, LeavesReplay}
 use Rattle.sc_degree.specs.Shapes.{shape_of}
-use Rattle.sc_small_fields.specs.ResiduesLaws.{residues_field}
-use Rattle.sc_small_fields.specs.F257x2Laws.{f257x2_field}
-use Rattle.sc_sixteen.specs.SixteenLaws.{tower_field}
 use Rattle.sc_verdicts.specs.declared.error.ShapeFault.{ShapeFault}
-use Rattle.sumcheck_jobs.specs.declared.job.FieldName.{FieldName}
-use Rattle.sumcheck_jobs.specs.declared.job.FieldName.TheVariants.{F65537, F257x2, F16}
 use Rattle.sumcheck_jobs.specs.declared.product.ProductProof.{ProductProof}
 use Rattle.sumcheck_jobs.specs.declared.product.ProductMode.TheVariants.{Build, Check}
 use Rattle.sumcheck_jobs.specs.declared.product.ProductJob.{ProductJob}
@@ -39,6 +34,7 @@ use Rattle.sumcheck_replies.specs.Fields.{Fields, fields_of}
 use Rattle.sumcheck_replies.specs.Refusals.{finding_reply}
 use Rattle.sumcheck_product.specs.Products.{ProductCase, ProductFigures, image_table, case_over, product_case, product_shape, true_sum, product_start, product_built, first_refused, product_played, unless_refused, product_given, product_finding, product_figures, product_luck, product_lines, figures_reply, shown_reply, degree_refusal, given_reply, built_reply, mode_reply, shaped_reply, product_judged, product_rules, product_answer}
 use Rattle.sumcheck_product.specs.ProductPlays.{AreBuilt, LeavesBuilt}
+use Rattle.sumcheck_replies.proofs.FieldLaws.{fields_field}
 use Rattle.sumcheck_replies.proofs.WitnessLaws.{IsBuiltOr, honest_rounds-built}
 use Rattle.sumcheck_product.proofs.ProductRoundLaws.{refused-none, refused-width, refused-witness}
 
@@ -287,12 +283,6 @@ shaped k job R h max_bits shape bound is = ap (shaped_reply k job R h) (is ∙ a
 pub case-same : (k : Fields) (job : ProductJob) (n m bits : ℕ) (fs : List (ℕ → ℕ)) (R : Rules) (h : List Event) → fs ≡ map (image_table k.embedding) job.tables → m ≡ n → bits ≡ job.bits →
     case_over k.ops fs m (record { rules = R; extension = k.extension; base_size = k.base_size; bits = bits }) h ≡ product_case k job n R h
 case-same k job n m bits fs R h tables arity same = rw (tables, arity, same) refl
-
--- the fields of each name are lawful
-pub fields_field : (name : FieldName) → IsField (fields_of name).ops
-fields_field F65537 = residues_field
-fields_field F257x2 = f257x2_field
-fields_field F16 = tower_field
 
 -- a build of it holds
 shaped-holds : (k : Fields) → IsField k.ops → (job : ProductJob) (R : Rules) (h : List Event) → 1 ≤ length job.tables → length job.tables ≤ 8 →

@@ -1,5 +1,6 @@
 -- Replies that are no usage, and promises that are kept.
-use Rattle.std.proofs.Common.{◌≡◌, ◌≤◌, ℕ, List, Bool, true, false, Option, Some, None, Result, Ok, Err, length, ap, ◌∙◌, rules}
+use Rattle.std.proofs.Common.{◌≡◌, ◌<◌, ◌≤◌, ℕ, List, Bool, true, false, Option, Some, None, Result, Ok, Err, length, ap, ◌∙◌, rules}
+use Rattle.std.proofs.lemmas.Bool.{cond-true, lt-ltb}
 use Rattle.std.specs.Prelude.{if◌then◌else◌, nat_lt}
 use Rattle.serde_json.specs.Data.{Data}
 use Rattle.sc_forms.specs.Values.{value_of}
@@ -46,6 +47,16 @@ finding-answer (lucky l) lines = λ e. cc
 
 -- ---- replies to an input
 
+within : (input : List ℕ) → length input ≤ max_input → nat_lt max_input (length input) ≡ false
+within input short = search rules
+
+-- an input past the limit, and one within it
+pub long-reply : (reply : Data → Reply) (input : List ℕ) → max_input < length input → json_reply reply input ≡ too_long
+long-reply reply input long = cond-true _ _ _ (lt-ltb _ _ long)
+
+pub short-reply : (reply : Data → Reply) (input : List ℕ) → length input ≤ max_input → json_reply reply input ≡ value_reply reply (value_of input)
+short-reply reply input short = ap (λ b. if b then too_long else value_reply reply (value_of input)) (within input short)
+
 module _ (reply : Data → Reply) (answers : (d : Data) → IsAnswer (reply d)) where
   value-answer : (o : Option Data) → IsAnswer (value_reply reply o)
   unfolding bad_json
@@ -59,9 +70,6 @@ module _ (reply : Data → Reply) (answers : (d : Data) → IsAnswer (reply d)) 
   json-answer : (input : List ℕ) → IsAnswer (json_reply reply input)
   unfolding too_long
   json-answer input = either (nat_lt max_input (length input)) too_long (value_reply reply (value_of input)) (refused-answer _) (value-answer (value_of input))
-
-fitting : (input : List ℕ) → length input ≤ max_input → nat_lt max_input (length input) ≡ false
-fitting input short = search rules
 
 -- ---- jobs of a kind
 
@@ -77,6 +85,4 @@ module _ {J : Type 0} (jobs : Jobs J) (lawful : AreLawful jobs) where
   -- what is promised is kept
   pub promise-kept : (input : List ℕ) → KeepsPromise jobs input
   promise-kept input d job short read is =
-      let value : json_reply (jobs_reply jobs) input ≡ value_reply (jobs_reply jobs) (value_of input) =
-      ap (λ b. if b then too_long else value_reply (jobs_reply jobs) (value_of input)) (fitting input short) in
-      (value ∙ ap (value_reply (jobs_reply jobs)) read ∙ ap (job_reply jobs) is, lawful.kept job (lawful.fit d job is))
+      (short-reply (jobs_reply jobs) input short ∙ ap (value_reply (jobs_reply jobs)) read ∙ ap (job_reply jobs) is, lawful.kept job (lawful.fit d job is))

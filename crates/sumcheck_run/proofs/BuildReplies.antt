@@ -3,7 +3,7 @@ use Rattle.std.proofs.lemmas.Bool.{eq-eqb}
 use Rattle.std.proofs.Common.{◌≡◌, ◌⊎◌, inl, inr, ℕ, ◌<◌, List, [], length, Option, None, Some, true, refl, ap, sym, ◌∙◌}
 use Rattle.std.specs.Prelude.{Result, Ok, Err}
 use Rattle.sc_definitions.specs.declared.false_claim.FalseClaim.{FalseClaim}
-use Rattle.sc_definitions.specs.Ring.{IsRing, IsField}
+use Rattle.sc_definitions.specs.Ring.{IsRing}
 use Rattle.sc_definitions.specs.Tables.{IsOffered}
 use Rattle.sc_definitions.specs.Transcript.{Round, messages_of, challenges}
 use Rattle.sc_definitions.specs.Channels.{IsBuilt}
@@ -18,11 +18,6 @@ use Rattle.sc_jobs.specs.Refusals.{or_later, strategy_refusal, shape_refusal, re
 use Rattle.sc_verdicts.specs.Findings.{holds}
 use Rattle.sc_jobs.specs.Figures.{Reported, finding_by, false_claim_of, is_matched, figures_of}
 use Rattle.sc_jobs.specs.Audits.{figures_from}
-use Rattle.sc_small_fields.specs.ResiduesLaws.{residues_field}
-use Rattle.sc_small_fields.specs.F257x2Laws.{f257x2_field}
-use Rattle.sc_sixteen.specs.SixteenLaws.{tower_field}
-use Rattle.sumcheck_jobs.specs.declared.job.FieldName.{FieldName}
-use Rattle.sumcheck_jobs.specs.declared.job.FieldName.TheVariants.{F65537, F257x2, F16}
 use Rattle.sumcheck_jobs.specs.declared.job.Job.{Job}
 use Rattle.sumcheck_jobs.specs.declared.job.Mode.TheVariants.{Build}
 use Rattle.sumcheck_replies.specs.declared.reply.Outcome.TheVariants.{Holds, NoWitness}
@@ -31,6 +26,7 @@ use Rattle.sumcheck_replies.specs.Witnesses.{honest_rounds}
 use Rattle.sumcheck_replies.specs.Fields.{Fields, fields_of}
 use Rattle.sumcheck_replies.specs.Refusals.{finding_reply}
 use Rattle.sumcheck_run.specs.Report.{judge, task_of, asked_by, report_lines, or_no_witness, rounds_of, report_from, rounds_reply, reply_by, case_reply, judged_under, judge_over}
+use Rattle.sumcheck_replies.proofs.FieldLaws.{fields_field}
 use Rattle.sumcheck_replies.proofs.WitnessLaws.{IsBuiltOr, honest_rounds-built}
 
 capped-none : (found : Option FalseClaim) → false_refusal (capped found) ≡ None → found ≡ None
@@ -91,12 +87,6 @@ pub built_holds : (k : Fields) → IsRing k.ops → (job : Job) (strategy : Stra
     ((judge_over k job).outcome ≡ Holds) ⊎ ((0 < job.bits) × ((judge_over k job).outcome ≡ NoWitness))
 unfolding judged_under
 built_holds k ring job strategy mode none = case_holds report_lines (asked_by k job) ring tt strategy (ap task_of mode) none
-
--- the fields of each name are lawful
-pub fields_field : (name : FieldName) → IsField (fields_of name).ops
-fields_field F65537 = residues_field
-fields_field F257x2 = f257x2_field
-fields_field F16 = tower_field
 
 -- so a job's build holds
 pub job_holds : (job : Job) (strategy : Strategy) → job.mode ≡ Build strategy →

@@ -18,8 +18,6 @@ use Rattle.sc_jobs.specs.Audits.{figures_from}
 use Rattle.sc_jobs.specs.Certified.{CertifiesLuck}
 use Rattle.sc_jobs.proofs.CountLaws.{count-rounds}
 use Rattle.sc_jobs.proofs.Certified.{SendsPairs, certified_pairs, certified_held}
-use Rattle.sumcheck_jobs.specs.declared.job.FieldName.{FieldName}
-use Rattle.sumcheck_jobs.specs.declared.job.FieldName.TheVariants.{F65537, F257x2, F16}
 use Rattle.sumcheck_jobs.specs.declared.job.Group.{Group}
 use Rattle.sumcheck_jobs.specs.declared.job.Group.TheVariants.{Equality, Successor, Scalars, Products}
 use Rattle.sumcheck_jobs.specs.declared.job.Job.{Job}
@@ -33,7 +31,8 @@ use Rattle.sumcheck_replies.specs.Fields.{fields_of}
 use Rattle.sumcheck_replies.proofs.WitnessLaws.{IsBuiltOr, honest_rounds-built}
 use Rattle.sumcheck_run.specs.Report.{values_of, task_of, asked_by, or_no_witness, unless_failing, rounds_of}
 use Rattle.sumcheck_run.specs.CertifiedJobs.{AreCertified, IsCertifiedJob}
-use Rattle.sumcheck_run.proofs.BuildReplies.{or_later-none, all-true, built-finding, fields_field}
+use Rattle.sumcheck_replies.proofs.FieldLaws.{fields_field, sizes-are}
+use Rattle.sumcheck_run.proofs.BuildReplies.{or_later-none, all-true, built-finding}
 
 -- ---- rounds that are played
 
@@ -117,11 +116,6 @@ mode_pairs : (mode : Mode) → SendsPairs (task_of mode)
 mode_pairs (Build strategy) = tt
 mode_pairs (Check None) = tt
 mode_pairs (Check (Some proof)) = pairs_sent proof.rounds
-
-sizes-are : (name : FieldName) → (sizes_of name).extension ≡ (fields_of name).ops.size
-sizes-are F65537 = refl
-sizes-are F257x2 = refl
-sizes-are F16 = refl
 
 pub job_certified : (job : Job) → JobFits (sizes_of job.field) job → IsCertifiedJob job
 job_certified job fits =

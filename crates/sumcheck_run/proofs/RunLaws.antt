@@ -1,6 +1,6 @@
 -- How a run ends, by what was read and what was replied to it.
 use Rattle.std.proofs.Common.{◌≡◌, ◌⊎◌, ◌<◌, ◌≤◌, ◌++◌, ℕ, List, [], Bool, true, false, leb, ltb, eqb, Option, Some, None, Result, Err, length, take, refl, sym, ap, ◌∙◌, inl, inr, arith, length-append}
-use Rattle.std.proofs.lemmas.Bool.{cases_Bool, cond-true, lt-ltb, ltb-true, ltb-false, leb-false, eqb-false, false≢true}
+use Rattle.std.proofs.lemmas.Bool.{cases_Bool, ltb-true, ltb-false, leb-false, eqb-false, false≢true}
 use Rattle.std.proofs.lemmas.List.{append-nil}
 use Rattle.std.specs.Io.KnownBytes.{Appends}
 use Rattle.serde_json.specs.Data.{Data}
@@ -10,7 +10,8 @@ use Rattle.sumcheck_run.specs.declared.command.Command.TheVariants.{Judge, Make}
 use Rattle.sumcheck_replies.specs.declared.reply.Outcome.{Outcome}
 use Rattle.sumcheck_replies.specs.declared.reply.Outcome.TheVariants.{Holds, Told, Refuted, Lucky, Usage, JobRefused, ProofRefused, NoWitness}
 use Rattle.sumcheck_replies.specs.Reply.{Reply, code_of}
-use Rattle.sumcheck_replies.specs.Kinds.{max_input, too_long, json_reply, jobs_reply}
+use Rattle.sumcheck_replies.specs.Kinds.{max_input, json_reply, jobs_reply}
+use Rattle.sumcheck_replies.proofs.KindLaws.{long-reply}
 use Rattle.sumcheck_run.specs.Program.{jobs_of, reads_input, reply_of}
 use Rattle.sumcheck_run.specs.Run.{IsRead, IsAnswered, IsCutShort, IsInput, TellsUsage, WritesReply, Responds}
 use Rattle.sumcheck_run.proofs.Outcomes.{usage-only, usage-code}
@@ -18,12 +19,9 @@ use Rattle.sumcheck_run.proofs.Outcomes.{usage-only, usage-code}
 -- ---- what is replied to what was read
 
 -- an input past the limit has one reply
-too_long-reply : (reply : Data → Reply) (xs : List ℕ) → max_input < length xs → json_reply reply xs ≡ too_long
-too_long-reply reply xs over = cond-true _ _ _ (lt-ltb _ _ over)
-
 past : (reply : Data → Reply) (xs ys input : List ℕ) → input ≡ xs ++ ys → max_input < length xs → json_reply reply xs ≡ json_reply reply input
 past reply xs ys input is over =
-    let longer : max_input < length input = rw is (omega (arith, length-append xs ys)) in too_long-reply reply xs over ∙ sym (too_long-reply reply input longer)
+    let longer : max_input < length input = rw is (omega (arith, length-append xs ys)) in long-reply reply xs over ∙ sym (long-reply reply input longer)
 
 whole : (xs ys input : List ℕ) → input ≡ xs ++ ys → ys ≡ [] → xs ≡ input
 whole xs ys input is end = rw (is, end, append-nil) refl
