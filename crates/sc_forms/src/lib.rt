@@ -8,6 +8,7 @@
 
 mod form;
 mod input;
+pub mod laws;
 mod lists;
 mod numbers;
 
