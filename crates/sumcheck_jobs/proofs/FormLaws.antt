@@ -1,15 +1,18 @@
 -- What a form reads has what the form asks of it.
 use Rattle.std.proofs.Common.{◌≡◌, ℕ, ◌<◌, ◌≤◌, List, [], ◌∷◌, length, Bool, true, false, Option, Some, None, Result, Ok, Err, refl, subst, ◌==◌, if◌then◌else◌}
-use Rattle.std.specs.Prelude.{⊤, All, nat_lt, nat_le, option_map}
+use Rattle.std.specs.Prelude.{⊤, All, codes, is_some, nat_lt, nat_le, option_map}
 use Rattle.std.specs.Option.{ok_or}
 use Rattle.std.proofs.lemmas.Bool.{ltb-true, leb-true, eqb-true}
 use Rattle.std.proofs.lemmas.List.Elements.{All-nil, All-cons}
 use Rattle.std.proofs.lemmas.Option.{same_Some, none-some, cond_some, option_and_then_some}
 use Rattle.serde_json.specs.Data.{Data}
 use Rattle.serde_json.specs.Find.{get, as_array}
-use Rattle.sc_forms.specs.Forms.{unsigned_form, below_form, at_most_form, list_of, all_of, list_form, list_of_length_form, both_of, pair_form, member_form}
+use Rattle.sc_forms.specs.Forms.{unsigned_form, below_form, at_most_form, list_of, all_of, list_form, list_of_length_form, literal_form, both_of, pair_form, member_form}
 use Rattle.sumcheck_jobs.specs.Members.{Name, needed, unless_misfit}
 use Rattle.sumcheck_jobs.specs.Elements.{with_member}
+use Rattle.sumcheck_jobs.specs.Modes.{build_or_check_form, CheckFits}
+use Rattle.sumcheck_jobs.specs.declared.mode.BuildOrCheck.{BuildOrCheck}
+use Rattle.sumcheck_jobs.specs.declared.mode.BuildOrCheck.TheVariants.{Build, Check}
 
 -- whatever is read has this
 abbrev pub Gives : {A B : Type 0} → (A → Option B) → (B → Type 0) → Type 0
@@ -85,6 +88,20 @@ module _ {B : Type 0} {P : B → Type 0} where
       unless_misfit (needed form m d) rest ≡ Ok y → ((x : B) → P x → rest x ≡ Ok y → Q) → Q
   needed-gives form m d rest y gives is next =
       needed-by (member_form form m d) m rest y is (λ x found done. next x (member-gives form gives m d x found) done)
+
+-- ---- builds and checks
+
+module _ {Q : Type 0} {P : Q → Type 0} (form : Data → Option Q) (gives : Gives form P) where
+  mode-by : (build : Bool) (proof : Option Q) (mode : BuildOrCheck Q) → ((p : Q) → proof ≡ Some p → P p) →
+      (if build then Some Build else option_map (λ p. Check p) proof) ≡ Some mode → CheckFits P mode
+  mode-by true proof mode fits is = subst (CheckFits P) (same_Some Build mode is) tt
+  mode-by false proof mode fits is =
+      option_map_some (λ p. Check p) proof mode is (λ p at same. subst (CheckFits P) same (fits p at))
+
+  pub build_or_check-gives : Gives (build_or_check_form form) (CheckFits P)
+  build_or_check-gives d mode is =
+      mode-by (is_some (literal_form (codes "build") d)) (member_form form (codes "check") d) mode
+      (member-gives form gives (codes "check") d) is
 
 -- a form of which nothing is asked
 pub any-gives : {A B : Type 0} (form : A → Option B) → Gives form (λ _. ⊤)

@@ -1,21 +1,18 @@
 -- The numbers of a job of `product` that a value describes are those of elements.
-use Rattle.std.proofs.Common.{◌≡◌, ℕ, length, Bool, true, false, Option, Some, Result, Ok, refl, sym, subst, if◌then◌else◌}
-use Rattle.std.specs.Prelude.{◌&&◌, codes, nat_le, is_some, option_map}
+use Rattle.std.proofs.Common.{◌≡◌, ℕ, length, Bool, true, false, Option, Result, Ok, refl, sym, subst}
+use Rattle.std.specs.Prelude.{◌&&◌, codes, nat_le}
 use Rattle.std.proofs.lemmas.Bool.{leb-true}
 use Rattle.std.proofs.lemmas.Option.{same_Some, cond_some, option_and_then_some}
 use Rattle.serde_json.specs.Data.{Data}
-use Rattle.sc_forms.specs.Forms.{at_most_form, is_object, list_form, literal_form, member_form}
+use Rattle.sc_forms.specs.Forms.{at_most_form, is_object, list_form}
 use Rattle.sumcheck_jobs.specs.declared.job.FieldName.{FieldName}
 use Rattle.sumcheck_jobs.specs.declared.job.Sizes.{Sizes}
-use Rattle.sumcheck_jobs.specs.declared.product.ProductProof.{ProductProof}
-use Rattle.sumcheck_jobs.specs.declared.product.ProductMode.{ProductMode}
-use Rattle.sumcheck_jobs.specs.declared.product.ProductMode.TheVariants.{Build, Check}
 use Rattle.sumcheck_jobs.specs.declared.product.ProductJob.{ProductJob}
 use Rattle.sumcheck_jobs.specs.Members.{Name, whole_job}
 use Rattle.sumcheck_jobs.specs.Elements.{element_form, field_form, sizes_of}
 use Rattle.sumcheck_jobs.specs.Job.{challenger_form}
-use Rattle.sumcheck_jobs.specs.ProductJob.{most_tables, some_tables, tables_form, product_proof_form, product_mode_form, product_members_over, product_members_of, product_job_of, ProductProofFits, ProductModeFits, TablesFit, ProductJobFits}
-use Rattle.sumcheck_jobs.proofs.FormLaws.{Gives, option_map_some, below-gives, at_most-gives, list-gives, member-gives, with_member-gives, needed-gives, any-gives, tested_ok}
+use Rattle.sumcheck_jobs.specs.ProductJob.{most_tables, some_tables, tables_form, product_proof_form, product_mode_form, product_members_over, product_members_of, product_job_of, ProductProofFits, TablesFit, ProductJobFits}
+use Rattle.sumcheck_jobs.proofs.FormLaws.{Gives, below-gives, at_most-gives, list-gives, with_member-gives, needed-gives, build_or_check-gives, any-gives, tested_ok}
 use Rattle.sumcheck_jobs.proofs.JobLaws.{challenger-gives}
 
 both_true : (a b : Bool) → a && b ≡ true → (a ≡ true) × (b ≡ true)
@@ -51,23 +48,12 @@ module _ (sizes : Sizes) where
       subst (ProductProofFits sizes) (same_Some (record { claimed = claimed; rounds = rounds; witnesses = witnesses }) p is)
       (record { claimed = low; rounds = lows; witnesses = fews }))))
 
-  mode-by : (build : Bool) (proof : Option ProductProof) (mode : ProductMode) → ((p : ProductProof) → proof ≡ Some p → ProductProofFits sizes p) →
-      (if build then Some Build else option_map (λ p. Check p) proof) ≡ Some mode → ProductModeFits sizes mode
-  mode-by true proof mode fits is = subst (ProductModeFits sizes) (same_Some Build mode is) tt
-  mode-by false proof mode fits is =
-      option_map_some (λ p. Check p) proof mode is (λ p at same. subst (ProductModeFits sizes) same (fits p at))
-
-  mode-gives : Gives (product_mode_form sizes) (ProductModeFits sizes)
-  mode-gives d mode is =
-      mode-by (is_some (literal_form (codes "build") d)) (member_form (product_proof_form sizes) (codes "check") d) mode
-      (member-gives (product_proof_form sizes) proof-gives (codes "check") d) is
-
   members-fit : (field : FieldName) (d : Data) (job : ProductJob) → product_members_over field sizes d ≡ Ok job → (job.field ≡ field) × ProductJobFits sizes job
   members-fit field d job is =
       needed-gives (challenger_form sizes) (codes "challenger") d _ job (challenger-gives sizes) is (λ challenger c is.
       needed-gives (at_most_form 65535) (codes "bits") d _ job (at_most-gives 65535) is (λ bits _ is.
       needed-gives (tables_form sizes) (codes "tables") d _ job tables-gives is (λ tables t is.
-      needed-gives (product_mode_form sizes) (codes "mode") d _ job mode-gives is (λ mode m is.
+      needed-gives (product_mode_form sizes) (codes "mode") d _ job (build_or_check-gives (product_proof_form sizes) proof-gives) is (λ mode m is.
       subst (λ j. (j.field ≡ field) × ProductJobFits sizes j) (ok-same (record { field = field; challenger = challenger; bits = bits; tables = tables; mode = mode }) job is)
       (refl, record { challenger = c; tables = t; mode = m })))))
 

@@ -4,4 +4,5 @@ pub mod Statements
 pub mod Groups
 pub mod Job
 pub mod Rest
+pub mod Modes
 pub mod ProductJob

@@ -1,15 +1,15 @@
 -- The job of `product` that a value describes, or the first member for which it describes none.
-use Rattle.std.specs.Prelude.{ℕ, ◌<◌, ◌≤◌, ◌&&◌, List, All, ⊤, length, codes, nat_le, if◌then◌else◌, Option, Some, None, is_some, option_map, option_and_then, Result, Ok, Err}
+use Rattle.std.specs.Prelude.{ℕ, ◌<◌, ◌≤◌, ◌&&◌, List, All, length, codes, nat_le, if◌then◌else◌, Option, Some, None, option_and_then, Result, Ok, Err}
 use Rattle.serde_json.specs.Data.{Data}
-use Rattle.sc_forms.specs.Forms.{at_most_form, is_object, list_form, literal_form, member_form}
+use Rattle.sc_forms.specs.Forms.{at_most_form, is_object, list_form}
 use Rattle.sumcheck_jobs.specs.Members.{Name, whole_job, needed, unless_misfit}
 use Rattle.sumcheck_jobs.specs.Elements.{with_member, element_form, field_form, sizes_of}
 use Rattle.sumcheck_jobs.specs.Job.{challenger_form, AreElements, ChallengerFits}
+use Rattle.sumcheck_jobs.specs.Modes.{build_or_check_form, CheckFits}
 use Rattle.sumcheck_jobs.specs.declared.job.FieldName.{FieldName}
 use Rattle.sumcheck_jobs.specs.declared.job.Sizes.{Sizes}
 use Rattle.sumcheck_jobs.specs.declared.product.ProductProof.{ProductProof}
-use Rattle.sumcheck_jobs.specs.declared.product.ProductMode.{ProductMode}
-use Rattle.sumcheck_jobs.specs.declared.product.ProductMode.TheVariants.{Build, Check}
+use Rattle.sumcheck_jobs.specs.declared.mode.BuildOrCheck.{BuildOrCheck}
 use Rattle.sumcheck_jobs.specs.declared.product.ProductJob.{ProductJob}
 
 -- the greatest number of tables
@@ -32,11 +32,9 @@ product_proof_form sizes d =
     with_member d (codes "witnesses") (list_form (element_form sizes.base)) (λ witnesses.
     Some (record { claimed = claimed; rounds = rounds; witnesses = witnesses }))))
 
--- a build by its name, or an object with the proof that is checked
-abbrev pub product_mode_form : Sizes → Data → Option ProductMode
-product_mode_form sizes d =
-    if is_some (literal_form (codes "build") d) then Some Build
-    else option_map (λ proof. Check proof) (member_form (product_proof_form sizes) (codes "check") d)
+-- a build, or a check of a proof
+abbrev pub product_mode_form : Sizes → Data → Option (BuildOrCheck ProductProof)
+product_mode_form sizes d = build_or_check_form (product_proof_form sizes) d
 
 -- the members behind the field, in the order in which they are tested
 abbrev pub product_members_over : FieldName → Sizes → Data → Result ProductJob Name
@@ -62,10 +60,6 @@ pub record ProductProofFits (sizes : Sizes) (p : ProductProof) : Type 0 where
   pub rounds : All (AreElements sizes.extension) p.rounds
   pub witnesses : AreElements sizes.base p.witnesses
 
-abbrev pub ProductModeFits : Sizes → ProductMode → Type 0
-ProductModeFits sizes Build = ⊤
-ProductModeFits sizes (Check proof) = ProductProofFits sizes proof
-
 -- there are from 1 to 8 tables, and each number is that of an element
 pub record TablesFit (base : ℕ) (tables : List (List ℕ)) : Type 0 where
   pub some : 1 ≤ length tables
@@ -75,4 +69,4 @@ pub record TablesFit (base : ℕ) (tables : List (List ℕ)) : Type 0 where
 pub record ProductJobFits (sizes : Sizes) (job : ProductJob) : Type 0 where
   pub challenger : ChallengerFits sizes.base job.challenger
   pub tables : TablesFit sizes.base job.tables
-  pub mode : ProductModeFits sizes job.mode
+  pub mode : CheckFits (ProductProofFits sizes) job.mode

@@ -9,6 +9,7 @@
 mod groups;
 mod job;
 mod member;
+mod mode;
 mod product;
 mod reading;
 
@@ -17,5 +18,6 @@ pub use job::{
     Script, Sizes, SuccessorClaim,
 };
 pub use member::{Member, Unread, need, take};
-pub use product::{ProductJob, ProductMode, ProductProof, read_product};
+pub use mode::{BuildOrCheck, BuildOrCheckForm};
+pub use product::{ProductJob, ProductProof, read_product};
 pub use reading::{ChallengerForm, FieldForm, MOST_BITS, OrderForm, read_job};

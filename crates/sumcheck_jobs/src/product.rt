@@ -3,13 +3,14 @@ ghost use Rattle.std.specs.Prelude.{◌≡◌, ◌≢◌, ◌≤◌, Some, None,
 ghost use Rattle.serde_json.specs.View.{view};
 ghost use Rattle.sumcheck_jobs.specs.Members.{member_name};
 ghost use Rattle.sumcheck_jobs.specs.Elements.{sizes_of};
-ghost use Rattle.sumcheck_jobs.specs.ProductJob.{ProductJobFits, ProductModeFits};
+ghost use Rattle.sumcheck_jobs.specs.ProductJob.{ProductJobFits};
 ghost use Rattle.sumcheck_jobs.specs.ProductJob.{ProductProofFits, TablesFit, product_job_of};
-ghost use Rattle.sumcheck_jobs.specs.ProductJob.{product_members_over, product_mode_form};
+ghost use Rattle.sumcheck_jobs.specs.ProductJob.{product_members_over};
 ghost use Rattle.sumcheck_jobs.specs.ProductJob.{most_tables, product_proof_form, some_tables, tables_form};
 
 use crate::job::{Challenger, FieldName, Sizes};
 use crate::member::{Member, Unread, need, take};
+use crate::mode::{BuildOrCheck, BuildOrCheckForm};
 use crate::reading::{ChallengerForm, FieldForm, MOST_BITS};
 use sc_forms::{AtMost, Below, Form, ListOf, Misread, is_object, member};
 use sc_table::Row;
@@ -30,15 +31,6 @@ pub struct ProductProof {
     pub witnesses: Row<u64>,
 }
 
-/// What is done with a job of `product`.
-#[derive(Drop)]
-pub enum ProductMode {
-    /// Its rounds are built.
-    Build,
-    /// The rounds of a proof are checked.
-    Check(ProductProof),
-}
-
 /// A job of `product`: tables whose product is summed over all rows, and a challenger. Elements
 /// stand by their numbers.
 #[derive(Drop)]
@@ -51,8 +43,8 @@ pub struct ProductJob {
     pub bits: u64,
     /// From 1 to 8 tables of elements of the base field, row 0 first, of any lengths.
     pub tables: Row<Row<u64>>,
-    /// What is done.
-    pub mode: ProductMode,
+    /// What is done with its rounds.
+    pub mode: BuildOrCheck<ProductProof>,
 }
 
 // From 1 to 8 tables.
@@ -135,31 +127,6 @@ impl Form for ProductProofForm {
     }
 }
 
-// A build by its name, or an object with a proof.
-#[derive(Clone, Copy)]
-struct ProductModeForm {
-    sizes: Sizes,
-}
-
-impl Form for ProductModeForm {
-    type Out = ProductMode;
-
-    ghost reads = { λ form. product_mode_form form.sizes };
-
-    ghost fits = { λ form mode. ProductModeFits form.sizes mode };
-
-    fn read(&self, alloc: Global, value: &Value) -> Result<ProductMode, Misread> {
-        match value.as_str() {
-            Some(name) if name == "build" => Ok(ProductMode::Build),
-            _ => {
-                let proof = ProductProofForm { sizes: self.sizes };
-                let proof = member(alloc, &proof, value, "check")?;
-                Ok(ProductMode::Check(proof))
-            }
-        }
-    }
-}
-
 /// The job of `product` that a value describes, or its first member that is missing or not of its
 /// form. The value is given up.
 pub fn read_product(alloc: Global, value: Value) -> Result<ProductJob, Unread>
@@ -193,7 +160,8 @@ fn read_product_members(
     let challenger = need(alloc, &challenger, &value, "challenger")?;
     let most = AtMost { most: MOST_BITS };
     let bits = need(alloc, &most, &value, "bits")?;
-    let mode = need(alloc, &ProductModeForm { sizes }, &value, "mode");
+    let proof = ProductProofForm { sizes };
+    let mode = need(alloc, &BuildOrCheckForm { proof }, &value, "mode");
     let tables = take(alloc, &TablesForm { sizes }, value, "tables")?;
     Ok(ProductJob {
         field,

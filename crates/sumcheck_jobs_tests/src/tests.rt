@@ -3,7 +3,7 @@ use sc_forms::read_value;
 use sc_table::Strategy;
 use std::alloc::Global;
 use std::process::Abort;
-use sumcheck_jobs::{Member, Mode, ProductJob, ProductMode, Unread, read_job, read_product};
+use sumcheck_jobs::{BuildOrCheck, Member, Mode, ProductJob, Unread, read_job, read_product};
 
 static MISFITS: [(&str, &str); 3] = [
     ("job", "`job` is missing, or not of its form"),
@@ -140,7 +140,7 @@ fn from_one_to_eight_tables(rt: HostRuntime) {
         for i in 0..lengths.len() {
             assert_eq!(rt; job.tables.as_slice()[i].len(), lengths[i], "{tables}");
         }
-        assert!(rt; matches!(job.mode, ProductMode::Build), "{tables}");
+        assert!(rt; matches!(job.mode, BuildOrCheck::Build), "{tables}");
     }
 }
 
@@ -172,7 +172,7 @@ const CHECK: &str = r#"{"build":"build","check":
 fn a_proof_of_a_product(rt: HostRuntime) {
     let job = product_of(&rt, rt.alloc(), "[[1]]", CHECK).expect(&rt, "a job");
     let ProductJob { mode, .. } = job;
-    let ProductMode::Check(proof) = mode else {
+    let BuildOrCheck::Check(proof) = mode else {
         panic!(rt; "no check");
     };
     assert_eq!(rt; proof.claimed, 7);

@@ -24,10 +24,11 @@ use Rattle.sc_degree.specs.declared.error.GenericDegreeError.{GenericDegreeError
 use Rattle.sc_degree.specs.declared.error.GenericDegreeError.TheVariants.{RoundCountMismatch, PowWitnessCountMismatch, PolyEvalCountMismatch, InvalidPowWitness}
 use Rattle.sc_verdicts.specs.Findings.{lucky, named}
 use Rattle.sumcheck_jobs.specs.declared.product.ProductProof.{ProductProof}
-use Rattle.sumcheck_jobs.specs.declared.product.ProductMode.TheVariants.{Check}
+use Rattle.sumcheck_jobs.specs.declared.mode.BuildOrCheck.TheVariants.{Check}
 use Rattle.sumcheck_jobs.specs.declared.product.ProductJob.{ProductJob}
 use Rattle.sumcheck_jobs.specs.Elements.{sizes_of}
-use Rattle.sumcheck_jobs.specs.ProductJob.{ProductModeFits, ProductJobFits}
+use Rattle.sumcheck_jobs.specs.Modes.{CheckFits}
+use Rattle.sumcheck_jobs.specs.ProductJob.{ProductProofFits, ProductJobFits}
 use Rattle.sumcheck_replies.specs.Fields.{fields_of}
 use Rattle.sumcheck_product.specs.Products.{ProductCase, ProductFigures, image_table, product_shape, true_sum, product_start, first_refused, unless_refused, product_played, product_given, product_finding, product_figures, product_luck, product_rules, case_of}
 use Rattle.sumcheck_product.specs.CertifiedProducts.{IsProductCertified, CertifiesProduct}
@@ -149,6 +150,6 @@ job-certified job fits n proof rounds mode shape given =
     let field = fields_field job.field in
     let count : length q.tables ≡ length job.tables = length-map job.tables (image_table (fields_of job.field).embedding) in
     let enough = field.at_least in
-    let fitting = subst (ProductModeFits (sizes_of job.field)) mode fits.mode in
+    let fitting = subst (CheckFits (ProductProofFits (sizes_of job.field))) mode fits.mode in
     let low : proof.claimed < q.ops.size = omega (arith, fitting.claimed, sizes-are job.field) in
     certified-given q field (omega (arith, count, fits.tables.some)) (omega (arith, count, fits.tables.few, enough)) proof low rounds given

@@ -6,8 +6,9 @@ use Rattle.sc_definitions.specs.Transcript.{Round}
 use Rattle.sc_degree.specs.declared.error.GenericDegreeError.{GenericDegreeError}
 use Rattle.sc_degree.specs.declared.error.GenericDegreeError.TheVariants as degree
 use Rattle.sc_verdicts.specs.declared.error.ShapeFault.{ShapeFault}
-use Rattle.sumcheck_jobs.specs.declared.product.ProductMode.{ProductMode}
-use Rattle.sumcheck_jobs.specs.declared.product.ProductMode.TheVariants.{Build, Check}
+use Rattle.sumcheck_jobs.specs.declared.mode.BuildOrCheck.{BuildOrCheck}
+use Rattle.sumcheck_jobs.specs.declared.mode.BuildOrCheck.TheVariants.{Build, Check}
+use Rattle.sumcheck_jobs.specs.declared.product.ProductProof.{ProductProof}
 use Rattle.sumcheck_jobs.specs.declared.product.ProductJob.{ProductJob}
 use Rattle.sumcheck_jobs.specs.Elements.{sizes_of}
 use Rattle.sumcheck_jobs.specs.ProductJob.{ProductJobFits}
@@ -44,7 +45,7 @@ given-answer : (q : ProductCase) (claimed : ℕ) (r : Result (List Round) Generi
 given-answer q claimed (Ok rounds) = figures-answer q (product_figures q claimed rounds)
 given-answer q claimed (Err e) = degree-answer q.channel.bits e
 
-mode-answer : (q : ProductCase) (mode : ProductMode) → IsAnswer (mode_reply q mode)
+mode-answer : (q : ProductCase) (mode : BuildOrCheck ProductProof) → IsAnswer (mode_reply q mode)
 mode-answer q Build = built-answer q (product_built q)
 mode-answer q (Check proof) = given-answer q proof.claimed (product_given q proof)
 
@@ -58,7 +59,7 @@ product-answer job = shaped-answer (fields_of job.field) job (product_rules job)
 
 -- ---- rounds that can be played are reported
 
-mode-reported : (q : ProductCase) (mode : ProductMode) (claimed : ℕ) (rounds : List Round) → ArePlayed q mode claimed rounds →
+mode-reported : (q : ProductCase) (mode : BuildOrCheck ProductProof) (claimed : ℕ) (rounds : List Round) → ArePlayed q mode claimed rounds →
     mode_reply q mode ≡ figures_reply q (product_figures q claimed rounds)
 mode-reported q Build claimed rounds played =
     ap (built_reply q) played.1 ∙ ap (λ c. figures_reply q (product_figures q c rounds)) (sym played.0)

@@ -24,7 +24,7 @@ use Rattle.sc_degree.specs.Proofs.{Replay, AreWide, rounds_in, start_of, IsCount
 use Rattle.sc_degree.specs.Shapes.{shape_of}
 use Rattle.sc_verdicts.specs.declared.error.ShapeFault.{ShapeFault}
 use Rattle.sumcheck_jobs.specs.declared.product.ProductProof.{ProductProof}
-use Rattle.sumcheck_jobs.specs.declared.product.ProductMode.TheVariants.{Build, Check}
+use Rattle.sumcheck_jobs.specs.declared.mode.BuildOrCheck.TheVariants.{Build, Check}
 use Rattle.sumcheck_jobs.specs.declared.product.ProductJob.{ProductJob}
 use Rattle.sumcheck_jobs.specs.Elements.{sizes_of}
 use Rattle.sumcheck_jobs.specs.ProductJob.{ProductJobFits}

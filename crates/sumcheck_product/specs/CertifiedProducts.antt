@@ -8,8 +8,8 @@ use Rattle.sc_verdicts.specs.Findings.{lucky}
 use Rattle.sumcheck_jobs.specs.Elements.{sizes_of}
 use Rattle.sumcheck_jobs.specs.ProductJob.{product_job_of, ProductJobFits}
 use Rattle.sumcheck_jobs.specs.declared.product.ProductJob.{ProductJob}
-use Rattle.sumcheck_jobs.specs.declared.product.ProductMode.{ProductMode}
-use Rattle.sumcheck_jobs.specs.declared.product.ProductMode.TheVariants.{Build, Check}
+use Rattle.sumcheck_jobs.specs.declared.mode.BuildOrCheck.{BuildOrCheck}
+use Rattle.sumcheck_jobs.specs.declared.mode.BuildOrCheck.TheVariants.{Build, Check}
 use Rattle.sumcheck_jobs.specs.declared.product.ProductProof.{ProductProof}
 use Rattle.sumcheck_replies.specs.declared.reply.Outcome.TheVariants.{Holds, NoWitness}
 use Rattle.sumcheck_replies.specs.Kinds.{Jobs}
@@ -35,7 +35,7 @@ pub record CertifiesProduct (q : ProductCase) (f : ProductFigures) : Type 0 wher
 -- ---- what is promised of a job
 
 -- These rounds are played with this claimed sum: those that are built, or those of the proof.
-abbrev pub ArePlayed : ProductCase → ProductMode → ℕ → List Round → Type 0
+abbrev pub ArePlayed : ProductCase → BuildOrCheck ProductProof → ℕ → List Round → Type 0
 ArePlayed q Build claimed rounds = (claimed ≡ true_sum q) × (product_built q ≡ Ok rounds)
 ArePlayed q (Check proof) claimed rounds = (claimed ≡ proof.claimed) × (product_given q proof ≡ Ok rounds)
 

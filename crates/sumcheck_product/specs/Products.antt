@@ -24,8 +24,8 @@ use Rattle.sc_verdicts.specs.declared.error.ShapeFault.TheVariants.{TableLength,
 use Rattle.sc_verdicts.specs.Arities.{arity_of}
 use Rattle.sc_verdicts.specs.Findings.{Finding, holds, refuted, named}
 use Rattle.sumcheck_jobs.specs.declared.product.ProductProof.{ProductProof}
-use Rattle.sumcheck_jobs.specs.declared.product.ProductMode.{ProductMode}
-use Rattle.sumcheck_jobs.specs.declared.product.ProductMode.TheVariants.{Build, Check}
+use Rattle.sumcheck_jobs.specs.declared.mode.BuildOrCheck.{BuildOrCheck}
+use Rattle.sumcheck_jobs.specs.declared.mode.BuildOrCheck.TheVariants.{Build, Check}
 use Rattle.sumcheck_jobs.specs.declared.product.ProductJob.{ProductJob}
 use Rattle.sumcheck_product.specs.declared.product.Played.{Played}
 use Rattle.sumcheck_replies.specs.Reply.{Reply, no_witness, proof_refused, refused}
@@ -195,7 +195,7 @@ built_reply q (Ok rounds) = figures_reply q (product_figures q (true_sum q) roun
 built_reply q (Err i) = no_witness i
 
 -- the reply to what is done
-abbrev pub mode_reply : ProductCase → ProductMode → Reply
+abbrev pub mode_reply : ProductCase → BuildOrCheck ProductProof → Reply
 mode_reply q Build = built_reply q (product_built q)
 mode_reply q (Check proof) = given_reply q proof.claimed (product_given q proof)
 
@@ -235,7 +235,7 @@ given_proof base number p = record {
 }
 
 -- what is done with a product
-abbrev pub task_mode : {F EF : Type 0} → (F → ℕ) → (EF → ℕ) → Option (GenericDegreeProof F EF) → ProductMode
+abbrev pub task_mode : {F EF : Type 0} → (F → ℕ) → (EF → ℕ) → Option (GenericDegreeProof F EF) → BuildOrCheck ProductProof
 task_mode base number None = Build
 task_mode base number (Some p) = Check (given_proof base number p)
 

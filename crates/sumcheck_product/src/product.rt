@@ -8,7 +8,8 @@ ghost use Rattle.sc_degree.specs.Products.{arity_of, tables_of};
 ghost use Rattle.sc_degree.specs.Turns.{turn_in};
 ghost use Rattle.sc_verdicts.specs.Findings.{named};
 ghost use Rattle.sumcheck_jobs.specs.Elements.{sizes_of};
-ghost use Rattle.sumcheck_jobs.specs.ProductJob.{ProductJobFits, ProductModeFits};
+ghost use Rattle.sumcheck_jobs.specs.Modes.{CheckFits};
+ghost use Rattle.sumcheck_jobs.specs.ProductJob.{ProductJobFits, ProductProofFits};
 ghost use Rattle.sumcheck_replies.specs.Lines.{Adds, round_line, round_lines};
 ghost use Rattle.sumcheck_replies.specs.Refusals.{finding_reply};
 ghost use Rattle.sumcheck_replies.specs.Reply.{Replies};
@@ -33,7 +34,7 @@ use sc_field::{ExtensionField, Field, NoMemory};
 use sc_table::Point;
 use sc_verdicts::AuditError;
 use std::alloc::Global;
-use sumcheck_jobs::{ProductJob, ProductMode};
+use sumcheck_jobs::{BuildOrCheck, ProductJob, ProductProof};
 use sumcheck_replies::{
     Answer, Outcome, answer_named, element_lists, elements, lines, number_at, refuse,
 };
@@ -80,14 +81,14 @@ pub(crate) fn answer_to<F: Field, EF: ExtensionField<F>, C: Challenger<F>>(
 // The proof that is checked, if one is.
 fn given<F: Field, EF: ExtensionField<F>>(
     alloc: Global,
-    mode: &ProductMode,
+    mode: &BuildOrCheck<ProductProof>,
 ) -> Result<Option<GenericDegreeProof<F, EF>>, NoMemory>
-    requires { ProductModeFits (sizes_over F.ops EF.ops) mode.now }
+    requires { CheckFits (ProductProofFits (sizes_over F.ops EF.ops)) mode.now }
     ensures { IfOk result (λ p. task_mode F.number EF.number p ≡ mode.now) }
 {
     match mode {
-        ProductMode::Build => Ok(None),
-        ProductMode::Check(proof) => Ok(Some(GenericDegreeProof {
+        BuildOrCheck::Build => Ok(None),
+        BuildOrCheck::Check(proof) => Ok(Some(GenericDegreeProof {
             claimed_sum: EF::element(proof.claimed),
             round_polys: element_lists(alloc, proof.rounds.as_slice())?,
             pow_witnesses: elements(alloc, proof.witnesses.as_slice())?,
@@ -117,7 +118,7 @@ fn build<F: Field, EF: ExtensionField<F>, C: Challenger<F>>(
     ensures { Replies result (mode_reply
         (case_over EF.ops (tables_of EF.number product) (arity_of product)
         (channel (C.rules challenger.old) EF.extension F.ops.size pow_bits)
-        (C.history challenger.old)) ProductMode.Build) }
+        (C.history challenger.old)) BuildOrCheck.Build) }
 {
     let variables = product.num_variables();
     let degree = product.degree();
@@ -189,7 +190,7 @@ fn check<F: Field, EF: ExtensionField<F>, C: Challenger<F>>(
         (case_over EF.ops (tables_of EF.number product) (arity_of product)
         (channel (C.rules challenger.old) EF.extension F.ops.size pow_bits)
         (C.history challenger.old))
-        (ProductMode.Check (given_proof F.number EF.number proof))) }
+        (BuildOrCheck.Check (given_proof F.number EF.number proof))) }
 {
     let variables = product.num_variables();
     let degree = product.degree();

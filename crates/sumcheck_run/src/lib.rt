@@ -21,8 +21,8 @@ pub use program::{Status, run};
 pub use report::{judge_job, show_report};
 pub use sc_streams::{Failed, MemSink, MemSource, PlainSource, Sink, Source, StdSink, StdSource};
 pub use sumcheck_jobs::{
-    Challenger, EqualityClaim, FieldName, Group, Job, Member, Mode, ProductClaim, ProductJob,
-    ProductMode, ProductProof, Proof, ScalarClaim, Script, Sizes, SuccessorClaim, Unread, read_job,
+    BuildOrCheck, Challenger, EqualityClaim, FieldName, Group, Job, Member, Mode, ProductClaim,
+    ProductJob, ProductProof, Proof, ScalarClaim, Script, Sizes, SuccessorClaim, Unread, read_job,
     read_product,
 };
 pub use sumcheck_product::{ProductJobs, judge_product};

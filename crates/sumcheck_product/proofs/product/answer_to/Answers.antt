@@ -3,7 +3,7 @@ use Rattle.std.specs.Prelude.{Ok, Err}
 use Rattle.std.proofs.lemmas.Result.{IfOk-weaker}
 use Rattle.sc_table.specs.Polys.{table_of}
 use Rattle.sc_degree.specs.Arities.{HaveArity}
-use Rattle.sumcheck_jobs.specs.declared.product.ProductMode.TheVariants.{Build, Check}
+use Rattle.sumcheck_jobs.specs.declared.mode.BuildOrCheck.TheVariants.{Build, Check}
 use Rattle.sumcheck_replies.specs.Fields.{Fields}
 use Rattle.sumcheck_product.specs.Products.{image_table, product_case, given_proof, task_mode, mode_reply}
 use Rattle.sumcheck_product.proofs.TableShapes.{one_arity, as_many}
