@@ -111,3 +111,12 @@ any-gives form d x is = tt
 pub tested_ok : {C : Type 0} (b : Bool) (r : Result C Name) (m : Name) (y : C) → (if b then r else Err m) ≡ Ok y → r ≡ Ok y
 tested_ok true r m y is = is
 tested_ok false r m y is = cc
+
+-- what goes on where there was no misfit
+pub unless_misfit-gives : {B C Q : Type 0} (r : Result B Name) (rest : B → Result C Name) (y : C) → unless_misfit r rest ≡ Ok y →
+    ((x : B) → r ≡ Ok x → rest x ≡ Ok y → Q) → Q
+unless_misfit-gives (Ok x) rest y is next = next x refl is
+unless_misfit-gives (Err m) rest y is next = let clash : ⊥ = cc in absurd clash
+
+pub ok-same : {C : Type 0} (x y : C) → ◌≡◌ {A = Result C Name} (Ok x) (Ok y) → x ≡ y
+ok-same x y e = cc

@@ -1,5 +1,5 @@
 -- The numbers of a job that a value describes are those of elements.
-use Rattle.std.proofs.Common.{◌≡◌, ℕ, ◌+◌, ◌<◌, length, Bool, true, false, Option, Some, None, Result, Ok, refl, sym, subst, if◌then◌else◌}
+use Rattle.std.proofs.Common.{◌≡◌, ℕ, ◌+◌, ◌<◌, length, Bool, true, false, Option, Some, None, Ok, refl, sym, subst, if◌then◌else◌}
 use Rattle.std.specs.Prelude.{All, codes, bytes_eq, nat_eq, nat_le, is_some, option_map}
 use Rattle.std.proofs.lemmas.Bool.{eqb-true}
 use Rattle.std.proofs.lemmas.Option.{same_Some, none-some, cond_some, option_and_then_some}
@@ -16,16 +16,14 @@ use Rattle.sumcheck_jobs.specs.declared.job.Group.TheVariants.{Equality, Success
 use Rattle.sumcheck_jobs.specs.declared.job.Proof.{Proof}
 use Rattle.sumcheck_jobs.specs.declared.job.Mode.{Mode}
 use Rattle.sumcheck_jobs.specs.declared.job.Mode.TheVariants.{Build, Check}
+use Rattle.sumcheck_jobs.specs.declared.job.Stated.{Stated}
 use Rattle.sumcheck_jobs.specs.declared.job.Job.{Job}
-use Rattle.sumcheck_jobs.specs.Members.{Name, whole_job}
+use Rattle.sumcheck_jobs.specs.Members.{whole_job}
 use Rattle.sumcheck_jobs.specs.Elements.{element_form, field_form, order_form, sizes_of}
 use Rattle.sumcheck_jobs.specs.Statements.{EqualityFits, SuccessorFits, ScalarFits, ProductFits, GroupFits, statement_count}
 use Rattle.sumcheck_jobs.specs.Groups.{equality_form, successor_form, scalar_form, product_form, select_by, select_form, group_named, group_form, most_statements, few_statements, groups_form}
-use Rattle.sumcheck_jobs.specs.Job.{script_form, challenger_form, proof_form, check_form, strategy_form, mode_by, mode_form, members_over, members_of, job_of, ScriptFits, ChallengerFits, ProofFits, ModeFits, JobFits}
-use Rattle.sumcheck_jobs.proofs.FormLaws.{Gives, option_map_some, below-gives, at_most-gives, list-gives, list_of_length-gives, pair-gives, member-gives, with_member-gives, needed-gives, any-gives, tested_ok}
-
-ok-same : (x y : Job) → ◌≡◌ {A = Result Job Name} (Ok x) (Ok y) → x ≡ y
-ok-same x y e = cc
+use Rattle.sumcheck_jobs.specs.Job.{script_form, challenger_form, proof_form, check_form, strategy_form, mode_by, mode_form, stated_over, members_over, members_of, job_of, ScriptFits, ChallengerFits, ProofFits, ModeFits, StatedFits, JobFits}
+use Rattle.sumcheck_jobs.proofs.FormLaws.{Gives, option_map_some, below-gives, at_most-gives, list-gives, list_of_length-gives, pair-gives, member-gives, with_member-gives, needed-gives, any-gives, tested_ok, unless_misfit-gives, ok-same}
 
 module _ (sizes : Sizes) where
   abbrev base_element : Data → Option ℕ
@@ -154,21 +152,28 @@ module _ (sizes : Sizes) where
 
   -- ---- the members
 
-  members-fit : (field : FieldName) (d : Data) (job : Job) → members_over field sizes d ≡ Ok job → (job.field ≡ field) × JobFits sizes job
+  stated-fit : (field : FieldName) (d : Data) (stated : Stated) → stated_over field sizes d ≡ Ok stated → (stated.field ≡ field) × StatedFits sizes stated
+  stated-fit field d stated is =
+      needed-gives (challenger_form sizes) (codes "challenger") d _ stated challenger-gives is (λ challenger c is.
+      needed-gives order_form (codes "order") d _ stated (any-gives order_form) is (λ order _ is.
+      needed-gives (at_most_form 65535) (codes "bits") d _ stated (at_most-gives 65535) is (λ bits _ is.
+      needed-gives (list_form base_element) (codes "table") d _ stated (list-gives base_element base-gives) is (λ table t is.
+      needed-gives (at_most_form 64) (codes "variables") d _ stated (at_most-gives 64) is (λ variables v is.
+      needed-gives (groups_form sizes variables) (codes "groups") d _ stated (groups-gives variables) is (λ groups g is.
+      needed-gives extension_element (codes "batching") d _ stated extension-gives is (λ batching b is.
+      subst (λ s. (s.field ≡ field) × StatedFits sizes s) (ok-same (record { field = field; challenger = challenger; order = order; bits = bits; table = table; variables = variables; groups = groups; batching = batching }) stated is)
+      (refl, record { challenger = c; table = t; few = v; groups = g; batching = b }))))))))
+
+  members-fit : (field : FieldName) (d : Data) (job : Job) → members_over field sizes d ≡ Ok job → (job.stated.field ≡ field) × JobFits sizes job
   members-fit field d job is =
-      needed-gives (challenger_form sizes) (codes "challenger") d _ job challenger-gives is (λ challenger c is.
-      needed-gives order_form (codes "order") d _ job (any-gives order_form) is (λ order _ is.
-      needed-gives (at_most_form 65535) (codes "bits") d _ job (at_most-gives 65535) is (λ bits _ is.
-      needed-gives (list_form base_element) (codes "table") d _ job (list-gives base_element base-gives) is (λ table t is.
-      needed-gives (at_most_form 64) (codes "variables") d _ job (at_most-gives 64) is (λ variables v is.
-      needed-gives (groups_form sizes variables) (codes "groups") d _ job (groups-gives variables) is (λ groups g is.
-      needed-gives extension_element (codes "batching") d _ job extension-gives is (λ batching b is.
+      unless_misfit-gives (stated_over field sizes d) _ job is (λ stated s is.
       needed-gives (mode_form sizes) (codes "mode") d _ job mode-gives is (λ mode m is.
-      subst (λ j. (j.field ≡ field) × JobFits sizes j) (ok-same (record { field = field; challenger = challenger; order = order; bits = bits; table = table; variables = variables; groups = groups; batching = batching; mode = mode }) job is)
-      (refl, record { challenger = c; table = t; few = v; groups = g; batching = b; mode = m })))))))))
+      let fit = stated-fit field d stated s in
+      subst (λ j. (j.stated.field ≡ field) × JobFits sizes j) (ok-same (record { stated = stated; mode = mode }) job is)
+      (fit.0, record { stated = fit.1; mode = m })))
 
 -- each number of a job that a value describes is that of an element
-pub job_of-fits : (d : Data) (job : Job) → job_of d ≡ Ok job → JobFits (sizes_of job.field) job
+pub job_of-fits : (d : Data) (job : Job) → job_of d ≡ Ok job → JobFits (sizes_of job.stated.field) job
 job_of-fits d job is =
     needed-gives field_form (codes "field") d (λ field. members_over field (sizes_of field) d) job (any-gives field_form)
     (tested_ok (is_object d) (members_of d) whole_job job is) (λ field _ is.

@@ -1,5 +1,5 @@
 -- The numbers of a job of `product` that a value describes are those of elements.
-use Rattle.std.proofs.Common.{◌≡◌, ℕ, length, Bool, true, false, Option, Result, Ok, refl, sym, subst}
+use Rattle.std.proofs.Common.{◌≡◌, ℕ, length, Bool, true, false, Option, Ok, refl, sym, subst}
 use Rattle.std.specs.Prelude.{◌&&◌, codes, nat_le}
 use Rattle.std.proofs.lemmas.Bool.{leb-true}
 use Rattle.std.proofs.lemmas.Option.{same_Some, cond_some, option_and_then_some}
@@ -8,19 +8,16 @@ use Rattle.sc_forms.specs.Forms.{at_most_form, is_object, list_form}
 use Rattle.sumcheck_jobs.specs.declared.job.FieldName.{FieldName}
 use Rattle.sumcheck_jobs.specs.declared.job.Sizes.{Sizes}
 use Rattle.sumcheck_jobs.specs.declared.product.ProductJob.{ProductJob}
-use Rattle.sumcheck_jobs.specs.Members.{Name, whole_job}
+use Rattle.sumcheck_jobs.specs.Members.{whole_job}
 use Rattle.sumcheck_jobs.specs.Elements.{element_form, field_form, sizes_of}
 use Rattle.sumcheck_jobs.specs.Job.{challenger_form}
 use Rattle.sumcheck_jobs.specs.ProductJob.{most_tables, some_tables, tables_form, product_proof_form, product_mode_form, product_members_over, product_members_of, product_job_of, ProductProofFits, TablesFit, ProductJobFits}
-use Rattle.sumcheck_jobs.proofs.FormLaws.{Gives, below-gives, at_most-gives, list-gives, with_member-gives, needed-gives, build_or_check-gives, any-gives, tested_ok}
+use Rattle.sumcheck_jobs.proofs.FormLaws.{Gives, below-gives, at_most-gives, list-gives, with_member-gives, needed-gives, build_or_check-gives, any-gives, tested_ok, ok-same}
 use Rattle.sumcheck_jobs.proofs.JobLaws.{challenger-gives}
 
 both_true : (a b : Bool) → a && b ≡ true → (a ≡ true) × (b ≡ true)
 both_true true b is = (refl, is)
 both_true false b is = cc
-
-ok-same : (x y : ProductJob) → ◌≡◌ {A = Result ProductJob Name} (Ok x) (Ok y) → x ≡ y
-ok-same x y e = cc
 
 module _ (sizes : Sizes) where
   abbrev base_element : Data → Option ℕ

@@ -17,6 +17,7 @@ use Rattle.sumcheck_jobs.specs.declared.job.Challenger.TheVariants.{Scripted, Ha
 use Rattle.sumcheck_jobs.specs.declared.job.Proof.{Proof}
 use Rattle.sumcheck_jobs.specs.declared.job.Mode.{Mode}
 use Rattle.sumcheck_jobs.specs.declared.job.Mode.TheVariants.{Build, Check}
+use Rattle.sumcheck_jobs.specs.declared.job.Stated.{Stated}
 use Rattle.sumcheck_jobs.specs.declared.job.Job.{Job}
 
 -- a scripted challenger: its draws, and for each test the witnesses that pass, in the base field
@@ -67,9 +68,9 @@ mode_by sizes (Some build) (Some check) = None
 abbrev pub mode_form : Sizes → Data → Option Mode
 mode_form sizes d = mode_by sizes (get (codes "build") d) (get (codes "check") d)
 
--- the members behind the field, in the order in which they are tested
-abbrev pub members_over : FieldName → Sizes → Data → Result Job Name
-members_over field sizes d =
+-- what a value states behind the field, member by member in the order in which they are tested
+abbrev pub stated_over : FieldName → Sizes → Data → Result Stated Name
+stated_over field sizes d =
     unless_misfit (needed (challenger_form sizes) (codes "challenger") d) (λ challenger.
     unless_misfit (needed order_form (codes "order") d) (λ order.
     unless_misfit (needed (at_most_form 65535) (codes "bits") d) (λ bits.
@@ -77,8 +78,14 @@ members_over field sizes d =
     unless_misfit (needed (at_most_form 64) (codes "variables") d) (λ variables.
     unless_misfit (needed (groups_form sizes variables) (codes "groups") d) (λ groups.
     unless_misfit (needed (element_form sizes.extension) (codes "batching") d) (λ batching.
+    Ok (record { field = field; challenger = challenger; order = order; bits = bits; table = table; variables = variables; groups = groups; batching = batching }))))))))
+
+-- the members behind the field: what is stated, and then what is done
+abbrev pub members_over : FieldName → Sizes → Data → Result Job Name
+members_over field sizes d =
+    unless_misfit (stated_over field sizes d) (λ stated.
     unless_misfit (needed (mode_form sizes) (codes "mode") d) (λ mode.
-    Ok (record { field = field; challenger = challenger; order = order; bits = bits; table = table; variables = variables; groups = groups; batching = batching; mode = mode })))))))))
+    Ok (record { stated = stated; mode = mode })))
 
 -- the members, the field first
 abbrev pub members_of : Data → Result Job Name
@@ -116,10 +123,13 @@ ModeFits sizes (Build strategy) = ⊤
 ModeFits sizes (Check None) = ⊤
 ModeFits sizes (Check (Some proof)) = ProofFits sizes proof
 
+pub record StatedFits (sizes : Sizes) (s : Stated) : Type 0 where
+  pub challenger : ChallengerFits sizes.base s.challenger
+  pub table : AreElements sizes.base s.table
+  pub few : s.variables ≤ 64
+  pub groups : All (GroupFits sizes s.variables) s.groups
+  pub batching : s.batching < sizes.extension
+
 pub record JobFits (sizes : Sizes) (job : Job) : Type 0 where
-  pub challenger : ChallengerFits sizes.base job.challenger
-  pub table : AreElements sizes.base job.table
-  pub few : job.variables ≤ 64
-  pub groups : All (GroupFits sizes job.variables) job.groups
-  pub batching : job.batching < sizes.extension
+  pub stated : StatedFits sizes job.stated
   pub mode : ModeFits sizes job.mode

@@ -1,4 +1,4 @@
--- The members of a job that stand behind its table.
+-- The members of what a job states that stand behind its table.
 use Rattle.std.specs.Prelude.{◌<◌, ◌≤◌, All, codes, Result, Ok}
 use Rattle.serde_json.specs.Data.{Data}
 use Rattle.sc_forms.specs.Forms.{at_most_form}
@@ -6,7 +6,6 @@ use Rattle.sumcheck_jobs.specs.Members.{Name, needed, unless_misfit}
 use Rattle.sumcheck_jobs.specs.Elements.{element_form}
 use Rattle.sumcheck_jobs.specs.Groups.{groups_form}
 use Rattle.sumcheck_jobs.specs.Statements.{GroupFits}
-use Rattle.sumcheck_jobs.specs.Job.{mode_form, ModeFits}
 use Rattle.sumcheck_jobs.specs.declared.job.Sizes.{Sizes}
 use Rattle.sumcheck_jobs.specs.declared.reading.Rest.{Rest}
 
@@ -16,12 +15,10 @@ rest_over sizes d =
     unless_misfit (needed (at_most_form 64) (codes "variables") d) (λ variables.
     unless_misfit (needed (groups_form sizes variables) (codes "groups") d) (λ groups.
     unless_misfit (needed (element_form sizes.extension) (codes "batching") d) (λ batching.
-    unless_misfit (needed (mode_form sizes) (codes "mode") d) (λ mode.
-    Ok (record { variables = variables; groups = groups; batching = batching; mode = mode })))))
+    Ok (record { variables = variables; groups = groups; batching = batching }))))
 
 -- what their numbers have
 pub record RestFits (sizes : Sizes) (rest : Rest) : Type 0 where
   pub few : rest.variables ≤ 64
   pub groups : All (GroupFits sizes rest.variables) rest.groups
   pub batching : rest.batching < sizes.extension
-  pub mode : ModeFits sizes rest.mode

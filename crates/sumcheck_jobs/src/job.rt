@@ -151,9 +151,9 @@ pub enum Mode {
     Check(Option<Proof>),
 }
 
-/// A job: a table with claims on it, and a challenger. Elements stand by their numbers.
+/// What a job states: a table with claims on it, and a challenger. Elements stand by their numbers.
 #[derive(Drop)]
-pub struct Job {
+pub struct Stated {
     /// Over which fields.
     pub field: FieldName,
     /// What answers draws and tests.
@@ -170,6 +170,13 @@ pub struct Job {
     pub groups: Row<Group>,
     /// The element whose powers batch the statements.
     pub batching: u64,
+}
+
+/// A job: what it states, and what is done with it.
+#[derive(Drop)]
+pub struct Job {
+    /// What it states.
+    pub stated: Stated,
     /// What is done.
     pub mode: Mode,
 }

@@ -15,9 +15,9 @@ mod reading;
 
 pub use job::{
     Challenger, EqualityClaim, FieldName, Group, Job, Mode, ProductClaim, Proof, ScalarClaim,
-    Script, Sizes, SuccessorClaim,
+    Script, Sizes, Stated, SuccessorClaim,
 };
 pub use member::{Member, Unread, need, take};
 pub use mode::{BuildOrCheck, BuildOrCheckForm};
 pub use product::{ProductJob, ProductProof, read_product};
-pub use reading::{ChallengerForm, FieldForm, MOST_BITS, OrderForm, read_job};
+pub use reading::{ChallengerForm, FieldForm, MOST_BITS, OrderForm, read_job, read_stated};

@@ -3,11 +3,11 @@ ghost use Rattle.std.specs.Prelude.{◌≡◌, ◌<◌, Option, Some, None, Ok, 
 ghost use Rattle.serde_json.specs.View.{view};
 ghost use Rattle.sumcheck_jobs.specs.Members.{member_name};
 ghost use Rattle.sumcheck_jobs.specs.Elements.{field_form, order_form, sizes_of};
-ghost use Rattle.sumcheck_jobs.specs.Job.{JobFits, ProofFits, ModeFits, ScriptFits, ChallengerFits, challenger_form, check_form, job_of, members_over, mode_form, proof_form, script_form, strategy_form};
+ghost use Rattle.sumcheck_jobs.specs.Job.{JobFits, ProofFits, ModeFits, ScriptFits, ChallengerFits, StatedFits, challenger_form, check_form, job_of, members_over, mode_form, proof_form, script_form, stated_over, strategy_form};
 ghost use Rattle.sumcheck_jobs.specs.Rest.{rest_over, RestFits};
 
 use crate::groups::GroupsForm;
-use crate::job::{Challenger, FieldName, Group, Job, Mode, Proof, Script, Sizes};
+use crate::job::{Challenger, FieldName, Group, Job, Mode, Proof, Script, Sizes, Stated};
 use crate::member::{Member, Unread, need, take};
 use sc_forms::{AtMost, Below, Form, ListOf, Misread, PairOf, is_object, member};
 use sc_table::{Row, Strategy, VariableOrder};
@@ -217,7 +217,7 @@ pub fn read_job(alloc: Global, value: Value) -> Result<Job, Unread>
     ensures job { IfOk result (λ job. job_of (view value) ≡ Ok job) }
     ensures misfit { (m : Member) → result ≡ Err (Unread.Misfit m)
         → job_of (view value) ≡ Err (member_name m) }
-    ensures fits { IfOk result (λ job. JobFits (sizes_of job.field) job) }
+    ensures fits { IfOk result (λ job. JobFits (sizes_of job.stated.field) job) }
 {
     if !is_object(&value) {
         return Err(Unread::Misfit(Member::named("job")));
@@ -226,14 +226,38 @@ pub fn read_job(alloc: Global, value: Value) -> Result<Job, Unread>
     read_members(alloc, value, field, field.sizes())
 }
 
-// The members behind the field, which has these sizes. The table is read last, since the value is
-// given up for it; where it is not of its form, it is told before those that stand behind it.
+// The members behind the field, which has these sizes. The mode is read first, since the value is
+// given up for the others; where one of these is not of its form, it is told before the mode.
 fn read_members(alloc: Global, value: Value, field: FieldName, sizes: Sizes) -> Result<Job, Unread>
     ensures job { IfOk result (λ job. members_over field sizes (view value) ≡ Ok job) }
     ensures misfit { (m : Member) → result ≡ Err (Unread.Misfit m)
         → members_over field sizes (view value) ≡ Err (member_name m) }
-    ensures field { IfOk result (λ job. job.field ≡ field) }
+    ensures field { IfOk result (λ job. job.stated.field ≡ field) }
     ensures fits { IfOk result (λ job. JobFits sizes job) }
+{
+    let mode = need(alloc, &ModeForm { sizes }, &value, "mode");
+    let stated = read_stated(alloc, value, field, sizes)?;
+    Ok(Job {
+        stated,
+        mode: mode?,
+    })
+}
+
+/// What a value states whose field this is, with these sizes; or its first member, from the
+/// challenger to the batching challenge, that is missing or not of its form. The value is given up,
+/// and its table as it is read: so the table is read last, and where it is not of its form, it is
+/// told before those that stand behind it.
+pub fn read_stated(
+    alloc: Global,
+    value: Value,
+    field: FieldName,
+    sizes: Sizes,
+) -> Result<Stated, Unread>
+    ensures stated { IfOk result (λ stated. stated_over field sizes (view value) ≡ Ok stated) }
+    ensures misfit { (m : Member) → result ≡ Err (Unread.Misfit m)
+        → stated_over field sizes (view value) ≡ Err (member_name m) }
+    ensures field { IfOk result (λ stated. stated.field ≡ field) }
+    ensures fits { IfOk result (λ stated. StatedFits sizes stated) }
 {
     let challenger = ChallengerForm { sizes };
     let challenger = need(alloc, &challenger, &value, "challenger")?;
@@ -249,9 +273,8 @@ fn read_members(alloc: Global, value: Value, field: FieldName, sizes: Sizes) -> 
         variables,
         groups,
         batching,
-        mode,
     } = rest?;
-    Ok(Job {
+    Ok(Stated {
         field,
         challenger,
         order,
@@ -260,7 +283,6 @@ fn read_members(alloc: Global, value: Value, field: FieldName, sizes: Sizes) -> 
         variables,
         groups,
         batching,
-        mode,
     })
 }
 
@@ -270,7 +292,6 @@ struct Rest {
     variables: u64,
     groups: Row<Group>,
     batching: u64,
-    mode: Mode,
 }
 
 // They are read in their order.
@@ -293,11 +314,9 @@ fn read_rest(alloc: Global, value: &Value, sizes: Sizes) -> Result<Rest, Unread>
         bound: sizes.extension,
     };
     let batching = need(alloc, &challenge, value, "batching")?;
-    let mode = need(alloc, &ModeForm { sizes }, value, "mode")?;
     Ok(Rest {
         variables,
         groups,
         batching,
-        mode,
     })
 }

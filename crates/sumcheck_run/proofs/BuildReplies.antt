@@ -84,12 +84,12 @@ case_holds lines q ring offered strategy task none =
     elim out [ inl holding ↦ inl (is ∙ holding) | inr lacking ↦ inr (lacking.0, is ∙ lacking.1) ]
 
 pub built_holds : (k : Fields) → IsRing k.ops → (job : Job) (strategy : Strategy) → job.mode ≡ Build strategy → refusal_of (asked_by k job) ≡ None →
-    ((judge_over k job).outcome ≡ Holds) ⊎ ((0 < job.bits) × ((judge_over k job).outcome ≡ NoWitness))
+    ((judge_over k job).outcome ≡ Holds) ⊎ ((0 < job.stated.bits) × ((judge_over k job).outcome ≡ NoWitness))
 unfolding judged_under
 built_holds k ring job strategy mode none = case_holds report_lines (asked_by k job) ring tt strategy (ap task_of mode) none
 
 -- so a job's build holds
 pub job_holds : (job : Job) (strategy : Strategy) → job.mode ≡ Build strategy →
-    refusal_of (asked_by (fields_of job.field) job) ≡ None →
-    ((judge job).outcome ≡ Holds) ⊎ ((0 < job.bits) × ((judge job).outcome ≡ NoWitness))
-job_holds job strategy = built_holds (fields_of job.field) (fields_field job.field).ring job strategy
+    refusal_of (asked_by (fields_of job.stated.field) job) ≡ None →
+    ((judge job).outcome ≡ Holds) ⊎ ((0 < job.stated.bits) × ((judge job).outcome ≡ NoWitness))
+job_holds job strategy = built_holds (fields_of job.stated.field) (fields_field job.stated.field).ring job strategy

@@ -117,10 +117,10 @@ mode_pairs (Build strategy) = tt
 mode_pairs (Check None) = tt
 mode_pairs (Check (Some proof)) = pairs_sent proof.rounds
 
-pub job_certified : (job : Job) → JobFits (sizes_of job.field) job → IsCertifiedJob job
+pub job_certified : (job : Job) → JobFits (sizes_of job.stated.field) job → IsCertifiedJob job
 job_certified job fits =
-    let k = fields_of job.field in
-    certified (asked_by k job) (fields_field job.field) tt
-    (subst (λ n. All (λ c. c < n) (claimed_values (all_claims k.embedding job.groups))) (sizes-are job.field)
-    (claims-low k.embedding (sizes_of job.field) job.variables job.groups fits.groups))
+    let k = fields_of job.stated.field in
+    certified (asked_by k job) (fields_field job.stated.field) tt
+    (subst (λ n. All (λ c. c < n) (claimed_values (all_claims k.embedding job.stated.groups))) (sizes-are job.stated.field)
+    (claims-low k.embedding (sizes_of job.stated.field) job.stated.variables job.stated.groups fits.stated.groups))
     (mode_pairs job.mode)

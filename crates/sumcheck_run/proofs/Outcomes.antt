@@ -55,13 +55,13 @@ case-reported lines q none rounds played =
 
 job-reported : (job : Job) → IsReported job
 unfolding judged_under
-job-reported job none rounds played = case-reported report_lines (asked_by (fields_of job.field) job) none rounds played
+job-reported job none rounds played = case-reported report_lines (asked_by (fields_of job.stated.field) job) none rounds played
 
-pub job-promised : (job : Job) → JobFits (sizes_of job.field) job → JobPromise job
+pub job-promised : (job : Job) → JobFits (sizes_of job.stated.field) job → JobPromise job
 job-promised job fits = record { reported = job-reported job; holds = job_holds job; certified = job_certified job fits }
 
 audit-lawful : AreLawful audit_jobs
-audit-lawful = record { answer = λ job. judge-answer (fields_of job.field) job; fit = job_of-fits; kept = job-promised }
+audit-lawful = record { answer = λ job. judge-answer (fields_of job.stated.field) job; fit = job_of-fits; kept = job-promised }
 
 -- ---- the kinds of jobs
 

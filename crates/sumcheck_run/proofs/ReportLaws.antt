@@ -27,11 +27,11 @@ use Rattle.sumcheck_replies.proofs.WitnessLaws.{AreLow, honest_rounds-whole, hon
 
 -- what elements ask is what their numbers do
 pub asked-same : {X : Type 0} (k : Fields) (number : X → ℕ) (xs : List X) {bits n : ℕ} {ss : List Statement} {c i : ℕ} {t : Task} (job : Job) (R : Rules) (h : List Event) →
-    map number xs ≡ job.table → bits ≡ job.bits → n ≡ job.variables → ss ≡ all_claims k.embedding job.groups → c ≡ job.batching → i ≡ 0 → t ≡ task_of job.mode →
+    map number xs ≡ job.stated.table → bits ≡ job.stated.bits → n ≡ job.stated.variables → ss ≡ all_claims k.embedding job.stated.groups → c ≡ job.stated.batching → i ≡ 0 → t ≡ task_of job.mode →
     ◌≡◌ {A = Asked} (record {
       case = record {
         rows = length xs;
-        problem = record { basis = evaluation; order = order_of job.order; variables = n; table = λ b. k.embedding (entries number xs b); statements = ss; batching = c; initial = i };
+        problem = record { basis = evaluation; order = order_of job.stated.order; variables = n; table = λ b. k.embedding (entries number xs b); statements = ss; batching = c; initial = i };
         task = t;
       };
       ops = k.ops;
@@ -39,8 +39,8 @@ pub asked-same : {X : Type 0} (k : Fields) (number : X → ℕ) (xs : List X) {b
       history = h;
     }) (asked_with k job R h)
 asked-same k number xs job R h is eb en es ec ei et =
-    let rows : length xs ≡ length job.table = sym (length-map xs number) ∙ ap length is in
-    rw (rows, eb, entries-numbers number xs job.table is, en, es, ec, ei, et) refl
+    let rows : length xs ≡ length job.stated.table = sym (length-map xs number) ∙ ap length is in
+    rw (rows, eb, entries-numbers number xs job.stated.table is, en, es, ec, ei, et) refl
 
 module _ (lines : Reported → List ℕ) (q : Asked) where
   -- a refusal before a round is the answer

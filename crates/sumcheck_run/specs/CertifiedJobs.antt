@@ -22,19 +22,19 @@ AreCertified q = refusal_of q ≡ None → (rounds : List Round) → rounds_of q
 
 -- the same of what a job asks of its own challenger
 abbrev pub IsCertifiedJob : Job → Type 0
-IsCertifiedJob job = AreCertified (asked_by (fields_of job.field) job)
+IsCertifiedJob job = AreCertified (asked_by (fields_of job.stated.field) job)
 
 -- a build that is not refused holds, unless a round at a difficulty has no witness
 abbrev pub BuildHolds : Job → Type 0
 BuildHolds job =
-    (strategy : Strategy) → job.mode ≡ Build strategy → refusal_of (asked_by (fields_of job.field) job) ≡ None
-    → ((judge job).outcome ≡ Holds) ⊎ ((0 < job.bits) × ((judge job).outcome ≡ NoWitness))
+    (strategy : Strategy) → job.mode ≡ Build strategy → refusal_of (asked_by (fields_of job.stated.field) job) ≡ None
+    → ((judge job).outcome ≡ Holds) ⊎ ((0 < job.stated.bits) × ((judge job).outcome ≡ NoWitness))
 
 -- a job that is not refused, and whose rounds can be played, is replied their report
 abbrev pub IsReported : Job → Type 0
 IsReported job =
-    refusal_of (asked_by (fields_of job.field) job) ≡ None → (rounds : List Round) → rounds_of (asked_by (fields_of job.field) job) (asked_by (fields_of job.field) job).case.task ≡ Ok rounds
-    → judge job ≡ report_reply report_lines (report_from (asked_by (fields_of job.field) job) rounds)
+    refusal_of (asked_by (fields_of job.stated.field) job) ≡ None → (rounds : List Round) → rounds_of (asked_by (fields_of job.stated.field) job) (asked_by (fields_of job.stated.field) job).case.task ≡ Ok rounds
+    → judge job ≡ report_reply report_lines (report_from (asked_by (fields_of job.stated.field) job) rounds)
 
 pub record JobPromise (job : Job) : Type 0 where
   pub reported : IsReported job
@@ -44,4 +44,4 @@ pub record JobPromise (job : Job) : Type 0 where
 
 -- the jobs of `audit`
 abbrev pub audit_jobs : Jobs Job
-audit_jobs = record { describes = job_of; fits = λ job. JobFits (sizes_of job.field) job; replies = judge; promises = JobPromise }
+audit_jobs = record { describes = job_of; fits = λ job. JobFits (sizes_of job.stated.field) job; replies = judge; promises = JobPromise }

@@ -15,6 +15,7 @@ use Rattle.sc_jobs.specs.Cases.{Case, Given, Task, build, check, Asked, start_of
 use Rattle.sc_jobs.specs.Refusals.{refusal_of}
 use Rattle.sc_jobs.specs.Figures.{Figures, Reported}
 use Rattle.sc_jobs.specs.Audits.{figures_from, grids_for}
+use Rattle.sumcheck_jobs.specs.declared.job.Stated.{Stated}
 use Rattle.sumcheck_jobs.specs.declared.job.Job.{Job}
 use Rattle.sumcheck_jobs.specs.declared.job.Proof.{Proof}
 use Rattle.sumcheck_jobs.specs.declared.job.Mode.{Mode}
@@ -31,14 +32,14 @@ use Rattle.sumcheck_replies.specs.Lines.{claim_line, round_lines, residual_line,
 -- ---- the case that a job is
 
 -- the job's problem: a table of values, with its statements batched from the power 0 on
-abbrev pub problem_of : (ℕ → ℕ) → Job → Problem
-problem_of embedding job = record {
+abbrev pub problem_of : (ℕ → ℕ) → Stated → Problem
+problem_of embedding s = record {
   basis = evaluation;
-  order = order_of job.order;
-  variables = job.variables;
-  table = λ b. embedding (rows_of job.table b);
-  statements = all_claims embedding job.groups;
-  batching = job.batching;
+  order = order_of s.order;
+  variables = s.variables;
+  table = λ b. embedding (rows_of s.table b);
+  statements = all_claims embedding s.groups;
+  batching = s.batching;
   initial = 0;
 }
 
@@ -56,21 +57,21 @@ task_of (Check proof) = check (option_map given_of proof)
 -- the job's case
 abbrev pub case_of : (ℕ → ℕ) → Job → Case
 case_of embedding job = record {
-  rows = length job.table;
-  problem = problem_of embedding job;
+  rows = length job.stated.table;
+  problem = problem_of embedding job.stated;
   task = task_of job.mode;
 }
 
 -- what the job's challenger answers
 abbrev pub rules_of : Fields → Job → Rules
-rules_of k job = rules_by k.base_size job.challenger
+rules_of k job = rules_by k.base_size job.stated.challenger
 
 -- what the job asks of a challenger that answers by these rules and has this history
 abbrev pub asked_with : Fields → Job → Rules → List Event → Asked
 asked_with k job R h = record {
   case = case_of k.embedding job;
   ops = k.ops;
-  channel = channel R k.extension k.base_size job.bits;
+  channel = channel R k.extension k.base_size job.stated.bits;
   history = h;
 }
 
@@ -142,7 +143,7 @@ judged_under k job R h = case_reply report_lines (asked_with k job R h)
 
 -- what jobs ask that name their field and their challenger
 abbrev pub job_asks : Asks Job
-job_asks = record { field = λ job. job.field; challenger = λ job. job.challenger; fits = JobFits; replies = judged_under }
+job_asks = record { field = λ job. job.stated.field; challenger = λ job. job.stated.challenger; fits = JobFits; replies = judged_under }
 
 -- the same under its own challenger
 abbrev pub judge_over : Fields → Job → Reply
@@ -150,4 +151,4 @@ judge_over k job = judged_under k job (rules_of k job) []
 
 -- what a job is answered, over the fields that it names
 abbrev pub judge : Job → Reply
-judge job = judge_over (fields_of job.field) job
+judge job = judge_over (fields_of job.stated.field) job

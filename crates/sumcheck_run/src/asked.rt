@@ -24,13 +24,13 @@ pub(crate) fn audit_job<F: Field, EF: ExtensionField<F>>(
     ensures { IfOk result (λ asked. AskSame (asked_of asked)
         (asked_with (fields_over F.ops EF.ops EF.extension EF.embedding) job.now)) }
 {
-    let variables = job.variables as usize;
-    let batching = EF::element(job.batching);
+    let variables = job.stated.variables as usize;
+    let batching = EF::element(job.stated.batching);
     Ok(AuditJob {
-        table: elements(alloc, job.table.as_slice())?,
-        constraint: constraint_of(alloc, job.groups.as_slice(), variables, batching)?,
-        order: job.order,
-        pow_bits: job.bits as usize,
+        table: elements(alloc, job.stated.table.as_slice())?,
+        constraint: constraint_of(alloc, job.stated.groups.as_slice(), variables, batching)?,
+        order: job.stated.order,
+        pow_bits: job.stated.bits as usize,
         mode: audit_mode(alloc, &job.mode)?,
     })
 }

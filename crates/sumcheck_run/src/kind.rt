@@ -33,11 +33,11 @@ impl FieldJobs for AuditJobs {
     ghost asks = { job_asks };
 
     fn field(job: &Job) -> FieldName {
-        job.field
+        job.stated.field
     }
 
     fn challenger(job: &Job) -> &sumcheck_jobs::Challenger {
-        &job.challenger
+        &job.stated.challenger
     }
 
     fn answer<F: Field, EF: ExtensionField<F>, R: IntoTranscriptField<EF>, C: Challenger<F>>(

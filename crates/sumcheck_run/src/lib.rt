@@ -22,8 +22,8 @@ pub use report::{judge_job, show_report};
 pub use sc_streams::{Failed, MemSink, MemSource, PlainSource, Sink, Source, StdSink, StdSource};
 pub use sumcheck_jobs::{
     BuildOrCheck, Challenger, EqualityClaim, FieldName, Group, Job, Member, Mode, ProductClaim,
-    ProductJob, ProductProof, Proof, ScalarClaim, Script, Sizes, SuccessorClaim, Unread, read_job,
-    read_product,
+    ProductJob, ProductProof, Proof, ScalarClaim, Script, Sizes, Stated, SuccessorClaim, Unread,
+    read_job, read_product,
 };
 pub use sumcheck_product::{ProductJobs, judge_product};
 pub use sumcheck_replies::{Answer, JobKind, Outcome, reply_to};

@@ -29,7 +29,7 @@ use sumcheck_replies::{Answer, Outcome, answer_named, lines, number_at, refuse};
 /// So a build that is not refused holds, and where a proof lets a false statement through a challenge is named lucky,
 /// and certified.
 pub fn judge_job(alloc: Global, job: Job) -> Result<Answer, NoMemory>
-    requires { JobFits (sizes_of job.field) job }
+    requires { JobFits (sizes_of job.stated.field) job }
     ensures reply { Replies result (judge job) }
     ensures promised { JobPromise job }
 {
