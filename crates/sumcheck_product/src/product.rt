@@ -42,8 +42,8 @@ use sumcheck_replies::{
 /// The answer to a job of `product`: its report, or why there is none. The numbers are given up
 /// before the rounds begin.
 ///
-/// So a build whose shape is not refused holds, and where a proof lets a false sum through a round's
-/// challenge is named lucky, and certified.
+/// So a build whose shape is not refused holds, and where a proof lets a false sum through, a
+/// round's challenge is named lucky, and certified.
 pub fn judge_product(alloc: Global, job: ProductJob) -> Result<Answer, NoMemory>
     requires { ProductJobFits (sizes_of job.field) job }
     ensures reply { Replies result (product_answer job) }
@@ -349,7 +349,9 @@ fn push_rounds<F: Field, EF: Field>(
     witnesses: &[F],
     challenges: &[EF],
 ) -> Result<(), NoMemory>
-    ensures { OnOk result (Adds text.old text.new (round_lines 0 (map (λ values. map EF.number values.items) messages.now) (map F.number witnesses.now) (map EF.number challenges.now))) }
+    ensures { OnOk result (Adds text.old text.new (round_lines 0
+        (map (λ values. map EF.number values.items) messages.now)
+        (map F.number witnesses.now) (map EF.number challenges.now))) }
 {
     for i in 0..messages.len().min(challenges.len()) {
         let witness = number_at(witnesses, i);
@@ -366,7 +368,8 @@ fn push_round<EF: Field>(
     witness: Option<u64>,
     challenge: u64,
 ) -> Result<(), NoMemory>
-    ensures { OnOk result (Adds text.old text.new (round_line i (map EF.number values.now) witness challenge)) }
+    ensures { OnOk result (Adds text.old text.new
+        (round_line i (map EF.number values.now) witness challenge)) }
 {
     lines::push_round_name(text, i)?;
     lines::push_values(text, values)?;

@@ -10,10 +10,9 @@ use Rattle.sumcheck_jobs.specs.Elements.{sizes_of}
 use Rattle.sumcheck_jobs.specs.Job.{job_of, JobFits}
 use Rattle.sumcheck_jobs.specs.declared.job.Job.{Job}
 use Rattle.sumcheck_jobs.specs.declared.job.Mode.TheVariants.{Build}
-use Rattle.sumcheck_replies.specs.Fields.{fields_of}
 use Rattle.sumcheck_replies.specs.declared.reply.Outcome.TheVariants.{Holds, NoWitness}
 use Rattle.sumcheck_replies.specs.Kinds.{Jobs}
-use Rattle.sumcheck_run.specs.Report.{asked_by, judge, report_from, report_lines, report_reply, rounds_of}
+use Rattle.sumcheck_run.specs.Report.{judge, own_asked, report_from, report_lines, report_reply, rounds_of}
 
 -- In the figures of rounds that are played a challenge that is named lucky is certified, and one is named where the residual is right although a
 -- statement is false.
@@ -22,19 +21,19 @@ AreCertified q = refusal_of q ≡ None → (rounds : List Round) → rounds_of q
 
 -- the same of what a job asks of its own challenger
 abbrev pub IsCertifiedJob : Job → Type 0
-IsCertifiedJob job = AreCertified (asked_by (fields_of job.stated.field) job)
+IsCertifiedJob job = AreCertified (own_asked job)
 
 -- a build that is not refused holds, unless a round at a difficulty has no witness
 abbrev pub BuildHolds : Job → Type 0
 BuildHolds job =
-    (strategy : Strategy) → job.mode ≡ Build strategy → refusal_of (asked_by (fields_of job.stated.field) job) ≡ None
+    (strategy : Strategy) → job.mode ≡ Build strategy → refusal_of (own_asked job) ≡ None
     → ((judge job).outcome ≡ Holds) ⊎ ((0 < job.stated.bits) × ((judge job).outcome ≡ NoWitness))
 
 -- a job that is not refused, and whose rounds can be played, is replied their report
 abbrev pub IsReported : Job → Type 0
 IsReported job =
-    refusal_of (asked_by (fields_of job.stated.field) job) ≡ None → (rounds : List Round) → rounds_of (asked_by (fields_of job.stated.field) job) (asked_by (fields_of job.stated.field) job).case.task ≡ Ok rounds
-    → judge job ≡ report_reply report_lines (report_from (asked_by (fields_of job.stated.field) job) rounds)
+    refusal_of (own_asked job) ≡ None → (rounds : List Round) → rounds_of (own_asked job) (own_asked job).case.task ≡ Ok rounds
+    → judge job ≡ report_reply report_lines (report_from (own_asked job) rounds)
 
 pub record JobPromise (job : Job) : Type 0 where
   pub reported : IsReported job

@@ -83,6 +83,10 @@ AskSame one other = (R : Rules) (h : List Event) → one R h ≡ other R h
 abbrev pub asked_by : Fields → Job → Asked
 asked_by k job = asked_with k job (rules_of k job) []
 
+-- the same over the fields that it names
+abbrev pub own_asked : Job → Asked
+own_asked job = asked_by (fields_of job.stated.field) job
+
 -- ---- the reply to it
 
 -- the lines of figures

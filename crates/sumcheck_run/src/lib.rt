@@ -1,7 +1,8 @@
 //! From bytes to bytes: the command line, the report on the job that an input describes, and `run`.
 //!
-//! The reply to a command and an input is one function of the definitions, `reply_of` in `specs/Program.antt`; `run` reads,
-//! answers and writes, and its contract speaks of that function alone.
+//! The reply to a command and an input is one function of the definitions, `reply_of` in
+//! `specs/Program.antt`; `run` reads, answers and writes, and its contract speaks of that function,
+//! and of what each command promises of its replies (`CommandPromise` there).
 #![tactic(auto)]
 
 mod asked;

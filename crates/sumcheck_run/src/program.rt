@@ -7,9 +7,9 @@ ghost use Rattle.sumcheck_run.specs.Program.{reads_input, reply_of};
 ghost use Rattle.sumcheck_replies.specs.Kinds.{json_reply, jobs_reply};
 ghost use Rattle.sumcheck_replies.specs.Reply.{Replies};
 ghost use Rattle.sumcheck_run.specs.Run.{IsAnswered, IsCutShort, IsOfReply, IsRead, IsTold};
-ghost use Rattle.sumcheck_run.specs.Run.{ReadsLittle, Responds, StopsAtFault, TellsFaults, TellsInput, TellsUsage};
-ghost use Rattle.sumcheck_run.specs.Run.{WritesReply, reading_failed, want_of_memory};
-ghost use Rattle.sumcheck_run.specs.Run.{writing_failed};
+ghost use Rattle.sumcheck_run.specs.Run.{ReadsLittle, Responds, StopsAtFault, TellsFaults};
+ghost use Rattle.sumcheck_run.specs.Run.{TellsInput, TellsUsage, WritesReply};
+ghost use Rattle.sumcheck_run.specs.Run.{reading_failed, want_of_memory, writing_failed};
 ghost use Rattle.sumcheck_run.specs.Words.{CommandFits};
 
 use crate::command::{Command, Kind, needs_input, read_command};
@@ -24,8 +24,9 @@ use sumcheck_replies::{Answer, MAX_INPUT, reply_to};
 /// The status that the program ends with.
 #[derive(Clone, Copy, Debug, PartialEq, Eq)]
 pub struct Status {
-    /// 0 a report that holds, or what is told without a verdict; 1 another report; 2 usage; 3 a refused job; 4 a refused proof; 5 a build without a witness;
-    /// 6 a read fault; 7 a write fault; 8 want of memory.
+    /// 0 a report that holds, or what is told without a verdict; 1 another report; 2 usage; 3 a
+    /// refused job; 4 a refused proof; 5 a build without a witness; 6 a read fault; 7 a write fault;
+    /// 8 want of memory.
     pub code: u8,
 }
 
@@ -123,10 +124,10 @@ pub fn run<S: Source, K: Sink>(
         → ¬ HasRisen (K.faults sink.old) (K.faults sink.new)
         → WritesReply (reply_of command input) (K.taken sink.old) (K.taken sink.new) result.code }
 
-    // Where an input is short enough and describes a job of the command's kind, the reply is that to
-    // the job, and the job has what the kind promises: a job that is not refused is reported on, a
-    // build holds, and a challenge that lets a false statement through is certified. The reply to a
-    // job that is made says that it holds.
+    // Where an input is short enough and describes a job of the command's kind, the reply is that
+    // to the job, and the job has what the kind promises: a job that is not refused is reported on,
+    // a build holds, and a challenge that lets a false statement through is certified. The reply to
+    // a job that is made says that it holds.
     ensures promised { (command : Command) (input : List ℕ)
         → command_in words.now ≡ Some command → CommandPromise command input }
 

@@ -24,10 +24,11 @@ use std::alloc::Global;
 use sumcheck_jobs::Job;
 use sumcheck_replies::{Answer, Outcome, answer_named, lines, number_at, refuse};
 
-/// The answer to a job: its report, or why there is none. The numbers are given up before the audit begins.
+/// The answer to a job: its report, or why there is none. The numbers are given up before the audit
+/// begins.
 ///
-/// So a build that is not refused holds, and where a proof lets a false statement through a challenge is named lucky,
-/// and certified.
+/// So a build that is not refused holds, and where a proof lets a false statement through, a
+/// challenge is named lucky, and certified.
 pub fn judge_job(alloc: Global, job: Job) -> Result<Answer, NoMemory>
     requires { JobFits (sizes_of job.stated.field) job }
     ensures reply { Replies result (judge job) }
@@ -84,7 +85,8 @@ pub(crate) fn say_verdict<EF: Field>(
     report: String,
     verdict: &Verdict<EF>,
 ) -> Result<Answer, NoMemory>
-    ensures { Replies result (finding_reply (finding_in EF.number verdict.now) (string_bytes report)) }
+    ensures { Replies result
+        (finding_reply (finding_in EF.number verdict.now) (string_bytes report)) }
 {
     let mut text = report;
     match verdict {
@@ -143,7 +145,9 @@ fn push_rounds<F: Field, EF: Field>(
     witnesses: &[F],
     challenges: &[EF],
 ) -> Result<(), NoMemory>
-    ensures { OnOk result (Adds text.old text.new (round_lines 0 (map (pair_of EF.number) messages.now) (map F.number witnesses.now) (map EF.number challenges.now))) }
+    ensures { OnOk result (Adds text.old text.new (round_lines 0
+        (map (pair_of EF.number) messages.now)
+        (map F.number witnesses.now) (map EF.number challenges.now))) }
 {
     for i in 0..messages.len().min(challenges.len()) {
         let message = messages[i];

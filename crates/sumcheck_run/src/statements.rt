@@ -1,9 +1,14 @@
 //! The statements that the claims of a job make.
 ghost use Rattle.std.specs.Prelude.{◌≡◌, All, IfOk, map};
 ghost use Rattle.sc_statements.specs.Constraints.{constraint_challenge, constraint_power};
-ghost use Rattle.sumcheck_jobs.specs.Statements.{EqualityFits, GroupFits, ProductFits, ScalarFits, SuccessorFits, all_claims, equality_statement, group_claims, product_statement, scalar_statement, successor_statement};
+ghost use Rattle.sumcheck_jobs.specs.Statements.{EqualityFits, GroupFits, ProductFits};
+ghost use Rattle.sumcheck_jobs.specs.Statements.{ScalarFits, SuccessorFits, all_claims};
+ghost use Rattle.sumcheck_jobs.specs.Statements.{equality_statement, group_claims};
+ghost use Rattle.sumcheck_jobs.specs.Statements.{product_statement, scalar_statement};
+ghost use Rattle.sumcheck_jobs.specs.Statements.{successor_statement};
 ghost use Rattle.sumcheck_replies.specs.Fields.{sizes_over};
-ghost use Rattle.sumcheck_run.specs.Claimed.{ConstraintStates, EqStates, GroupStates, NextStates, SelectStates};
+ghost use Rattle.sumcheck_run.specs.Claimed.{ConstraintStates, EqStates, GroupStates};
+ghost use Rattle.sumcheck_run.specs.Claimed.{NextStates, SelectStates};
 
 use sc_field::{ExtensionField, Field, NoMemory};
 use sc_statements::{Constraint, EqStatement, NextStatement, SelectStatement, Statements};
