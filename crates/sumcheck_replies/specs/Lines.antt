@@ -50,13 +50,9 @@ round_lines i (values ∷ messages) (w ∷ witnesses) (r ∷ challenges) = round
 unfoldable pub round_text : ℕ → List ℕ
 round_text i = codes "round " ++ decimal i
 
--- the beginning of a line that is of a layer
+-- the beginning of a line or of another text that is of a layer
 unfoldable pub layer_name : ℕ → List ℕ
 layer_name i = codes "layer " ++ decimal i ++ codes " "
-
--- a text that is of a layer
-abbrev pub in_layer : ℕ → List ℕ → List ℕ
-in_layer i text = layer_name i ++ text
 
 -- the sum of all values that the rounds sent
 unfoldable pub pairs_line : ℕ → List ℕ

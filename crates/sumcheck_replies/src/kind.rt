@@ -41,8 +41,8 @@ pub trait JobKind {
         ensures promised { jobs.promises job };
 }
 
-/// The answer to an input that may describe a job of a kind. The bytes, and then the value that they
-/// are, are given up before the job is judged.
+/// The answer to an input that may describe a job of a kind. The bytes, and then the value that
+/// they are, are given up before the job is judged.
 pub fn reply_to<K: JobKind>(alloc: Global, input: Vec<u8>) -> Result<Answer, NoMemory>
     ensures { Replies result (json_reply (jobs_reply K.jobs) input.items) }
 {

@@ -8,7 +8,7 @@ ghost use Rattle.sumcheck_replies.specs.Lines.{pairs_line, refuted_line, residua
 ghost use Rattle.sumcheck_replies.specs.Lines.{rounds_text, shape_fault_text, spaced};
 ghost use Rattle.sumcheck_replies.specs.Lines.{weight_line, witness_text, witnesses_text};
 ghost use Rattle.sumcheck_replies.specs.Lines.{challenge_part, product_line, round_name, width_text};
-ghost use Rattle.sumcheck_replies.specs.Lines.{in_layer, layer_name, round_text, witness_part};
+ghost use Rattle.sumcheck_replies.specs.Lines.{layer_name, round_text, witness_part};
 ghost use Rattle.sumcheck_jobs.specs.Members.{member_name, misfit_text};
 
 use sc_field::{Field, NoMemory};
@@ -89,20 +89,12 @@ pub fn round_text(alloc: Global, i: usize) -> Result<String, AllocError>
     format!(in alloc; "round {i}")
 }
 
-/// The beginning of a line that is of a layer.
+/// The beginning of a line or of another text that is of a layer.
 #[tactic(auto, unfolding(crate::specs::Lines::layer_name))]
 pub fn push_layer(text: &mut String, i: usize) -> Result<(), AllocError>
     ensures { OnOk result (Adds text.old text.new (layer_name i)) }
 {
     write!(text, "layer {i} ")
-}
-
-/// A text that is of a layer: a place, or why a proof is refused.
-#[tactic(auto, unfolding(crate::specs::Lines::layer_name))]
-pub fn in_layer(alloc: Global, i: usize, text: &str) -> Result<String, AllocError>
-    ensures { IfOk result (λ s. string_bytes s ≡ in_layer i text.now) }
-{
-    format!(in alloc; "layer {i} {text}")
 }
 
 /// The line of the sum over all values that rounds sent.

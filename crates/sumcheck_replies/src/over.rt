@@ -46,7 +46,8 @@ pub trait FieldJobs {
 /// The answer to a job over the fields and under the challenger that it names.
 pub fn answer_named<J: FieldJobs>(alloc: Global, job: J::Job) -> Result<Answer, NoMemory>
     requires numbers { J.asks.fits (sizes_of (J.asks.field job)) job }
-    requires challenger { ChallengerFits (sizes_of (J.asks.field job)).base (J.asks.challenger job) }
+    requires challenger { ChallengerFits (sizes_of (J.asks.field job)).base
+        (J.asks.challenger job) }
     ensures { Replies result (own_reply J.asks job) }
 {
     match J::field(&job) {
