@@ -17,7 +17,8 @@ use Rattle.sc_table.specs.declared.strategy.Strategy.{Strategy}
 use Rattle.sc_table.specs.declared.strategy.Strategy.TheVariants.{Plain, Represented, SmallValue}
 use Rattle.sc_statements.specs.Constraints.{constraint_arity}
 use Rattle.sc_transcript.specs.declared.error.SumcheckError.{SumcheckError}
-use Rattle.sc_transcript.specs.declared.transcript.ProverTranscript.{ProverTranscript}
+use Rattle.sc_transcript.specs.declared.driver.RoundShape.{Ghosts as RoundShapeOf}
+use Rattle.sc_transcript.specs.declared.driver.Transcript.{Transcript}
 use Rattle.sc_transcript.specs.declared.data.SumcheckData.{SumcheckData}
 use Rattle.sc_transcript.specs.Shapes.{shape_of}
 use Rattle.sc_transcript.specs.Drivers.{Driver}
@@ -58,17 +59,17 @@ pub record Begun : Type 0 where
   pub setting : Setting
   pub start : Standing
 
-module _ {C F EG : Type 0} {c : ChallengerOf C F} {f : FieldOf F} {q : PartialEqOf F} where
+module _ {C F EG S P : Type 0} {c : ChallengerOf C F} {f : FieldOf F} {q : PartialEqOf F} {r : RoundShapeOf S} where
   -- what stays while a problem's rounds are played in a transcript
-  abbrev pub setting_for : Extension → Ops → Problem → ProverTranscript C F EG c f q → Setting
+  abbrev pub setting_for : Extension → Ops → Problem → Transcript C F EG S P c f q r → Setting
   setting_for E o p t = setting_over E o (prover_for o p) t
 
   -- where they begin there, with data
-  abbrev pub begun_for : (EG → ℕ) → Ops → Problem → ProverTranscript C F EG c f q → SumcheckData F EG → Standing
+  abbrev pub begun_for : (EG → ℕ) → Ops → Problem → Transcript C F EG S P c f q r → SumcheckData F EG → Standing
   begun_for number o p t d = standing_over number (prover_for o p) t d
 
   -- both
-  abbrev pub play_for : Extension → (EG → ℕ) → Ops → Problem → ProverTranscript C F EG c f q → SumcheckData F EG → Begun
+  abbrev pub play_for : Extension → (EG → ℕ) → Ops → Problem → Transcript C F EG S P c f q r → SumcheckData F EG → Begun
   play_for E number o p t d = record { setting = setting_for E o p t; start = begun_for number o p t d }
 
 -- where rounds stand that have drawn rs, at a footing and with so much on the wire: the tables have rs bound

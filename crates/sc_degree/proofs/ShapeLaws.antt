@@ -4,10 +4,10 @@ use Rattle.sc_definitions.specs.Tables.{Basis}
 use Rattle.sc_definitions.specs.Seeds.{label_text, protocol_name, eight_bytes, length_prefixed, length_bytes, step_bytes, separator_bytes, nibbles, seed_words, rounds_steps, degree_separator, degree_seed, quadratic_seed}
 use Rattle.sc_table.specs.Strategy.{basis_of}
 use Rattle.sc_transcript.specs.declared.transcript.SumcheckShape.{SumcheckShape}
-use Rattle.sc_transcript.specs.Shapes.{seed_of as quadratic_seed_of}
+use Rattle.sc_transcript.specs.Shapes.{seed_of}
 use Rattle.sc_transcript.proofs.SeedLaws.{nibbles-same, eight-same, bits-same, count-same}
 use Rattle.sc_degree.specs.declared.transcript.GenericDegreeShape.{GenericDegreeShape}
-use Rattle.sc_degree.specs.Shapes.{seed_of}
+use Rattle.sc_degree.specs.Shapes.{generic_seed}
 
 -- the bytes of rounds, and of the empty label behind them
 abbrev rounds_bytes : ℕ → ℕ → ℕ → ℕ → List ℕ
@@ -46,7 +46,7 @@ shapes-same parts degree degree' bits bits' (suc n) (suc n') b b' d d' e =
 
 -- a seed tells the shape
 pub shape-same : (parts : ℕ) (s s' : GenericDegreeShape) → s.pow_bits < 2 ^ 64 → s'.pow_bits < 2 ^ 64 → s.degree < 2 ^ 64 → s'.degree < 2 ^ 64 →
-    seed_of parts s ≡ seed_of parts s' → (s.num_rounds ≡ s'.num_rounds) × (1 ≤ s.num_rounds → (s.pow_bits ≡ s'.pow_bits) × (s.degree ≡ s'.degree))
+    generic_seed parts s ≡ generic_seed parts s' → (s.num_rounds ≡ s'.num_rounds) × (1 ≤ s.num_rounds → (s.pow_bits ≡ s'.pow_bits) × (s.degree ≡ s'.degree))
 shape-same parts s s' b b' d d' e =
     shapes-same parts s.degree s'.degree s.pow_bits s'.pow_bits s.num_rounds s'.num_rounds b b' d d'
     (rounds-same parts s.degree s'.degree s.pow_bits s'.pow_bits s.num_rounds s'.num_rounds e)
@@ -57,5 +57,5 @@ unfolding degree_seed quadratic_seed seed_words nibbles separator_bytes length_p
 names-differ parts degree bits n basis bits' zero e = let wrong : 10 ≡ 0 = ap (λ l. get_or l 17 0) e in absurd (omega (arith, wrong))
 names-differ parts degree bits n basis bits' (suc n') e = let wrong : 10 ≡ 5 = ap (λ l. get_or l 17 0) e in absurd (omega (arith, wrong))
 
-pub protocols-differ : (parts : ℕ) (s : GenericDegreeShape) (q : SumcheckShape) → seed_of parts s ≢ quadratic_seed_of parts q
+pub protocols-differ : (parts : ℕ) (s : GenericDegreeShape) (q : SumcheckShape) → generic_seed parts s ≢ seed_of parts q
 protocols-differ parts s q = λ e. names-differ parts s.degree s.pow_bits s.num_rounds (basis_of q.basis) q.pow_bits q.num_rounds e

@@ -1,6 +1,5 @@
 pub mod Shapes
 pub mod Causes
-pub mod Transcripts
 pub mod Nodes
 pub mod Coefficients
 pub mod Interpolators

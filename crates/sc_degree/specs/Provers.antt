@@ -10,7 +10,7 @@ use Rattle.sc_degree.specs.declared.error.GenericDegreeError.TheVariants.{NoWitn
 use Rattle.sc_degree.specs.declared.proof.GenericDegreeProof.{GenericDegreeProof}
 use Rattle.sc_degree.specs.declared.transcript.GenericDegreeShape.{GenericDegreeShape}
 use Rattle.sc_degree.specs.Shapes.{prelude_of}
-use Rattle.sc_degree.specs.Proofs.{wire_in}
+use Rattle.sc_degree.specs.Proofs.{proof_wire}
 
 -- A prover: the degree of its rounds, how many variables are left, the round polynomial, by its coefficients, after each list of fewer challenges, and
 -- the true claim after each list of at most as many; the polynomial and the claim after none are the current ones.
@@ -86,7 +86,7 @@ pub record StopsAt (q : Play) (before after : Prover) (i : ℕ) (h' : List Event
 -- What a play leaves of the prover and of the history, by its result: the proof, of the claimed sum, and the challenges; or why there is none.
 abbrev pub LeavesPlay : {F EF : Type 0} → (F → ℕ) → (EF → ℕ) → Play → Prover → Prover → Result (GenericDegreeProof F EF × List EF) GenericDegreeError → List Event → Type 0
 LeavesPlay base number q before after (Ok x) h' =
-    (number x.0.claimed_sum ≡ q.claimed) × IsPlayed q before after (wire_in base number x.0) (map number x.1) h'
+    (number x.0.claimed_sum ≡ q.claimed) × IsPlayed q before after (proof_wire base number x.0) (map number x.1) h'
 LeavesPlay base number q before after (Err (NoWitness i)) h' = StopsAt q before after i h'
 LeavesPlay base number q before after (Err NoMemory) h' = ((after ≡ before) × (h' ≡ q.history)) ⊎ IsPlayedInPart q before after h'
 LeavesPlay base number q before after (Err e) h' = ⊥

@@ -1,6 +1,6 @@
 //! What rounds of any degree refuse.
 use sc_field::NoMemory;
-use sc_transcript::driver::RoundError;
+use sc_transcript::RoundError;
 use thiserror::Error;
 
 /// Why a proof or a round was refused. Rounds are counted from 0.
@@ -64,12 +64,20 @@ impl From<NoMemory> for GenericDegreeError {
 
 impl From<RoundError> for GenericDegreeError {
     ghost use Rattle.std.specs.Prelude.{◌≡◌};
-    ghost use Rattle.sc_degree.specs.Causes.{told_as};
+    ghost use Rattle.sc_degree.specs.Causes.{generic_told};
 
-    ghost from_gives = { λ of e. e ≡ told_as of };
+    ghost from_gives = { λ of e. e ≡ generic_told of };
 
     fn from(error: RoundError) -> GenericDegreeError {
         match error {
+            RoundError::NoMemory => GenericDegreeError::NoMemory,
+            RoundError::NoWitness { round } => GenericDegreeError::NoWitness { round },
+            RoundError::MissingWitness { round, .. } => {
+                GenericDegreeError::MissingPowWitness { round }
+            }
+            RoundError::InvalidWitness { round, .. } => {
+                GenericDegreeError::InvalidPowWitness { round }
+            }
             RoundError::WrongWidth {
                 round,
                 expected,
@@ -79,16 +87,12 @@ impl From<RoundError> for GenericDegreeError {
                 expected,
                 actual,
             },
-            RoundError::NoWitness { round } => GenericDegreeError::NoWitness { round },
-            RoundError::MissingWitness {
-                round,
-                difficulty: _,
-            } => GenericDegreeError::MissingPowWitness { round },
-            RoundError::InvalidWitness {
-                round,
-                difficulty: _,
-            } => GenericDegreeError::InvalidPowWitness { round },
-            RoundError::NoMemory => GenericDegreeError::NoMemory,
+            RoundError::RoundCount { expected, actual } => {
+                GenericDegreeError::RoundCountMismatch { expected, actual }
+            }
+            RoundError::WitnessCount { expected, actual } => {
+                GenericDegreeError::PowWitnessCountMismatch { expected, actual }
+            }
         }
     }
 }

@@ -18,7 +18,7 @@ pub(crate) struct Played<F, EF> {
 }
 
 impl<F: Field, EF: ExtensionField<F>> Played<F, EF> {
-    ghost use Rattle.sc_degree.specs.Proofs.{wire_in};
+    ghost use Rattle.sc_degree.specs.Proofs.{proof_wire};
     ghost use Rattle.sc_degree.specs.Plays.{IsFilled};
 
     // No round of a batch, with room for all.
@@ -28,7 +28,7 @@ impl<F: Field, EF: ExtensionField<F>> Played<F, EF> {
         claimed_sum: EF,
     ) -> Result<Self, NoMemory>
         ensures filled { IfOk result (IsFilled shape 0) }
-        ensures wire { IfOk result (λ p. wire_in F.number EF.number p.proof ≡ empty_wire) }
+        ensures wire { IfOk result (λ p. proof_wire F.number EF.number p.proof ≡ empty_wire) }
         ensures drawn { IfOk result (λ p. p.challenges.items ≡ []) }
         ensures claimed { IfOk result (λ p. EF.number p.proof.claimed_sum ≡ EF.number claimed_sum) }
     {
@@ -58,8 +58,8 @@ impl<F: Field, EF: ExtensionField<F>> Played<F, EF> {
         requires left { vec_len self.old.challenges < shape.num_rounds }
         requires due { IsDue shape.pow_bits witness }
         ensures filled { IsFilled shape (vec_len self.old.challenges + 1) self.new }
-        ensures wire { wire_in F.number EF.number self.new.proof
-            ≡ with_rounds shape.pow_bits (wire_in F.number EF.number self.old.proof)
+        ensures wire { proof_wire F.number EF.number self.new.proof
+            ≡ with_rounds shape.pow_bits (proof_wire F.number EF.number self.old.proof)
             (round_of (map EF.number values.items) (option_map_or F.number witness 0) ∷ []) }
         ensures drawn { self.new.challenges.items ≡ self.old.challenges.items ++ challenge ∷ [] }
         ensures claimed { EF.number self.new.proof.claimed_sum

@@ -1,7 +1,5 @@
 //! A proof of rounds of any degree, and the verifier's replay of it.
-ghost use Rattle.std.specs.Prelude.{◌≡◌, ◌<◌, ◌≤◌, List, [], ◌++◌, IfOk, IfErr, OnOk, vec_len};
-ghost use Rattle.std.specs.Prelude.{vec_capacity};
-ghost use Rattle.sc_definitions.specs.declared.events.Event.{Event};
+ghost use Rattle.std.specs.Prelude.{◌≡◌, ◌<◌, ◌≤◌, vec_len};
 ghost use Rattle.sc_definitions.specs.Channels.{channel};
 
 use crate::error::GenericDegreeError;
@@ -10,8 +8,9 @@ use crate::util::RoundPolyInterpolator;
 use sc_challenger::Challenger;
 use sc_field::{ExtensionField, Field, with_room};
 use sc_table::Point;
-use sc_transcript::driver::witness_at;
-use sc_transcript::replay::{CameRounds, replay};
+use sc_transcript::driver::{ClaimedShape, RoundShape};
+use sc_transcript::replay::{CameRounds, check_counts, replay};
+use sc_transcript::rounds::witness_at;
 use std::alloc::Global;
 
 /// What a prover sends: the claim, and what its rounds send.
@@ -27,10 +26,8 @@ pub struct GenericDegreeProof<F, EF> {
 }
 
 impl<F: Field, EF: ExtensionField<F>> GenericDegreeProof<F, EF> {
-    ghost use Rattle.sc_transcript.specs.Data.{witness_count};
-    ghost use Rattle.sc_degree.specs.Shapes.{shape_of, prelude_of};
-    ghost use Rattle.sc_degree.specs.Interpolators.{degree_of};
-    ghost use Rattle.sc_degree.specs.Proofs.{replay_of, LeavesReplay, AreCounted, AreMiscounted};
+    ghost use Rattle.sc_degree.specs.Shapes.{generic_shape};
+    ghost use Rattle.sc_degree.specs.Proofs.{proof_wire, generic_replay, LeavesVerify};
 
     /// How many rounds there are.
     pub fn num_rounds(&self) -> usize
@@ -66,86 +63,29 @@ impl<F: Field, EF: ExtensionField<F>> GenericDegreeProof<F, EF> {
         requires nodes { degree < EF.ops.size }
         requires difficulty { pow_bits ≤ (C.rules challenger.old).max_bits }
         ensures rules { C.rules challenger.new ≡ C.rules challenger.old }
-        ensures left { LeavesReplay EF.number (replay_of F.number EF.number EF.ops
-            (channel (C.rules challenger.old) EF.extension F.ops.size pow_bits)
-            (shape_of num_rounds degree pow_bits) self.now (C.history challenger.old))
-            result (C.history challenger.new) }
+        ensures left { LeavesVerify EF.number
+            (generic_replay EF.ops (channel (C.rules challenger.old) EF.extension F.ops.size pow_bits)
+            (generic_shape num_rounds degree pow_bits) (EF.number self.now.claimed_sum)
+            (proof_wire F.number EF.number self.now) (C.history challenger.old))
+            (C.history challenger.old) result (C.history challenger.new) }
     {
+        if degree == 0 {
+            return Err(GenericDegreeError::InvalidDegree { degree });
+        }
         let shape = GenericDegreeShape::new(num_rounds, degree, pow_bits);
-        self.check_counts(shape)?;
+        let batch = shape.batch();
+        check_counts(batch, self.round_polys.len(), self.pow_witnesses.len())?;
         // What takes memory of its own comes first, so that its refusal leaves all as it was.
         let challenges = with_room(alloc, num_rounds)?;
         let interpolator = RoundPolyInterpolator::new(alloc, degree)?;
         shape.begin::<F, EF, C>(alloc, challenger, self.claimed_sum)?;
-        self.replay(challenger, shape, &interpolator, challenges)
-    }
-
-    // Replays the rounds behind the seed and the claimed sum. There is room for the challenges.
-    fn replay<C: Challenger<F>>(
-        &self,
-        challenger: &mut C,
-        shape: GenericDegreeShape,
-        interpolator: &RoundPolyInterpolator<EF>,
-        challenges: Vec<EF>,
-    ) -> Result<(Point<EF>, EF), GenericDegreeError>
-        requires tested { shape.pow_bits ≤ (C.rules challenger.old).max_bits }
-        requires counted { AreCounted shape
-            (vec_len self.now.round_polys) (vec_len self.now.pow_witnesses) }
-        requires nodes { shape.degree < EF.ops.size }
-        requires interpolates { degree_of interpolator.now ≡ shape.degree }
-        requires empty { challenges.items ≡ [] }
-        requires room { shape.num_rounds ≤ vec_capacity challenges }
-        ensures rules { C.rules challenger.new ≡ C.rules challenger.old }
-        ensures left { (h : List Event)
-            → C.history challenger.old
-            ≡ h ++ prelude_of EF.extension shape (EF.number self.now.claimed_sum)
-            → LeavesReplay EF.number (replay_of F.number EF.number EF.ops
-            (channel (C.rules challenger.old) EF.extension F.ops.size shape.pow_bits)
-            shape self.now h) result (C.history challenger.new) }
-    {
         let came = CameOver {
             proof: self,
-            interpolator,
+            interpolator: &interpolator,
         };
         let mut claim = self.claimed_sum;
-        let drawn = replay::<F, EF, C, _>(
-            &came,
-            challenger,
-            &mut claim,
-            shape.batch(),
-            challenges,
-        )?;
+        let drawn = replay::<F, EF, C, _>(&came, challenger, &mut claim, batch, challenges)?;
         Ok((Point::new(drawn), claim))
-    }
-
-    // Whether the degree is positive, and there are as many rounds and witnesses as the shape asks
-    // for.
-    fn check_counts(&self, shape: GenericDegreeShape) -> Result<(), GenericDegreeError>
-        ensures ok { OnOk result (AreCounted shape
-            (vec_len self.now.round_polys) (vec_len self.now.pow_witnesses)) }
-        ensures err { IfErr result (AreMiscounted shape
-            (vec_len self.now.round_polys) (vec_len self.now.pow_witnesses)) }
-    {
-        if shape.degree == 0 {
-            return Err(GenericDegreeError::InvalidDegree { degree: 0 });
-        }
-        let rounds = self.round_polys.len();
-        if rounds != shape.num_rounds {
-            return Err(GenericDegreeError::RoundCountMismatch {
-                expected: shape.num_rounds,
-                actual: rounds,
-            });
-        }
-        let expected = if shape.pow_bits == 0 {
-            0
-        } else {
-            shape.num_rounds
-        };
-        let actual = self.pow_witnesses.len();
-        if actual != expected {
-            return Err(GenericDegreeError::PowWitnessCountMismatch { expected, actual });
-        }
-        Ok(())
     }
 }
 
@@ -160,10 +100,11 @@ impl<'a, F: Field, EF: ExtensionField<F>> CameRounds<F, EF> for CameOver<'a, F, 
     type Values = &'a [EF];
 
     ghost use Rattle.sc_definitions.specs.Interpolation.{next_through};
+    ghost use Rattle.sc_transcript.specs.Steps.{rounds_on};
     ghost use Rattle.sc_degree.specs.Interpolators.{degree_of};
-    ghost use Rattle.sc_degree.specs.Proofs.{rounds_of};
+    ghost use Rattle.sc_degree.specs.Proofs.{proof_wire};
 
-    ghost rounds = { λ s. rounds_of F.number EF.number s.proof.now };
+    ghost rounds = { λ s. rounds_on (proof_wire F.number EF.number s.proof.now) };
 
     ghost witnesses = { λ s. vec_len s.proof.now.pow_witnesses };
 

@@ -2,12 +2,11 @@
 ghost use Rattle.std.specs.Prelude.{◌≡◌, ◌+◌, ◌<◌, ◌≤◌, [], ◌∷◌, map, vec_len, IfOk, OnOk};
 ghost use Rattle.sc_definitions.specs.Interpolation.{node_values};
 ghost use Rattle.sc_definitions.specs.Channels.{channel};
-ghost use Rattle.sc_transcript.specs.Drivers.{channel_of, Continues, HasRoundLeft};
-ghost use Rattle.sc_degree.specs.Shapes.{shape_of};
-ghost use Rattle.sc_degree.specs.Transcripts.{driver_in, shape_in};
+ghost use Rattle.sc_transcript.specs.Drivers.{channel_of, Continues, HasRoundLeft, IsDone};
+ghost use Rattle.sc_transcript.specs.Transcripts.{driver_in};
+ghost use Rattle.sc_degree.specs.Shapes.{generic_shape};
 ghost use Rattle.sc_degree.specs.Provers.{Prover, IsFolded, play_of, LeavesPlay};
-ghost use Rattle.sc_degree.specs.Plays.{IsFilled, standing_in, fresh_standing, LeavesRound};
-ghost use Rattle.sc_degree.specs.Plays.{LeavesRounds};
+ghost use Rattle.sc_degree.specs.Plays.{IsReady, IsFreshStanding, playing, LeavesRound, LeavesRounds};
 
 use crate::error::GenericDegreeError;
 use crate::played::Played;
@@ -16,6 +15,7 @@ use crate::transcript::{GenericDegreeShape, ProverTranscript};
 use sc_challenger::Challenger;
 use sc_field::{ExtensionField, Field, NoMemory};
 use sc_table::Point;
+use sc_transcript::driver::ClaimedShape;
 use std::alloc::Global;
 
 /// What plays rounds of any degree: a polynomial of several variables, each of at most that degree,
@@ -76,7 +76,7 @@ pub trait RoundProver<EF: Field> {
         ensures rules { C.rules challenger.new ≡ C.rules challenger.old }
         ensures left { LeavesPlay F.number EF.number (play_of EF.ops
             (channel (C.rules challenger.old) EF.extension F.ops.size pow_bits)
-            (shape_of num_rounds degree pow_bits) (EF.number claimed_sum)
+            (generic_shape num_rounds degree pow_bits) (EF.number claimed_sum)
             (C.history challenger.old)) (meaning self.old) (meaning self.new) result
             (C.history challenger.new) }
     {
@@ -125,24 +125,15 @@ fn play<F: Field, EF: ExtensionField<F>, C: Challenger<F>, P: RoundProver<EF>>(
     transcript: &mut ProverTranscript<'_, C, F, EF>,
     played: &mut Played<F, EF>,
 ) -> Result<(), GenericDegreeError>
-    requires degree { (driver_in transcript.old).shape.width ≡ (P.meaning prover.old).degree }
-    requires nodes { (P.meaning prover.old).degree < EF.ops.size }
-    requires variables { (driver_in transcript.old).shape.num_rounds
-        ≤ (P.meaning prover.old).variables }
-    requires none { (driver_in transcript.old).played ≡ 0 }
-    requires filled { IsFilled (shape_in (driver_in transcript.old)) 0 played.old }
-    requires empty { standing_in F.number EF.number
-        (P.meaning prover.old) (driver_in transcript.old).history played.old
-        ≡ fresh_standing (P.meaning prover.old) (driver_in transcript.old).history }
+    requires ready { IsReady EF.ops.size (driver_in transcript.old) (P.meaning prover.old) played.old }
+    requires fresh { IsFreshStanding (playing F.number EF.number (driver_in transcript.old) (P.meaning prover.old) played.old) }
     ensures continues { Continues (driver_in transcript.old) (driver_in transcript.new) }
-    ensures claimed { EF.number played.new.proof.claimed_sum
-        ≡ EF.number played.old.proof.claimed_sum }
-    ensures all { OnOk result ((driver_in transcript.new).played
-        ≡ (driver_in transcript.old).shape.num_rounds) }
+    ensures all { OnOk result (IsDone (driver_in transcript.new)) }
     ensures rounds { LeavesRounds EF.ops (channel_of EF.extension (driver_in transcript.old))
-        (driver_in transcript.old).shape.num_rounds (driver_in transcript.old).history
-        (P.meaning prover.old) (standing_in F.number EF.number
-        (P.meaning prover.new) (driver_in transcript.new).history played.new) result }
+        (driver_in transcript.old).shape.num_rounds
+        (playing F.number EF.number (driver_in transcript.old) (P.meaning prover.old) played.old)
+        (playing F.number EF.number (driver_in transcript.new) (P.meaning prover.new) played.new)
+        result }
 {
     let shape = transcript.shape();
     for _round in 0..shape.num_rounds {
@@ -162,24 +153,13 @@ fn play_round<F: Field, EF: ExtensionField<F>, C: Challenger<F>, P: RoundProver<
     played: &mut Played<F, EF>,
 ) -> Result<(), GenericDegreeError>
     requires left { HasRoundLeft (driver_in transcript.old) }
-    requires degree { (driver_in transcript.old).shape.width ≡ (P.meaning prover.old).degree }
-    requires nodes { (P.meaning prover.old).degree < EF.ops.size }
-    requires variables { 0 < (P.meaning prover.old).variables }
-    requires filled { IsFilled (shape_in (driver_in transcript.old))
-        (driver_in transcript.old).played played.old }
+    requires ready { IsReady EF.ops.size (driver_in transcript.old) (P.meaning prover.old) played.old }
     ensures continues { Continues (driver_in transcript.old) (driver_in transcript.new) }
-    ensures claimed { EF.number played.new.proof.claimed_sum
-        ≡ EF.number played.old.proof.claimed_sum }
-    ensures count { OnOk result ((driver_in transcript.new).played
-        ≡ (driver_in transcript.old).played + 1) }
-    ensures filled { OnOk result (IsFilled (shape_in (driver_in transcript.old))
-        ((driver_in transcript.old).played + 1) played.new) }
     ensures round { LeavesRound EF.ops (channel_of EF.extension (driver_in transcript.old))
-        (driver_in transcript.old).played
-        (standing_in F.number EF.number
-        (P.meaning prover.old) (driver_in transcript.old).history played.old)
-        (standing_in F.number EF.number
-        (P.meaning prover.new) (driver_in transcript.new).history played.new) result }
+        (playing F.number EF.number (driver_in transcript.old) (P.meaning prover.old) played.old)
+        (playing F.number EF.number (driver_in transcript.new) (P.meaning prover.new) played.new)
+        result }
+    ensures ready { OnOk result (IsReady EF.ops.size (driver_in transcript.new) (P.meaning prover.new) played.new) }
 {
     let values = prover.round_poly(alloc)?;
     let (challenge, witness) = transcript.round(&values)?;

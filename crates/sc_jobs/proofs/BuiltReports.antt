@@ -21,7 +21,9 @@ use Rattle.std.proofs.lemmas.Nat.{pow_pos}
 use Rattle.sc_transcript.specs.declared.error.SumcheckError.{SumcheckError}
 use Rattle.sc_transcript.specs.declared.error.SumcheckError.TheVariants.{RoundCountMismatch, InvalidPowWitness, PowWitnessCountMismatch, NoWitness, NoMemory}
 use Rattle.sc_transcript.specs.Data.{witness_count}
-use Rattle.sc_transcript.specs.Replayed.{LeavesReplay}
+use Rattle.sc_transcript.specs.declared.rounds.BatchShape.{BatchShape}
+use Rattle.sc_transcript.specs.Causes.{cause_of}
+use Rattle.sc_transcript.specs.Replayed.{replay_of, LeavesReplay}
 use Rattle.sc_definitions.specs.Events.{Rules, words}
 use Rattle.sc_definitions.specs.Seeds.{quadratic_seed}
 use Rattle.sc_table.specs.declared.strategy.Basis.TheVariants.{Evaluation}
@@ -256,33 +258,28 @@ module _ (q : Asked) (ring : IsRing q.ops) (even : q.case.problem.basis ≡ eval
         }
 
     -- a replay of it is broken off for want of memory alone
-    pub replay_broken : {X : Type 0} (strategy : Strategy) (number : X → ℕ) (history claim : Type 0) (start end : Footing) (expected : ℕ) (e : SumcheckError) →
-        expected ≡ q.case.problem.variables → start ≡ start_of q → (history → end.history ≡ q.history) →
-        LeavesReplay number (history × claim)
-        (record {
-          next = next_claim q.case.problem.basis q.ops;
-          channel = q.channel;
-          start = start;
-          rounds = given_rounds k.wire.messages k.wire.witnesses;
-          expected = expected;
-          came = length k.wire.messages;
-          witnesses = length k.wire.witnesses;
-        }) (Err e) end →
+    pub replay_broken : (strategy : Strategy) (history claim : Type 0) (start end : Footing) (batch : BatchShape) (e : SumcheckError) →
+        batch.num_rounds ≡ q.case.problem.variables → batch.pow_bits ≡ q.channel.bits → start ≡ start_of q → (history → end.history ≡ q.history) →
+        LeavesReplay (history × claim) (replay_of (next_claim q.case.problem.basis q.ops) q.channel batch start k.wire) (Err (cause_of e)) end →
         IsCaused None (with_task q (build strategy)) end.history (refusal_by e)
-    replay_broken strategy number history claim start end expected NoMemory size begun kept left = elim left.1 [
+    replay_broken strategy history claim start end batch NoMemory size same begun kept left = elim left.1 [
       | inl none ↦ inl (kept none.0)
       | inr part ↦
           let next = next_claim q.case.problem.basis q.ops in
           let some : IsReplayedInPart next q.channel (start_of q) end b.rounds =
           subst (λ rounds. IsReplayedInPart next q.channel (start_of q) end rounds) rounds_given
-          (subst (λ f. IsReplayedInPart next q.channel f end (given_rounds k.wire.messages k.wire.witnesses)) begun part) in
+          (subst (λ f. IsReplayedInPart next q.channel f end (given_rounds k.wire.messages k.wire.witnesses)) begun
+          (record { count = part.count; rs = part.rs; replays = part.walked.replays })) in
           inr (record { rounds = b.rounds; are = b.built; count = b.count; played = some.count; passes = some.replays.passes; history = some.replays.history })
     ]
-    replay_broken strategy number history claim start end expected (InvalidPowWitness i bits) size begun kept left =
+    replay_broken strategy history claim start end batch (InvalidPowWitness i bits) size same begun kept left =
         let next = next_claim q.case.problem.basis q.ops in
         absurd (none_failing next (honest_of q.ops q.case.problem) q.channel (start_of q) end q.case.problem.variables b.rounds i b.built
         (subst (λ rounds. FailsAt next q.channel (start_of q) end rounds i) rounds_given
-        (subst (λ f. FailsAt next q.channel f end (given_rounds k.wire.messages k.wire.witnesses) i) begun left.2)))
-    replay_broken strategy number history claim start end expected (RoundCountMismatch n m) size begun kept left = absurd (left.2 (rounds_built ∙ sym size))
-    replay_broken strategy number history claim start end expected (PowWitnessCountMismatch n m) size begun kept left = absurd (left.3 (witnesses_built ∙ ap (witness_count q.channel.bits) (sym size)))
-    replay_broken strategy number history claim start end expected e size begun kept left = absurd left
+        (subst (λ f. FailsAt next q.channel f end (given_rounds k.wire.messages k.wire.witnesses) i) begun left.1.1.at)))
+    replay_broken strategy history claim start end batch (RoundCountMismatch n m) size same begun kept left =
+        absurd (left.0.2 (left.0.1 ∙ rounds_built ∙ sym size ∙ sym left.0.0))
+    replay_broken strategy history claim start end batch (PowWitnessCountMismatch n m) size same begun kept left =
+        let counts : witness_count batch.pow_bits batch.num_rounds ≡ witness_count q.channel.bits q.case.problem.variables = rw (same, size) refl in
+        absurd (left.0.2 (left.0.1 ∙ witnesses_built ∙ sym counts ∙ sym left.0.0))
+    replay_broken strategy history claim start end batch e size same begun kept left = absurd left.1

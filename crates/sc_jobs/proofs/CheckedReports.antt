@@ -10,7 +10,8 @@ use Rattle.sc_definitions.specs.Problem.{residual_of}
 use Rattle.sc_definitions.proofs.BuiltLaws.{length-challenges}
 use Rattle.sc_definitions.proofs.ReplayLaws.{length-given_rounds, messages-given_rounds}
 use Rattle.sc_transcript.specs.Data.{witness_count}
-use Rattle.sc_transcript.specs.Replayed.{Replay, IsCounted, LeavesReplay}
+use Rattle.sc_transcript.specs.Causes.{cause_of}
+use Rattle.sc_transcript.specs.Replayed.{Replay, replay_of, LeavesReplay}
 use Rattle.sc_transcript.specs.declared.error.SumcheckError.{SumcheckError}
 use Rattle.sc_transcript.specs.declared.error.SumcheckError.TheVariants as replay
 use Rattle.sc_jobs.specs.declared.report.Report.{Report}
@@ -61,25 +62,18 @@ module _ (q : Asked) (given : Given) where
 
   -- a replay of it from a footing on, where so many rounds are expected
   abbrev replay_from : Footing → ℕ → Replay
-  replay_from start expected = record {
-    next = next;
-    channel = q.channel;
-    start = start;
-    rounds = rounds_of;
-    expected = expected;
-    came = length given.messages;
-    witnesses = length given.witnesses;
-  }
+  replay_from start expected = replay_of next q.channel (record { num_rounds = expected; width = 2; pow_bits = q.channel.bits }) start
+      (record { messages = given.messages; witnesses = given.witnesses })
 
   -- ---- a proof that was replayed whole
 
   -- by what its replay leaves, from a footing on, where so many rounds are expected
   pub checked_whole : (end : Footing) (out : List ℕ) (start : Footing) (expected : ℕ) → expected ≡ q.case.problem.variables → start ≡ start_of q →
-      IsCounted (replay_from start expected) × IsReplayed next q.channel start end rounds_of out → IsChecked q given end out
+      LeavesReplay ⊥ (replay_from start expected) (Ok out) end → IsChecked q given end out
   checked_whole end out start expected size begun left = record {
-    replays = subst (λ f. IsReplayed next q.channel f end rounds_of out) begun left.1;
-    count = left.0.rounds ∙ size;
-    found = left.0.witnesses ∙ ap (witness_count q.channel.bits) size;
+    replays = subst (λ f. IsReplayed next q.channel f end rounds_of out) begun left.1.replays;
+    count = left.0.as_rounds ∙ size;
+    found = left.0.as_witnesses ∙ ap (witness_count q.channel.bits) size;
   }
 
   module _ (end : Footing) (out : List ℕ) (is : IsChecked q given end out) where
@@ -128,48 +122,50 @@ module _ (q : Asked) (given : Given) where
 
   -- ---- a proof that was refused
 
-  pub proof_refused : {X : Type 0} (number : X → ℕ) (history claim : Type 0) (start end : Footing) (expected : ℕ) (e : SumcheckError) →
+  pub proof_refused : (history claim : Type 0) (start end : Footing) (expected : ℕ) (e : SumcheckError) →
       expected ≡ q.case.problem.variables → start ≡ start_of q → (history → end.history ≡ q.history) →
-      LeavesReplay number (history × claim)
-      (replay_from start expected) (Err e) end →
+      LeavesReplay (history × claim) (replay_from start expected) (Err (cause_of e)) end →
       IsCaused (count_refusal q.case.problem.variables q.channel.bits given) checked end.history (refusal_by e)
-  proof_refused number history claim start end expected replay.NoMemory size begun kept left = elim left.1 [
+  proof_refused history claim start end expected replay.NoMemory size begun kept left = elim left.1 [
     | inl none ↦ inl (kept none.0)
     | inr part ↦
-        let some : IsReplayedInPart next q.channel (start_of q) end rounds_of = subst (λ f. IsReplayedInPart next q.channel f end rounds_of) begun part in
+        let some : IsReplayedInPart next q.channel (start_of q) end rounds_of =
+        subst (λ f. IsReplayedInPart next q.channel f end rounds_of) begun (record { count = part.count; rs = part.rs; replays = part.walked.replays }) in
         inr (record {
           rounds = rounds_of;
           are = refl;
-          count = length-given_rounds given.messages given.witnesses ∙ left.0.rounds ∙ size;
+          count = length-given_rounds given.messages given.witnesses ∙ left.0.as_rounds ∙ size;
           played = some.count;
           passes = some.replays.passes;
           history = some.replays.history;
         })
   ]
-  proof_refused number history claim start end expected (replay.InvalidPowWitness i bits) size begun kept left =
-      (left.1, record { claim = end.claim; at = subst (λ f. FailsAt next q.channel f end rounds_of i) begun left.2 })
-  proof_refused number history claim start end expected (replay.RoundCountMismatch n m) size begun kept left =
-      let error : RoundCountMismatch q.case.problem.variables (length given.messages) ≡ RoundCountMismatch n m = rw (left.0, left.1, size) refl in
-      (count-rounds q.case.problem.variables q.channel.bits given (λ equal. left.2 (equal ∙ sym size)) ∙ ap Some error, kept left.3.0)
-  proof_refused number history claim start end expected (replay.PowWitnessCountMismatch n m) size begun kept left =
-      let error : PowWitnessCountMismatch (witness_count q.channel.bits q.case.problem.variables) (length given.witnesses) ≡ PowWitnessCountMismatch n m = rw (left.0, left.1, size) refl in
-      (count-witnesses q.case.problem.variables q.channel.bits given (left.2 ∙ size) (λ equal. left.3 (equal ∙ ap (witness_count q.channel.bits) (sym size))) ∙ ap Some error, kept left.4.0)
-  proof_refused number history claim start end expected e size begun kept left = absurd left
+  proof_refused history claim start end expected (replay.InvalidPowWitness i bits) size begun kept left =
+      (left.1.0, record { claim = end.claim; at = subst (λ f. FailsAt next q.channel f end rounds_of i) begun left.1.1.at })
+  proof_refused history claim start end expected (replay.RoundCountMismatch n m) size begun kept left =
+      let error : RoundCountMismatch q.case.problem.variables (length given.messages) ≡ RoundCountMismatch n m = rw (left.0.0, left.0.1, size) refl in
+      (count-rounds q.case.problem.variables q.channel.bits given (λ equal. left.0.2 (left.0.1 ∙ equal ∙ sym size ∙ sym left.0.0)) ∙ ap Some error, kept left.1.0)
+  proof_refused history claim start end expected (replay.PowWitnessCountMismatch n m) size begun kept left =
+      let error : PowWitnessCountMismatch (witness_count q.channel.bits q.case.problem.variables) (length given.witnesses) ≡ PowWitnessCountMismatch n m = rw (left.0.0, left.0.1, size) refl in (
+        count-witnesses q.case.problem.variables q.channel.bits given (left.0.3 ∙ size)
+            (λ equal. left.0.2 (left.0.1 ∙ equal ∙ ap (witness_count q.channel.bits) (sym size) ∙ sym left.0.0)) ∙ ap Some error,
+        kept left.1.0,
+      )
+  proof_refused history claim start end expected e size begun kept left = absurd left.1
 
   -- the counts are refused
-  pub counts_refused : {X : Type 0} (T : Type 0) (number : X → ℕ) (untouched : Type 0) (start end : Footing) (expected : ℕ) (e : SumcheckError) →
-      expected ≡ q.case.problem.variables →
-      LeavesReplay number untouched
-      (replay_from start expected) (Err e) end →
+  pub counts_refused : (T untouched : Type 0) (start end : Footing) (expected : ℕ) (e : SumcheckError) → expected ≡ q.case.problem.variables →
+      LeavesReplay untouched (replay_from start expected) (Err (cause_of e)) end →
       IsRefusedBy {T = T} (count_refusal q.case.problem.variables q.channel.bits given) (Err (refusal_by e))
-  counts_refused T number untouched start end expected replay.NoMemory size left =
-      unrefused _ _ (count-none q.case.problem.variables q.channel.bits given (left.0.rounds ∙ size) (left.0.witnesses ∙ ap (witness_count q.channel.bits) size))
-  counts_refused T number untouched start end expected (replay.InvalidPowWitness i bits) size left =
-      unrefused _ _ (count-none q.case.problem.variables q.channel.bits given (left.0.rounds ∙ size) (left.0.witnesses ∙ ap (witness_count q.channel.bits) size))
-  counts_refused T number untouched start end expected (replay.RoundCountMismatch n m) size left =
-      let error : RoundCountMismatch q.case.problem.variables (length given.messages) ≡ RoundCountMismatch n m = rw (left.0, left.1, size) refl in
-      refused_as T _ _ (count-rounds q.case.problem.variables q.channel.bits given (λ equal. left.2 (equal ∙ sym size)) ∙ ap Some error)
-  counts_refused T number untouched start end expected (replay.PowWitnessCountMismatch n m) size left =
-      let error : PowWitnessCountMismatch (witness_count q.channel.bits q.case.problem.variables) (length given.witnesses) ≡ PowWitnessCountMismatch n m = rw (left.0, left.1, size) refl in
-      refused_as T _ _ (count-witnesses q.case.problem.variables q.channel.bits given (left.2 ∙ size) (λ equal. left.3 (equal ∙ ap (witness_count q.channel.bits) (sym size))) ∙ ap Some error)
-  counts_refused T number untouched start end expected e size left = absurd left
+  counts_refused T untouched start end expected replay.NoMemory size left =
+      unrefused _ _ (count-none q.case.problem.variables q.channel.bits given (left.0.as_rounds ∙ size) (left.0.as_witnesses ∙ ap (witness_count q.channel.bits) size))
+  counts_refused T untouched start end expected (replay.InvalidPowWitness i bits) size left =
+      unrefused _ _ (count-none q.case.problem.variables q.channel.bits given (left.0.as_rounds ∙ size) (left.0.as_witnesses ∙ ap (witness_count q.channel.bits) size))
+  counts_refused T untouched start end expected (replay.RoundCountMismatch n m) size left =
+      let error : RoundCountMismatch q.case.problem.variables (length given.messages) ≡ RoundCountMismatch n m = rw (left.0.0, left.0.1, size) refl in
+      refused_as T _ _ (count-rounds q.case.problem.variables q.channel.bits given (λ equal. left.0.2 (left.0.1 ∙ equal ∙ sym size ∙ sym left.0.0)) ∙ ap Some error)
+  counts_refused T untouched start end expected (replay.PowWitnessCountMismatch n m) size left =
+      let error : PowWitnessCountMismatch (witness_count q.channel.bits q.case.problem.variables) (length given.witnesses) ≡ PowWitnessCountMismatch n m = rw (left.0.0, left.0.1, size) refl in
+      refused_as T _ _ (count-witnesses q.case.problem.variables q.channel.bits given (left.0.3 ∙ size)
+      (λ equal. left.0.2 (left.0.1 ∙ equal ∙ ap (witness_count q.channel.bits) (sym size) ∙ sym left.0.0)) ∙ ap Some error)
+  counts_refused T untouched start end expected e size left = absurd left.1

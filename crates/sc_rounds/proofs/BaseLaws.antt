@@ -19,7 +19,7 @@ use Rattle.sc_table.specs.Polys.{variables_of, table_of, IsFixedOf}
 use Rattle.sc_table.proofs.EntryLaws.{entry-embedded}
 use Rattle.sc_transcript.specs.declared.error.SumcheckError.{SumcheckError}
 use Rattle.sc_transcript.specs.declared.error.SumcheckError.TheVariants.{NoMemory, NoWitness}
-use Rattle.sc_transcript.specs.declared.driver.BatchShape.{BatchShape}
+use Rattle.sc_transcript.specs.declared.rounds.BatchShape.{BatchShape}
 use Rattle.sc_transcript.specs.Drivers.{Driver, HasRoundLeft, IsDone}
 use Rattle.sc_rounds.specs.declared.product_polynomial.ProductPolynomial.{ProductPolynomial}
 use Rattle.sc_rounds.specs.Products.{numbers_of, variables_in, order_in, evals_in, weights_in}

@@ -8,7 +8,8 @@ use Rattle.sc_definitions.specs.Channels.{Channel, Wire}
 use Rattle.sc_definitions.specs.Standings.{Setting, Standing}
 use Rattle.sc_field.specs.declared.field.Field.{Ghosts as FieldOf}
 use Rattle.sc_challenger.specs.declared.challenger.Challenger.{Ghosts as ChallengerOf}
-use Rattle.sc_transcript.specs.declared.transcript.ProverTranscript.{ProverTranscript}
+use Rattle.sc_transcript.specs.declared.driver.RoundShape.{Ghosts as RoundShapeOf}
+use Rattle.sc_transcript.specs.declared.driver.Transcript.{Transcript}
 use Rattle.sc_transcript.specs.declared.transcript.SumcheckShape.{SumcheckShape}
 use Rattle.sc_transcript.specs.declared.data.SumcheckData.{SumcheckData}
 use Rattle.sc_transcript.specs.Drivers.{channel_of}
@@ -44,17 +45,17 @@ module _ {F EF : Type 0} {e : FieldOf EF} {q : PartialEqOf EF} where
 abbrev pub batch_asked : Channel → Ops → Shown → List Event → Wire → ℕ → SumcheckShape → Batch
 batch_asked c o s h sent degree shape = batch_at (setting_at c o s) (standing_at s h sent) degree shape
 
-module _ {C F EG : Type 0} {c : ChallengerOf C F} {f : FieldOf F} {q : PartialEqOf F} where
+module _ {C F EG S P : Type 0} {c : ChallengerOf C F} {f : FieldOf F} {q : PartialEqOf F} {r : RoundShapeOf S} where
   -- what stays where it is played in a transcript
-  abbrev pub setting_over : Extension → Ops → Shown → ProverTranscript C F EG c f q → Setting
+  abbrev pub setting_over : Extension → Ops → Shown → Transcript C F EG S P c f q r → Setting
   setting_over E o s t = setting_at (channel_of E (driver_in t)) o s
 
   -- where its rounds stand in a transcript, with data
-  abbrev pub standing_over : (EG → ℕ) → Shown → ProverTranscript C F EG c f q → SumcheckData F EG → Standing
+  abbrev pub standing_over : (EG → ℕ) → Shown → Transcript C F EG S P c f q r → SumcheckData F EG → Standing
   standing_over sent s t d = standing_at s (driver_in t).history (wire_in f.number sent d)
 
   -- the rounds that are under way there, with the challenges of those before
-  abbrev pub course_over : Extension → Ops → (EG → ℕ) → Shown → ProverTranscript C F EG c f q → SumcheckData F EG → List EG → Course
+  abbrev pub course_over : Extension → Ops → (EG → ℕ) → Shown → Transcript C F EG S P c f q r → SumcheckData F EG → List EG → Course
   course_over E o sent s t d rs = record { setting = setting_over E o s t; now = standing_over sent s t d; drawn = map sent rs }
 
 -- A round has drawn r: its tables are kept as they were before it, and r is held.

@@ -9,7 +9,8 @@ use Rattle.sc_challenger.specs.declared.challenger.Challenger.{Ghosts as Challen
 use Rattle.sc_definitions.specs.Tables.{evaluation}
 use Rattle.sc_definitions.specs.Channels.{Channel, Wire}
 use Rattle.sc_definitions.specs.Standings.{Setting, Standing}
-use Rattle.sc_transcript.specs.declared.transcript.ProverTranscript.{ProverTranscript}
+use Rattle.sc_transcript.specs.declared.driver.RoundShape.{Ghosts as RoundShapeOf}
+use Rattle.sc_transcript.specs.declared.driver.Transcript.{Transcript}
 use Rattle.sc_transcript.specs.declared.data.SumcheckData.{SumcheckData}
 use Rattle.sc_transcript.specs.Drivers.{channel_of}
 use Rattle.sc_transcript.specs.Transcripts.{driver_in}
@@ -32,11 +33,11 @@ standing_in number p sum h wire = record {
   wire = wire;
 }
 
-module _ {C F EF EG : Type 0} {c : ChallengerOf C F} {f : FieldOf F} {q : PartialEqOf F} where
+module _ {C F EF EG S P : Type 0} {c : ChallengerOf C F} {f : FieldOf F} {q : PartialEqOf F} {s : RoundShapeOf S} where
   -- the same where the pair is played in a transcript, whose elements have these parts
-  abbrev pub setting_on : {G : Type 0} → Extension → Ops → ProductPolynomial G EF → ProverTranscript C F EG c f q → Setting
+  abbrev pub setting_on : {G : Type 0} → Extension → Ops → ProductPolynomial G EF → Transcript C F EG S P c f q s → Setting
   setting_on E o p t = setting_in (channel_of E (driver_in t)) o p
 
   -- the same where the pair and its sum, by one numbering, are played in a transcript onto data, whose elements have another one
-  abbrev pub standing_on : {G : Type 0} → (EF → ℕ) → (EG → ℕ) → ProductPolynomial G EF → EF → ProverTranscript C F EG c f q → SumcheckData F EG → Standing
+  abbrev pub standing_on : {G : Type 0} → (EF → ℕ) → (EG → ℕ) → ProductPolynomial G EF → EF → Transcript C F EG S P c f q s → SumcheckData F EG → Standing
   standing_on number sent p sum t d = standing_in number p sum (driver_in t).history (wire_in f.number sent d)

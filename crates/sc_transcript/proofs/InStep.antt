@@ -12,7 +12,9 @@ use Rattle.sc_definitions.specs.Standings.{Setting, Standing, footing_of, IsPlay
 use Rattle.sc_definitions.proofs.BuiltLaws.{length-messages}
 use Rattle.sc_transcript.specs.declared.error.SumcheckError.{SumcheckError}
 use Rattle.sc_transcript.specs.declared.error.SumcheckError.TheVariants.{RoundCountMismatch, InvalidPowWitness, PowWitnessCountMismatch, NoMemory}
-use Rattle.sc_transcript.specs.Replayed.{LeavesReplay}
+use Rattle.sc_transcript.specs.declared.rounds.BatchShape.{BatchShape}
+use Rattle.sc_transcript.specs.Causes.{cause_of}
+use Rattle.sc_transcript.specs.Replayed.{replay_of, IsCounted, LeavesReplay}
 use Rattle.sc_transcript.specs.Data.{witness_count}
 use Rattle.sc_transcript.proofs.GivenRounds.{given_played, count_witnesses}
 use Rattle.sc_transcript.specs.Steps.{rounds_on, ReplaysInPart, IsOutOfStep, LeavesStep}
@@ -143,14 +145,17 @@ module _ (s : Setting) (t u : Standing) (rs : List ℕ) (c : Channel) (start : F
   }
 
   -- a replay of it is refused for want of memory alone
-  pub wants_memory : {X : Type 0} (number : X → ℕ) (history claim : Type 0) (k came found : ℕ) (e : SumcheckError) (end : Footing) →
-      came ≡ k → found ≡ witness_count c.bits k →
-      LeavesReplay number (history × claim)
-      (record { next = next_claim s.basis s.ops; channel = c; start = start; rounds = rounds_on u.wire; expected = k; came = came; witnesses = found }) (Err e) end →
+  pub wants_memory : (history claim : Type 0) (shape : BatchShape) (e : SumcheckError) (end : Footing) → IsCounted (replay_of (next_claim s.basis s.ops) c shape start u.wire) →
+      LeavesReplay (history × claim) (replay_of (next_claim s.basis s.ops) c shape start u.wire) (Err (cause_of e)) end →
       (e ≡ NoMemory) × (history ⊎ ReplaysInPart s t u.wire end.history)
-  wants_memory number history claim k came found NoMemory end counted witnessed left =
-      (refl, elim left.1 [ inl none ↦ inl none.0 | inr part ↦ inr (in_part end part) ])
-  wants_memory number history claim k came found (InvalidPowWitness i bits) end counted witnessed left = absurd (none_invalid i end left.2)
-  wants_memory number history claim k came found (RoundCountMismatch n m) end counted witnessed left = absurd (left.2 counted)
-  wants_memory number history claim k came found (PowWitnessCountMismatch n m) end counted witnessed left = absurd (left.3 witnessed)
-  wants_memory number history claim k came found e end counted witnessed left = absurd left
+  wants_memory history claim shape NoMemory end counted left = (
+    refl,
+    elim left.1 [
+      | inl none ↦ inl none.0
+      | inr part ↦ inr (in_part end (record { count = part.count; rs = part.rs; replays = part.walked.replays }))
+    ],
+  )
+  wants_memory history claim shape (InvalidPowWitness i bits) end counted left = absurd (none_invalid i end left.1.1.at)
+  wants_memory history claim shape (RoundCountMismatch n m) end counted left = absurd (left.0.2 (left.0.1 ∙ counted.as_rounds ∙ sym left.0.0))
+  wants_memory history claim shape (PowWitnessCountMismatch n m) end counted left = absurd (left.0.2 (left.0.1 ∙ counted.as_witnesses ∙ sym left.0.0))
+  wants_memory history claim shape e end counted left = absurd left.1

@@ -1,13 +1,17 @@
 -- What one round appends, from what its calls append.
-use Rattle.std.proofs.Common.{◌≡◌, ℕ, zero, suc, ◌+◌, ◌<◌, true, false, List, [], ◌∷◌, ◌++◌, length, get_or, map, take, flat_map, replicate, refl, ap, sym, ◌∙◌, subst, append_assoc, arith}
+use Rattle.std.proofs.Common.{◌≡◌, Option, Result, Err, ℕ, zero, suc, ◌+◌, ◌<◌, true, false, List, [], ◌∷◌, ◌++◌, length, get_or, map, take, flat_map, replicate, refl, ap, sym, ◌∙◌, subst, append_assoc, arith}
 use Rattle.std.proofs.lemmas.List.{append-nil, map-append, take_more}
 use Rattle.std.proofs.lemmas.Grind.{flat_map-append}
 use Rattle.sc_definitions.specs.declared.events.Event.{Event}
 use Rattle.sc_definitions.specs.declared.events.Event.TheVariants.{Word, Draw, Test}
-use Rattle.sc_definitions.specs.Events.{Rules, Extension, words, extension_draw, IsFirstWitness, NonePasses}
+use Rattle.sc_definitions.specs.Events.{Rules, Extension, words, extension_draw, IsFirstWitness}
 use Rattle.sc_definitions.specs.Transcript.{round_of, sent, witness_events, before_draw, round_events, challenge, HasFirstWitness}
 use Rattle.sc_definitions.specs.Replays.{round_passes}
-use Rattle.sc_definitions.specs.Channels.{channel, IsSent, IsTaken, WitnessFails, NoWitnessFound}
+use Rattle.sc_definitions.specs.Channels.{channel, IsSent, IsTaken, WitnessFails}
+use Rattle.std.specs.Option.{option_map_or}
+use Rattle.sc_transcript.specs.declared.rounds.WitnessError.{WitnessError}
+use Rattle.sc_transcript.specs.declared.rounds.WitnessError.TheVariants.{Missing, Invalid}
+use Rattle.sc_transcript.specs.Rounds.{LeavesTested, LeavesTaken}
 use Rattle.sc_definitions.specs.Seeds.{seed_words, quadratic_separator, quadratic_seed}
 use Rattle.sc_definitions.specs.Tables.{Basis}
 
@@ -101,11 +105,13 @@ module _ (R : Rules) (E : Extension) (size bits : ℕ) (h h₁ : List Event) (va
   pub fails_test : (h₂ : List Event) → 0 < bits → R.passes h₁ bits w ≡ false → h₂ ≡ h₁ ++ witness_events bits w → WitnessFails (channel R E size bits) h (round_of values w) h₂
   fails_test h₂ positive failed tested = record { fails = passes_tested positive ∙ failed; history = round_before h₂ tested }
 
--- no witness was found
-pub finds_none : (R : Rules) (E : Extension) (size bits : ℕ) (h h₁ h₂ : List Event) (values : List ℕ) → h₁ ≡ h ++ sent E values → h₂ ≡ h₁ → 0 < bits → NonePasses R h₁ bits size →
-    NoWitnessFound (channel R E size bits) h values h₂
-finds_none R E size bits h h₁ h₂ values absorbed kept positive none =
-    record { positive = positive; history = kept ∙ absorbed; none_passes = subst (λ t. NonePasses R t bits size) (sym kept) none }
+-- a witness that is not taken
+pub untaken : {W X : Type 0} (base : W → ℕ) (number : X → ℕ) (R : Rules) (E : Extension) (size bits : ℕ) (h h₁ h₂ : List Event) (values : List ℕ) (came : Option W) (e : WitnessError) (result : Result X WitnessError) →
+    h₁ ≡ h ++ sent E values → result ≡ Err e → LeavesTested {X = Unit {0}} base R bits came h₁ (Err e) h₂ →
+    LeavesTaken number (channel R E size bits) h (round_of values (option_map_or base came 0)) came result h₂
+untaken base number R E size bits h h₁ h₂ values came Missing result absorbed is left = rw is (left.1, left.2, left.0 ∙ absorbed)
+untaken base number R E size bits h h₁ h₂ values came Invalid result absorbed is left =
+    rw is (left.2, fails_test R E size bits h h₁ values (option_map_or base came 0) absorbed h₂ left.1 left.3 left.0)
 
 -- ---- the seed
 

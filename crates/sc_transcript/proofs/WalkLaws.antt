@@ -6,12 +6,13 @@ use Rattle.std.proofs.lemmas.List.Elements.{All-append, All-cons, All-nil}
 use Rattle.std.proofs.lemmas.Option.{get_or_from_slice_get, slice_get_within}
 use Rattle.sc_definitions.specs.Events.{Extension}
 use Rattle.sc_definitions.specs.Transcript.{Round, messages_of}
-use Rattle.sc_definitions.specs.Channels.{Channel, Footing, footing, IsTaken, WitnessFails}
-use Rattle.sc_transcript.specs.declared.driver.RoundError.{RoundError}
-use Rattle.sc_transcript.specs.declared.driver.RoundError.TheVariants.{WrongWidth, NoWitness, MissingWitness, InvalidWitness, NoMemory}
-use Rattle.sc_transcript.specs.Counts.{witness_count}
+use Rattle.sc_definitions.specs.Channels.{Channel, Footing, footing, IsTaken, IsReplayed, WitnessFails}
+use Rattle.sc_definitions.proofs.ReplayLaws.{take_whole}
+use Rattle.sc_transcript.specs.declared.error.RoundError.{RoundError}
+use Rattle.sc_transcript.specs.declared.error.RoundError.TheVariants.{WrongWidth, MissingWitness, InvalidWitness, NoMemory}
+use Rattle.sc_transcript.specs.Rounds.{witness_count}
 use Rattle.sc_transcript.specs.Drivers.{Driver, channel_of, RejectsRound}
-use Rattle.sc_transcript.specs.Walks.{AreWide, Walk, IsWalked, LeavesWalk}
+use Rattle.sc_transcript.specs.Walks.{AreWide, Walk, first_of, IsWalked, LeavesWalk}
 use Rattle.sc_transcript.proofs.ReplayedLaws.{replays_begin, replays_step, witness_due, some_is_some}
 
 -- ---- widths
@@ -27,37 +28,40 @@ wide_more width rounds i r is sends wide =
 
 -- ---- round after round
 
-pub walked_none : (p : Walk) (rs : List ℕ) → rs ≡ [] → IsWalked p 0 rs p.start
+pub walked_none : (p : Walk) (rs : List ℕ) → rs ≡ [] → IsWalked (first_of 0 p) rs p.start
 walked_none p rs none = record { wide = All-nil _; replays = replays_begin p.next p.channel p.start.history p.start.history p.start.claim rs refl none }
 
 pub walked_more : {X : Type 0} (number : X → ℕ) (p : Walk) {c : Channel} (i : ℕ) (r : Round) (at after : Footing) (out out₁ : List X) (x : X) →
-    slice_get p.rounds i ≡ Some r → c ≡ p.channel → length r.values ≡ p.width → IsWalked p i (map number out) at → IsTaken c at.history r (number x) after.history →
-    after.claim ≡ p.next at.claim r.values (number x) → out₁ ≡ out ++ x ∷ [] → IsWalked p (i + 1) (map number out₁) after
+    slice_get p.rounds i ≡ Some r → c ≡ p.channel → length r.values ≡ p.width → IsWalked (first_of i p) (map number out) at → IsTaken c at.history r (number x) after.history →
+    after.claim ≡ p.next at.claim r.values (number x) → out₁ ≡ out ++ x ∷ [] → IsWalked (first_of (i + 1) p) (map number out₁) after
 walked_more number p i r at after out out₁ x is same sends walked taken claim more = record {
   wide = wide_more p.width p.rounds i r is sends walked.wide;
   replays = replays_step number at after p.rounds i r out out₁ x is same walked.replays taken claim more;
 }
 
-pub walked_all : (p : Walk) (i : ℕ) {rs : List ℕ} {after : Footing} → i ≡ length p.rounds → IsWalked p i rs after → IsWalked p (length p.rounds) rs after
-walked_all p i {rs} {after} count walked = subst (λ k. IsWalked p k rs after) count walked
+pub walked_all : (p : Walk) (i : ℕ) {rs : List ℕ} {after : Footing} → i ≡ length p.rounds → IsWalked (first_of i p) rs after → IsWalked p rs after
+walked_all p i {rs} {after} count walked =
+    let whole = take_whole p.rounds i count in record {
+      wide = subst (AreWide p.width) whole walked.wide;
+      replays = subst (λ rounds. IsReplayed p.next p.channel p.start after rounds rs) whole walked.replays;
+    }
 
 -- the next round is rejected
-pub walk_rejected : {X K W : Type 0} (challenges : X → List ℕ) (p : Walk) (E : Extension) (d d' : Driver K) (i n k : ℕ) (r : Round) (claim : ℕ) (rs : List ℕ) (came : Option W) (e : RoundError) →
-    channel_of E d ≡ p.channel → d.shape.width ≡ p.width → d.played ≡ i → i < n → k ≡ witness_count p.channel.bits n → IsWalked p i rs (footing d.history claim) →
-    slice_get p.rounds i ≡ Some r → (i < k → IsSome came) → RejectsRound E d d' r came (Some e) → LeavesWalk challenges p (Err e) (footing d'.history claim)
-walk_rejected challenges p E d d' i n k r claim rs came NoMemory same width place low count before is some told =
-    record { count = i; rs = rs; walked = subst (λ h. IsWalked p i rs (footing h claim)) (sym told.why.1) before }
-walk_rejected challenges p E d d' i n k r claim rs came (WrongWidth j expected actual) same width place low count before is some told =
+pub walk_rejected : {K W : Type 0} (p : Walk) (E : Extension) (d d' : Driver K) (i n k : ℕ) (r : Round) (claim : ℕ) (rs : List ℕ) (came : Option W) (e : RoundError) →
+    channel_of E d ≡ p.channel → d.shape.width ≡ p.width → d.played ≡ i → i < n → k ≡ witness_count p.channel.bits n → IsWalked (first_of i p) rs (footing d.history claim) →
+    slice_get p.rounds i ≡ Some r → (i < k → IsSome came) → RejectsRound E d d' r came (Some e) → LeavesWalk p (Err (Some e)) (footing d'.history claim)
+walk_rejected p E d d' i n k r claim rs came NoMemory same width place low count before is some told =
+    record { count = i; rs = rs; walked = subst (λ h. IsWalked (first_of i p) rs (footing h claim)) (sym told.why.1) before }
+walk_rejected p E d d' i n k r claim rs came (WrongWidth j expected actual) same width place low count before is some told =
     let why = told.why in
     let at : j ≡ i = why.0 ∙ place in (
       why.1 ∙ width,
-      rw at (record { rs = rs; walked = subst (λ h. IsWalked p i rs (footing h claim)) (sym why.4) before; round = r; is = is; counts = why.2; other = λ e. why.3 (sym why.2 ∙ e ∙ sym width) }),
+      rw at (record { rs = rs; walked = subst (λ h. IsWalked (first_of i p) rs (footing h claim)) (sym why.4) before; round = r; is = is; counts = why.2; other = λ e. why.3 (sym why.2 ∙ e ∙ sym width) }),
     )
-walk_rejected challenges p E d d' i n k r claim rs came (NoWitness j) same width place low count before is some told = absurd told.why
-walk_rejected challenges p E d d' i n k r claim rs came (MissingWitness j bits) same width place low count before is some told =
+walk_rejected p E d d' i n k r claim rs came (MissingWitness j bits) same width place low count before is some told =
     let positive : 0 < p.channel.bits = subst (λ t. 0 < t) (ap (λ (ch : Channel). ch.bits) same) told.why.3 in
     absurd (some_is_some came (some (witness_due p.channel.bits n i k positive count low)) told.why.4)
-walk_rejected challenges p E d d' i n k r claim rs came (InvalidWitness j bits) same width place low count before is some told =
+walk_rejected p E d d' i n k r claim rs came (InvalidWitness j bits) same width place low count before is some told =
     let why = told.why in
     let at : j ≡ i = why.0 ∙ place in
     let fails = subst (λ ch. WitnessFails ch d.history r d'.history) same why.4 in (
@@ -67,3 +71,4 @@ walk_rejected challenges p E d d' i n k r claim rs came (InvalidWitness j bits) 
         at = record { rs = rs; last = d.history; replays = before.replays; round = r; is = is; test = fails };
       }),
     )
+walk_rejected p E d d' i n k r claim rs came e same width place low count before is some told = absurd told.why

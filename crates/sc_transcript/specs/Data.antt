@@ -2,9 +2,15 @@
 use Rattle.std.specs.Prelude.{ℕ, ◌-◌, List, [], ◌∷◌, map, min, vec_len, vec_capacity}
 use Rattle.sc_definitions.specs.Transcript.{Round}
 use Rattle.sc_definitions.specs.Replays.{given_rounds}
-use Rattle.sc_definitions.specs.Channels.{Wire}
+use Rattle.sc_definitions.specs.Channels.{Channel, Footing, Wire}
+use Rattle.sc_definitions.specs.Ring.{Ops}
+use Rattle.sc_definitions.specs.Rounds.{next_claim}
+use Rattle.sc_table.specs.Strategy.{basis_of}
+use Rattle.sc_transcript.specs.declared.transcript.SumcheckShape.{SumcheckShape}
+use Rattle.sc_transcript.specs.Shapes.{batch_of, seeded}
+use Rattle.sc_transcript.specs.Replayed.{Replay, replay_of}
 pub use Rattle.sc_definitions.specs.Channels.{witnesses_of}
-pub use Rattle.sc_transcript.specs.Counts.{witness_count}
+pub use Rattle.sc_transcript.specs.Rounds.{witness_count}
 use Rattle.sc_table.specs.declared.strategy.RoundMessage.{RoundMessage}
 use Rattle.sc_transcript.specs.declared.data.SumcheckData.{SumcheckData}
 
@@ -32,3 +38,9 @@ rounds_in base number d = given_rounds (messages_in number d) (witnesses_in base
 abbrev pub spare_in : {F EF : Type 0} → SumcheckData F EF → ℕ
 spare_in d =
     min (vec_capacity d.polynomial_evaluations - vec_len d.polynomial_evaluations) (vec_capacity d.pow_witnesses - vec_len d.pow_witnesses)
+
+-- the replay, in a shape, of what came on a wire, over a ring, a channel and an extension of a degree, from a footing on: it begins behind the seed, and each
+-- round folds the claim by the basis
+abbrev pub pair_replay : Ops → Channel → ℕ → SumcheckShape → Wire → Footing → Replay
+pair_replay o c degree shape came at =
+    replay_of (next_claim (basis_of shape.basis) o) c (batch_of shape) (seeded degree shape at.history at.claim) came

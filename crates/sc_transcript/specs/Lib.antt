@@ -1,12 +1,11 @@
 pub mod Shapes
 pub mod Rounds
-pub mod Counts
 pub mod Walks
 pub mod Drivers
 pub mod Causes
 pub mod Transcripts
+pub mod Replayed
 pub mod Data
 pub mod Laws
-pub mod Replayed
 pub mod Batches
 pub mod Steps

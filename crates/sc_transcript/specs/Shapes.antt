@@ -7,7 +7,7 @@ use Rattle.sc_definitions.specs.Seeds.{quadratic_seed}
 use Rattle.sc_definitions.specs.Channels.{Footing, footing}
 use Rattle.sc_table.specs.Strategy.{basis_of}
 use Rattle.sc_table.specs.declared.strategy.Basis.{Basis}
-use Rattle.sc_transcript.specs.declared.driver.BatchShape.{BatchShape}
+use Rattle.sc_transcript.specs.declared.rounds.BatchShape.{BatchShape}
 use Rattle.sc_transcript.specs.declared.transcript.SumcheckShape.{SumcheckShape}
 
 -- the words that a batch begins with, over an extension of a degree; none for no rounds

@@ -1,38 +1,21 @@
--- The drivers of quadratic rounds, as drivers of rounds.
+-- The sides of a batch, as drivers of rounds.
 use Rattle.std.specs.Borrow.{MutBor}
 use Rattle.std.specs.declared.cmp.PartialEq.{Ghosts as PartialEqOf}
 use Rattle.sc_field.specs.declared.field.Field.{Ghosts as FieldOf}
-use Rattle.sc_table.specs.declared.strategy.Basis.{Basis}
 use Rattle.sc_challenger.specs.declared.challenger.Challenger.{Ghosts as ChallengerOf}
-use Rattle.sc_transcript.specs.declared.transcript.SumcheckShape.{SumcheckShape}
-use Rattle.sc_transcript.specs.declared.transcript.ProverTranscript.{ProverTranscript}
-use Rattle.sc_transcript.specs.declared.transcript.VerifierTranscript.{VerifierTranscript}
-use Rattle.sc_transcript.specs.Shapes.{batch_of}
+use Rattle.sc_transcript.specs.declared.driver.RoundShape.{Ghosts as RoundShapeOf}
+use Rattle.sc_transcript.specs.declared.driver.Transcript.{Transcript}
 use Rattle.sc_transcript.specs.Drivers.{Driver, driver_over, unplayed_over}
 
-module _ {C F EF : Type 0} {c : ChallengerOf C F} {f : FieldOf F} {q : PartialEqOf F} where
-  -- the prover's driver
-  abbrev pub driver_in : ProverTranscript C F EF c f q → Driver Basis
+module _ {C F EF S P : Type 0} {c : ChallengerOf C F} {f : FieldOf F} {q : PartialEqOf F} {s : RoundShapeOf S} where
+  -- its driver
+  abbrev pub driver_in : Transcript C F EF S P c f q s → Driver S
   driver_in t = driver_over c f t.challenger t.rounds
 
   -- the challenger that it borrows
-  abbrev pub challenger_in : ProverTranscript C F EF c f q → MutBor C
+  abbrev pub challenger_in : Transcript C F EF S P c f q s → MutBor C
   challenger_in t = t.challenger
 
   -- the same driver over a challenger as it was lent, before the first word of a batch
-  abbrev pub unbegun : ProverTranscript C F EF c f q → MutBor C → SumcheckShape → Driver Basis
-  unbegun t lent shape = unplayed_over c f lent (batch_of shape) shape.basis
-
-  -- the verifier's driver
-  abbrev pub replayer_in : VerifierTranscript C F EF c f q → Driver Basis
-  replayer_in t = driver_over c f t.challenger t.rounds
-
-  abbrev pub lent_to_replayer : VerifierTranscript C F EF c f q → MutBor C
-  lent_to_replayer t = t.challenger
-
-  abbrev pub unbegun_replayer : VerifierTranscript C F EF c f q → MutBor C → SumcheckShape → Driver Basis
-  unbegun_replayer t lent shape = unplayed_over c f lent (batch_of shape) shape.basis
-
--- the shape of its batch
-abbrev pub shape_in : Driver Basis → SumcheckShape
-shape_in d = record { num_rounds = d.shape.num_rounds; pow_bits = d.shape.pow_bits; basis = d.kind }
+  abbrev pub unbegun : Transcript C F EF S P c f q s → MutBor C → S → Driver S
+  unbegun t lent shape = unplayed_over c f lent (s.numbers shape) shape

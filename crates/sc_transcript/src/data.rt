@@ -1,24 +1,20 @@
 //! The data of a proof, and the verifier's replay of it.
-ghost use Rattle.std.specs.Prelude.{◌≡◌, ◌≢◌, ◌⊎◌, ◌↔◌, ℕ, ◌+◌, ◌<◌, ◌≤◌, [], ◌∷◌, ◌++◌, Err, IfOk, IfErr, OnOk, OnErr, IsOk, IsErrOf, IsSome, IsNone, IfSome, Some, length, map, vec_len, vec_capacity, slice_index_or, None};
+ghost use Rattle.std.specs.Prelude.{◌≡◌, ◌≢◌, ◌↔◌, ◌⊎◌, ◌+◌, ◌<◌, ◌≤◌, [], ◌∷◌, Ok, Err, IfOk, IfErr, OnOk, OnErr, IsOk, IsSome, IsNone, IfSome, Some, length, map, vec_len};
 ghost use Rattle.std.specs.List.{slice_get};
 ghost use Rattle.std.specs.Option.{option_map_or};
 ghost use Rattle.sc_definitions.specs.Rounds.{next_claim};
-ghost use Rattle.sc_definitions.specs.Channels.{channel, footing};
+ghost use Rattle.sc_definitions.specs.Channels.{channel};
 ghost use Rattle.sc_table.specs.Strategy.{basis_of};
 ghost use Rattle.sc_transcript.specs.Shapes.{shape_of, pair_round};
-ghost use Rattle.sc_transcript.specs.Data.{rounds_in, wire_in, witness_count};
-ghost use Rattle.sc_transcript.specs.Replayed.{
-  Leaves,
-  LeavesCounted,
-  LeavesFrom,
-  IsMiscounted,
-  place,
-  replay_of,
-};
+ghost use Rattle.sc_transcript.specs.Causes.{cause_of};
+ghost use Rattle.sc_transcript.specs.Drivers.{answer_as};
+ghost use Rattle.sc_transcript.specs.Data.{rounds_in, wire_in, pair_replay};
+ghost use Rattle.sc_transcript.specs.Replayed.{LeavesFrom, place};
 
-use crate::driver::witness_at;
+use crate::driver::RoundShape;
 use crate::error::SumcheckError;
-use crate::replay::{CameRounds, replay};
+use crate::replay::{CameRounds, check_counts, replay};
+use crate::rounds::witness_at;
 use crate::transcript::{ProverTranscript, SumcheckShape};
 use sc_challenger::Challenger;
 use sc_field::{ExtensionField, Field, NoMemory, with_room};
@@ -37,9 +33,8 @@ pub struct SumcheckData<F, EF> {
 impl<F: Field, EF: ExtensionField<F>> SumcheckData<F, EF> {
     ghost use Rattle.sc_transcript.specs.Data.{spare_in};
     ghost use Rattle.sc_definitions.specs.Channels.{empty_wire};
-    ghost use Rattle.sc_transcript.specs.Causes.{cause_of};
     ghost use Rattle.sc_transcript.specs.Transcripts.{driver_in};
-    ghost use Rattle.sc_transcript.specs.Drivers.{Continues, HasRoundLeft, PutsRound, RefusesRound, HasRoom, TakesRoom};
+    ghost use Rattle.sc_transcript.specs.Drivers.{HasRoundLeft, PutsRound, RefusesRound, HasRoom};
 
     /// Data without rounds.
     pub fn new(alloc: Global) -> Self
@@ -98,13 +93,11 @@ impl<F: Field, EF: ExtensionField<F>> SumcheckData<F, EF> {
         c_inf: EF,
     ) -> Result<EF, SumcheckError>
         requires { HasRoundLeft (driver_in transcript.old) }
-        ensures continues { Continues (driver_in transcript.old) (driver_in transcript.new) }
         ensures puts { IfOk result (λ r. PutsRound EF.extension (driver_in transcript.old) (driver_in transcript.new) (EF.number c_a ∷ EF.number c_inf ∷ []) (EF.number r)
             (wire_in F.number EF.number self.old) (wire_in F.number EF.number self.new)) }
         ensures refused { IfErr result (λ e. RefusesRound EF.extension (driver_in transcript.old) (driver_in transcript.new) (EF.number c_a ∷ EF.number c_inf ∷ []) (cause_of e)) }
         ensures kept { OnErr result (wire_in F.number EF.number self.new ≡ wire_in F.number EF.number self.old) }
         ensures has_room { 1 ≤ spare_in self.old → HasRoom EF.DEGREE (driver_in transcript.old) → result ≢ Err SumcheckError.NoMemory }
-        ensures takes_room { OnOk result (TakesRoom EF.DEGREE (driver_in transcript.old) (driver_in transcript.new)) }
         ensures room { OnOk result (spare_in self.old ≤ spare_in self.new + 1) }
         ensures room_kept { OnErr result (spare_in self.old ≤ spare_in self.new) }
     {
@@ -136,74 +129,23 @@ impl<F: Field, EF: ExtensionField<F>> SumcheckData<F, EF> {
     ) -> Result<Point<EF>, SumcheckError>
         requires { pow_bits ≤ (C.rules challenger.old).max_bits }
         ensures rules { C.rules challenger.new ≡ C.rules challenger.old }
-        ensures left { LeavesFrom EF.number
-            (λ at. replay_of EF.ops (channel (C.rules challenger.old) EF.extension F.ops.size pow_bits)
-            EF.DEGREE (shape_of expected_rounds pow_bits basis) (wire_in F.number EF.number self.now) at)
-            (place (C.history challenger.old) claimed_sum.old)
-            (place (C.history challenger.new) claimed_sum.new) result }
+        ensures left { LeavesFrom EF.number (pair_replay EF.ops (channel (C.rules challenger.old) EF.extension F.ops.size pow_bits)
+            EF.DEGREE (shape_of expected_rounds pow_bits basis) (wire_in F.number EF.number self.now))
+            (place (C.history challenger.old) claimed_sum.old) (place (C.history challenger.new) claimed_sum.new)
+            (answer_as (map EF.number) cause_of result) }
     {
-        self.check_counts(expected_rounds, pow_bits)?;
-        let shape = SumcheckShape {
-            num_rounds: expected_rounds,
-            pow_bits,
-            basis,
-        };
-        self.seed_and_replay(alloc, challenger, claimed_sum, shape)
-    }
-
-    // Observes the seed, and replays the rounds behind it. The room for the challenges is made first, so that its refusal leaves everything as it was.
-    fn seed_and_replay<C: Challenger<F>>(
-        &self,
-        alloc: Global,
-        challenger: &mut C,
-        claimed_sum: &mut EF,
-        shape: SumcheckShape,
-    ) -> Result<Point<EF>, SumcheckError>
-        requires tested { shape.pow_bits ≤ (C.rules challenger.old).max_bits }
-        requires counted { vec_len self.now.polynomial_evaluations ≡ shape.num_rounds }
-        requires witnessed { vec_len self.now.pow_witnesses ≡ witness_count shape.pow_bits shape.num_rounds }
-        ensures rules { C.rules challenger.new ≡ C.rules challenger.old }
-        ensures leaves { LeavesCounted EF.number
-            (replay_of EF.ops (channel (C.rules challenger.old) EF.extension F.ops.size shape.pow_bits)
-            EF.DEGREE shape (wire_in F.number EF.number self.now)
-            (footing (C.history challenger.old) (EF.number claimed_sum.old)))
-            (place (C.history challenger.old) claimed_sum.old)
-            (place (C.history challenger.new) claimed_sum.new) result }
-    {
-        let challenges = with_room(alloc, shape.num_rounds)?;
-        shape.seed::<F, EF, C>(alloc, challenger)?;
-        self.replay(challenger, claimed_sum, shape, challenges)
-    }
-
-    // Replays the rounds behind the seed. There is room for the challenges.
-    fn replay<C: Challenger<F>>(
-        &self,
-        challenger: &mut C,
-        claimed_sum: &mut EF,
-        shape: SumcheckShape,
-        challenges: Vec<EF>,
-    ) -> Result<Point<EF>, SumcheckError>
-        requires tested { shape.pow_bits ≤ (C.rules challenger.old).max_bits }
-        requires counted { vec_len self.now.polynomial_evaluations ≡ shape.num_rounds }
-        requires witnessed { vec_len self.now.pow_witnesses ≡ witness_count shape.pow_bits shape.num_rounds }
-        requires empty { challenges.items ≡ [] }
-        requires room { shape.num_rounds ≤ vec_capacity challenges }
-        ensures rules { C.rules challenger.new ≡ C.rules challenger.old }
-        ensures leaves { Leaves EF.number (next_claim (basis_of shape.basis) EF.ops) (channel (C.rules challenger.old) EF.extension F.ops.size shape.pow_bits)
-            (footing (C.history challenger.old) (EF.number claimed_sum.old))
-            (rounds_in F.number EF.number self.now) result (footing (C.history challenger.new) (EF.number claimed_sum.new)) }
-    {
-        let came = CameIn {
-            data: self,
-            basis: shape.basis,
-        };
-        let drawn = replay::<F, EF, C, _>(
-            &came,
-            challenger,
-            claimed_sum,
-            shape.batch(),
-            challenges,
+        let shape = SumcheckShape::new(expected_rounds, pow_bits, basis);
+        let batch = shape.batch();
+        check_counts(
+            batch,
+            self.polynomial_evaluations.len(),
+            self.pow_witnesses.len(),
         )?;
+        // The room for the challenges is made first, so that its refusal leaves everything as it was.
+        let challenges = with_room(alloc, expected_rounds)?;
+        shape.seed::<F, EF, C>(alloc, challenger)?;
+        let came = CameIn { data: self, basis };
+        let drawn = replay::<F, EF, C, _>(&came, challenger, claimed_sum, batch, challenges)?;
         Ok(Point::new(drawn))
     }
 
@@ -218,28 +160,6 @@ impl<F: Field, EF: ExtensionField<F>> SumcheckData<F, EF> {
             self.polynomial_evaluations[i],
             witness_at(&self.pow_witnesses, i),
         )
-    }
-
-    // Whether there are as many rounds as expected, and as many witnesses as the difficulty asks for.
-    fn check_counts(&self, expected_rounds: usize, pow_bits: usize) -> Result<(), SumcheckError>
-        ensures ok { OnOk result ((vec_len self.now.polynomial_evaluations ≡ expected_rounds) × (vec_len self.now.pow_witnesses ≡ witness_count pow_bits expected_rounds)) }
-        ensures err { OnErr result (IsMiscounted result
-            (vec_len self.now.polynomial_evaluations) expected_rounds
-            (vec_len self.now.pow_witnesses) (witness_count pow_bits expected_rounds)) }
-    {
-        let rounds = self.polynomial_evaluations.len();
-        if rounds != expected_rounds {
-            return Err(SumcheckError::RoundCountMismatch {
-                expected: expected_rounds,
-                actual: rounds,
-            });
-        }
-        let expected = if pow_bits == 0 { 0 } else { expected_rounds };
-        let actual = self.pow_witnesses.len();
-        if actual != expected {
-            return Err(SumcheckError::PowWitnessCountMismatch { expected, actual });
-        }
-        Ok(())
     }
 }
 
@@ -285,14 +205,14 @@ pub fn verify_final_sumcheck_rounds<F: Field, EF: ExtensionField<F>, C: Challeng
 ) -> Result<Point<EF>, SumcheckError>
     requires { 0 < rounds → pow_bits ≤ (C.rules challenger.old).max_bits }
     ensures rules { C.rules challenger.new ≡ C.rules challenger.old }
-    ensures none { rounds ≡ 0 → IfOk result (λ point. point ≡ []) × (C.history challenger.new ≡ C.history challenger.old) × (claimed_sum.new ≡ claimed_sum.old) × IsOk result }
+    ensures none { rounds ≡ 0 → result ≡ Ok [] }
     ensures missing { result ≡ Err (SumcheckError.MissingSumcheckData rounds) ↔ ((0 < rounds) × IsNone final_sumcheck.entry) }
-    ensures untouched { IsNone final_sumcheck.entry → (C.history challenger.new ≡ C.history challenger.old) × (claimed_sum.new ≡ claimed_sum.old) }
-    ensures left { IfSome final_sumcheck.entry (λ given. 0 < rounds → LeavesFrom EF.number
-        (λ at. replay_of EF.ops (channel (C.rules challenger.old) EF.extension F.ops.size pow_bits)
-        EF.DEGREE (shape_of rounds pow_bits basis) (wire_in F.number EF.number given.now) at)
-        (place (C.history challenger.old) claimed_sum.old)
-        (place (C.history challenger.new) claimed_sum.new) result) }
+    ensures untouched { (rounds ≡ 0) ⊎ IsNone final_sumcheck.entry → (C.history challenger.new ≡ C.history challenger.old) × (claimed_sum.new ≡ claimed_sum.old) }
+    ensures left { IfSome final_sumcheck.entry (λ d. 0 < rounds → LeavesFrom EF.number
+        (pair_replay EF.ops (channel (C.rules challenger.old) EF.extension F.ops.size pow_bits)
+        EF.DEGREE (shape_of rounds pow_bits basis) (wire_in F.number EF.number d.now))
+        (place (C.history challenger.old) claimed_sum.old) (place (C.history challenger.new) claimed_sum.new)
+        (answer_as (map EF.number) cause_of result)) }
 {
     if rounds == 0 {
         return Ok(Point::new(Vec::new(alloc)));

@@ -1,85 +1,247 @@
-//! What every driver of rounds does with its challenger, whatever its rounds send: the steps of a round in a seed, and the driver itself, for the prover and
-//! for the verifier. The drivers of each protocol are this one, with the shape, the values and the errors of the protocol.
-ghost use Rattle.std.specs.Prelude.{◌≡◌, ◌≢◌, ◌+◌, ◌-◌, ◌*◌, ◌<◌, ◌≤◌, ◌^◌, [], ◌∷◌, ◌++◌, ℕ, List, None, Err, length, map};
-ghost use Rattle.std.specs.Prelude.{slice_index_or, IfOk, IfErr, OnOk, OnErr, IsOk, IfSome, IsSome, Some, true, false};
-ghost use Rattle.std.specs.Option.{option_map_or};
+//! The drivers of batches of rounds: one for the prover and one for the verifier, whatever the
+//! protocol. A protocol adds its shape, which tells its seed and its errors, and where its rounds
+//! send no slice, calls of its own that play them.
+ghost use Rattle.std.specs.Prelude.{◌≡◌, ℕ, ◌+◌, ◌-◌, ◌≤◌, ◌++◌, List, Option, Some, length, map, IfOk, OnOk, OnErr};
 ghost use Rattle.sc_definitions.specs.declared.events.Event.{Event};
-ghost use Rattle.sc_definitions.specs.Events.{IsFirstWitness, NonePasses};
-ghost use Rattle.sc_definitions.specs.Transcript.{sent, witness_events, round_of};
-ghost use Rattle.sc_definitions.specs.Channels.{channel};
+ghost use Rattle.sc_definitions.specs.Events.{Extension};
 ghost use Rattle.sc_definitions.specs.Seeds.{round_steps};
-ghost use Rattle.sc_transcript.specs.Rounds.{events_of, IsDue, LeavesSent, LeavesTaken};
+ghost use Rattle.sc_transcript.specs.Rounds.{HasDifficulty};
 
-use sc_challenger::{
-    Challenger, GrindError, Interaction, Kind, Label, Length, grind, observe_ext, sample_ext,
-};
+use crate::error::RoundError;
+use crate::rounds::{BatchShape, Rounds};
+use sc_challenger::{Challenger, Interaction, Kind, Label, Length};
 use sc_field::{ExtensionField, Field, NoMemory};
-use sc_table::RoundMessage;
-use thiserror::Error;
+use std::alloc::Global;
+use std::marker::PhantomData;
 
-/// The numbers that the rounds of a batch go by.
-#[derive(Clone, Copy, Debug, PartialEq, Eq)]
-pub struct BatchShape {
-    /// How many rounds the batch has.
-    pub num_rounds: usize,
-    /// How many values each of them sends.
-    pub width: usize,
-    /// The difficulty of each round's test in bits, or 0 for no test.
-    pub pow_bits: usize,
+/// The numbers that fix the transcript of a protocol's batch of rounds.
+pub trait RoundShape: Copy {
+    ghost use Rattle.sc_transcript.specs.declared.rounds.BatchShape.{BatchShape};
+
+    // The numbers that its rounds go by.
+    ghost numbers: { Self → BatchShape };
+
+    /// The numbers that its rounds go by.
+    fn batch(&self) -> BatchShape
+        ensures { result ≡ numbers self.now };
 }
 
-/// Why a round is not played, or not taken. Rounds are counted from 0.
-#[derive(Clone, Copy, Debug, PartialEq, Eq, Error)]
-pub enum RoundError {
-    /// Another number of values came than a round sends.
-    #[error("expected {expected} values in round {round}, but {actual} came")]
-    WrongWidth {
-        round: usize,
-        expected: usize,
-        actual: usize,
-    },
-    /// No element of the base field passes the test of a round that is played.
-    #[error("no witness passes in round {round}")]
-    NoWitness {
-        round: usize,
-    },
-    /// A round at a positive difficulty came without a witness.
-    #[error("round {round} came without a witness for {difficulty} bits")]
-    MissingWitness {
-        round: usize,
-        difficulty: usize,
-    },
-    /// The witness of a round that came fails its test.
-    #[error("the witness of round {round} does not pass at {difficulty} bits")]
-    InvalidWitness {
-        round: usize,
-        difficulty: usize,
-    },
-    /// A call wanted more memory than there was.
-    #[error("out of memory")]
-    NoMemory,
+/// A protocol whose rounds send a slice of values, as many as its batch is wide.
+pub trait SliceShape: RoundShape {
+    ghost use Rattle.sc_transcript.specs.declared.error.RoundError.{RoundError};
+
+    /// Why the protocol refuses a round.
+    type Error;
+
+    // The error of a driver that one of the protocol's stands for at a difficulty, if it stands for
+    // one.
+    ghost cause: { ℕ → Self.Error → Option RoundError };
+
+    /// The protocol's error for one of a driver. An error that tells a difficulty tells the
+    /// shape's.
+    fn refusal(&self, error: RoundError) -> Self::Error
+        ensures { HasDifficulty (Self.numbers self.now).pow_bits error → cause (Self.numbers self.now).pow_bits result ≡ Some error };
 }
 
-impl From<NoMemory> for RoundError {
-    ghost use Rattle.sc_transcript.specs.declared.driver.RoundError.TheVariants as errors;
+/// A protocol whose batches begin with a claimed sum, behind words that tell the batch from others.
+pub trait ClaimedShape: SliceShape {
+    // What stands before the rounds, by the parts of elements and the claimed sum.
+    ghost prelude: { Self → Extension → ℕ → List Event };
 
-    ghost from_gives = { λ _ e. e ≡ errors.NoMemory };
+    /// Absorbs what stands before the rounds. A refusal leaves the history as it was.
+    fn begin<F: Field, EF: ExtensionField<F>, C: Challenger<F>>(
+        &self,
+        alloc: Global,
+        challenger: &mut C,
+        claimed_sum: EF,
+    ) -> Result<(), NoMemory>
+        ensures rules { C.rules challenger.new ≡ C.rules challenger.old }
+        ensures ok { OnOk result (C.history challenger.new ≡ C.history challenger.old ++ prelude self.now EF.extension (EF.number claimed_sum)) }
+        ensures err { OnErr result (C.history challenger.new ≡ C.history challenger.old) }
+        ensures spare { OnOk result (C.spare challenger.old ≤ C.spare challenger.new + length (prelude self.now EF.extension (EF.number claimed_sum))) }
+        ensures spare_err { OnErr result (C.spare challenger.old ≤ C.spare challenger.new) };
+}
 
-    fn from(_error: NoMemory) -> RoundError {
-        RoundError::NoMemory
+/// The side of a batch that plays its rounds.
+pub struct ProverSide;
+
+/// The side of a batch that takes the rounds that came.
+pub struct VerifierSide;
+
+/// A side of a batch of rounds. It borrows the challenger, and must be spent by
+/// [`Transcript::finish`] or [`Transcript::abort`], which hand the challenger back as it then is.
+pub struct Transcript<'a, C: Challenger<F>, F: Field, EF, S: RoundShape, P> {
+    pub(crate) challenger: &'a mut C,
+    pub(crate) rounds: Rounds<S>,
+    of: PhantomData<(F, EF, P)>,
+    ghost tested: { rounds.shape.pow_bits ≤ (C.rules challenger.now).max_bits },
+    ghost counted: { rounds.played ≤ rounds.shape.num_rounds },
+    ghost batched: { rounds.shape ≡ S.numbers rounds.kind },
+}
+
+impl<'a, C: Challenger<F>, F: Field, EF: ExtensionField<F>, S: RoundShape, P> Transcript<
+    'a,
+    C,
+    F,
+    EF,
+    S,
+    P,
+> {
+    ghost use Rattle.sc_transcript.specs.Transcripts.{driver_in, challenger_in};
+    ghost use Rattle.sc_transcript.specs.Drivers.{IsLent, IsFresh, IsDone};
+
+    /// A batch over a challenger that has absorbed already what stands before the rounds. It cannot
+    /// fail: a caller that has to know what the refusal of a beginning leaves begins by the shape's
+    /// own call, and goes on with this one.
+    ///
+    /// The difficulty is at most the challenger's [`Challenger::max_bits`].
+    pub fn over(challenger: &'a mut C, shape: S) -> Self
+        requires { (S.numbers shape).pow_bits ≤ (C.rules challenger.old).max_bits }
+        ensures lent { IsLent challenger.entry (challenger_in result) }
+        ensures fresh { IsFresh (S.numbers shape) shape (driver_in result) }
+    {
+        Transcript {
+            challenger,
+            rounds: Rounds::new(shape.batch(), shape),
+            of: PhantomData,
+        }
+    }
+
+    /// The numbers that the batch was begun with.
+    pub fn shape(&self) -> S
+        ensures shape { result ≡ (driver_in self.now).kind }
+        ensures numbers { S.numbers result ≡ (driver_in self.now).shape }
+    {
+        self.rounds.kind()
+    }
+
+    /// How many rounds are still to be played.
+    pub fn rounds_left(&self) -> usize
+        ensures { result ≡ (driver_in self.now).shape.num_rounds - (driver_in self.now).played }
+    {
+        self.rounds.left()
+    }
+
+    /// Ends a batch of which every round was played. The challenger stays as it is.
+    pub fn finish(self)
+        requires { IsDone (driver_in self) }
+        ensures { self.exit.0.now ≡ (challenger_in self.entry).now }
+    {
+        let Transcript {
+            challenger: _,
+            rounds: _,
+            of: _,
+        } = self;
+    }
+
+    /// Ends a batch that is broken off. The challenger stays as it is.
+    pub fn abort(self)
+        ensures { self.exit.0.now ≡ (challenger_in self.entry).now }
+    {
+        let Transcript {
+            challenger: _,
+            rounds: _,
+            of: _,
+        } = self;
     }
 }
 
-// Why the witness of a round is not taken.
-#[derive(Clone, Copy)]
-enum WitnessError {
-    // The round has a test, and no witness came.
-    Missing,
-    // The witness fails the round's test.
-    Invalid,
+impl<'a, C: Challenger<F>, F: Field, EF: ExtensionField<F>, S: ClaimedShape, P> Transcript<
+    'a,
+    C,
+    F,
+    EF,
+    S,
+    P,
+> {
+    ghost use Rattle.sc_transcript.specs.Transcripts.{driver_in, unbegun};
+    ghost use Rattle.sc_transcript.specs.Drivers.{IsBegun};
+
+    /// Begins a batch: what stands before the rounds is absorbed. No more of the challenger's room
+    /// is taken than that needs. Its contract says nothing of the challenger after `NoMemory`,
+    /// since that is gone with the borrow: [`ClaimedShape::begin`] and then [`Transcript::over`]
+    /// say all.
+    ///
+    /// The difficulty is at most the challenger's [`Challenger::max_bits`].
+    pub fn new(
+        alloc: Global,
+        challenger: &'a mut C,
+        shape: S,
+        claimed_sum: EF,
+    ) -> Result<Self, NoMemory>
+        requires { (S.numbers shape).pow_bits ≤ (C.rules challenger.old).max_bits }
+        ensures { IfOk result (λ t. IsBegun (S.prelude shape EF.extension (EF.number claimed_sum)) (unbegun t challenger.entry shape) (driver_in t)) }
+    {
+        shape.begin::<F, EF, C>(alloc, challenger, claimed_sum)?;
+        Ok(Transcript::over(challenger, shape))
+    }
 }
 
-/// Appends the steps of a round that sends so many values of an extension of a degree: the values, at a positive difficulty the witness, and the challenge.
+impl<'a, C: Challenger<F>, F: Field, EF: ExtensionField<F>, S: SliceShape> Transcript<
+    'a,
+    C,
+    F,
+    EF,
+    S,
+    ProverSide,
+> {
+    ghost use Rattle.sc_transcript.specs.Transcripts.{driver_in};
+    ghost use Rattle.sc_transcript.specs.Drivers.{HasRoundLeft, answer_as, PlaysOrRefuses};
+
+    /// Plays a round: absorbs the values, as many as the batch is wide, at a positive difficulty
+    /// appends the first witness that passes and its test, and draws the challenge.
+    ///
+    /// `NoWitness` comes exactly where the difficulty is positive and no element of the base field
+    /// passes; the history then ends with the values. After `NoMemory` the history is as it was.
+    /// After either the round is still to be played, and the driver is spent by
+    /// [`Transcript::abort`].
+    pub fn round(&mut self, evals: &[EF]) -> Result<(EF, Option<F>), S::Error>
+        requires left { HasRoundLeft (driver_in self.old) }
+        requires width { length evals.now ≡ (driver_in self.old).shape.width }
+        ensures { PlaysOrRefuses F.number EF.extension (driver_in self.old) (driver_in self.new) (map EF.number evals.now)
+            (answer_as (λ x. (EF.number x.0, x.1)) (S.cause (driver_in self.old).shape.pow_bits) result) }
+    {
+        match self.rounds.play(self.challenger, &evals) {
+            Ok(sent) => Ok(sent),
+            Err(error) => Err(self.shape().refusal(error)),
+        }
+    }
+}
+
+impl<'a, C: Challenger<F>, F: Field, EF: ExtensionField<F>, S: SliceShape> Transcript<
+    'a,
+    C,
+    F,
+    EF,
+    S,
+    VerifierSide,
+> {
+    ghost use Rattle.sc_transcript.specs.Transcripts.{driver_in};
+    ghost use Rattle.sc_transcript.specs.Drivers.{HasRoundLeft, answer_as, TakesOrRejects};
+
+    /// Takes a round: absorbs the values, at a positive difficulty tests the witness, and draws the
+    /// challenge. At difficulty 0 a witness is ignored.
+    ///
+    /// An error of `WrongWidth` comes exactly where there are more or fewer values than the batch
+    /// is wide, before any event, and leaves the history as it was. One of `MissingWitness` comes
+    /// exactly where the difficulty is positive and no witness came; the history then ends with the
+    /// values. One of `InvalidWitness` comes exactly where the witness fails; the history then ends
+    /// with its word and its test. After `NoMemory` the history is as it was. After each of them
+    /// the round is still to be taken, and the driver is spent by [`Transcript::abort`].
+    pub fn round(&mut self, evals: &[EF], witness: Option<F>) -> Result<EF, S::Error>
+        requires { HasRoundLeft (driver_in self.old) }
+        ensures { TakesOrRejects F.number EF.extension (driver_in self.old) (driver_in self.new) (map EF.number evals.now) witness
+            (answer_as EF.number (S.cause (driver_in self.old).shape.pow_bits) result) }
+    {
+        match self.rounds.take(self.challenger, &evals, witness) {
+            Ok(challenge) => Ok(challenge),
+            Err(error) => Err(self.shape().refusal(error)),
+        }
+    }
+}
+
+/// Appends the steps of a round that sends so many values of an extension of a degree: the values,
+/// at a positive difficulty the witness, and the challenge.
 pub fn push_round_steps(
     steps: &mut Vec<Interaction>,
     degree: usize,
@@ -109,365 +271,4 @@ pub fn push_round_steps(
         label: Label::RoundChallenge,
     })?;
     Ok(())
-}
-
-/// What a round sends, as its driver reads it: several values in order.
-pub trait RoundValues<EF: Field> {
-    // The values.
-    ghost list: { Self → List EF };
-
-    /// How many there are.
-    fn count(&self) -> usize
-        ensures { result ≡ length (list self.now) };
-
-    /// One of them.
-    fn at(&self, i: usize) -> EF
-        requires { i < length (list self.now) }
-        ensures { result ≡ slice_index_or (list self.now) i result };
-}
-
-impl<EF: Field> RoundValues<EF> for &[EF] {
-    ghost list = { λ s. s.now };
-
-    fn count(&self) -> usize {
-        self.len()
-    }
-
-    fn at(&self, i: usize) -> EF {
-        self[i]
-    }
-}
-
-impl<EF: Field> RoundValues<EF> for RoundMessage<EF> {
-    ghost list = { λ m. m.c_a ∷ m.c_inf ∷ [] };
-
-    fn count(&self) -> usize {
-        2
-    }
-
-    fn at(&self, i: usize) -> EF {
-        if i == 0 { self.c_a } else { self.c_inf }
-    }
-}
-
-/// The rounds of a batch under way, which a driver holds beside its challenger: the batch's numbers, what the protocol keeps with them as its kind, and how
-/// many rounds were played. They are played over the challenger that is passed, of which the difficulty is at most its [`Challenger::max_bits`].
-#[derive(Clone, Copy)]
-pub struct Rounds<K> {
-    shape: BatchShape,
-    kind: K,
-    // how many were played
-    played: usize,
-}
-
-impl<K: Copy> Rounds<K> {
-    ghost use Rattle.sc_transcript.specs.Drivers.{driver_at, IsUnplayed, Continues, PlaysRound, RefusesRound, TakesRound, RejectsRound, HasRoom, TakesRoom};
-
-    /// Those of a batch of which none was played.
-    pub fn new(shape: BatchShape, kind: K) -> Self
-        ensures { IsUnplayed shape kind result }
-    {
-        Rounds {
-            shape,
-            kind,
-            played: 0,
-        }
-    }
-
-    /// Plays a round: absorbs the values, at a positive difficulty appends the first witness that passes and its test, and draws the challenge.
-    ///
-    /// `NoWitness` comes exactly where the difficulty is positive and no element of the base field passes; the history then ends with the values. After
-    /// `NoMemory` the history is as it was. After either the round is still to be played. Of fewer than 2^32 values a round, `NoMemory` comes only where
-    /// the challenger has no room for its events.
-    pub fn play<F: Field, EF: ExtensionField<F>, C: Challenger<F>, V: RoundValues<EF>>(
-        &mut self,
-        challenger: &mut C,
-        values: &V,
-    ) -> Result<(EF, Option<F>), RoundError>
-        requires difficulty { self.old.shape.pow_bits ≤ (C.rules challenger.old).max_bits }
-        requires left { self.old.played < self.old.shape.num_rounds }
-        requires width { length (V.list values.now) ≡ self.old.shape.width }
-        ensures continues { Continues (driver_at C.rules C.history C.spare F.ops.size challenger.entry self.old)
-            (driver_at C.rules C.history C.spare F.ops.size challenger.exit self.new) }
-        ensures plays { IfOk result (λ x. PlaysRound EF.extension (driver_at C.rules C.history C.spare F.ops.size challenger.entry self.old)
-            (driver_at C.rules C.history C.spare F.ops.size challenger.exit self.new)
-            (round_of (map EF.number (V.list values.now)) (option_map_or F.number x.1 0)) (EF.number x.0)) }
-        ensures due { IfOk result (λ x. IsDue self.old.shape.pow_bits x.1) }
-        ensures refused { IfErr result (λ e. RefusesRound EF.extension (driver_at C.rules C.history C.spare F.ops.size challenger.entry self.old)
-            (driver_at C.rules C.history C.spare F.ops.size challenger.exit self.new) (map EF.number (V.list values.now)) (Some e)) }
-        ensures has_room { self.old.shape.width < 2 ^ 32 → HasRoom EF.DEGREE (driver_at C.rules C.history C.spare F.ops.size challenger.entry self.old)
-            → result ≢ Err RoundError.NoMemory }
-        ensures takes_room { OnOk result (TakesRoom EF.DEGREE (driver_at C.rules C.history C.spare F.ops.size challenger.entry self.old)
-            (driver_at C.rules C.history C.spare F.ops.size challenger.exit self.new)) }
-    {
-        prove!(self.played < self.shape.num_rounds);
-        let pow_bits = self.shape.pow_bits;
-        make_room::<F, EF, C>(challenger, self.shape.width, pow_bits)?;
-        observe_values::<F, EF, C, V>(challenger, values);
-        let Some(sent) = send_rest::<F, EF, C>(challenger, pow_bits) else {
-            return Err(RoundError::NoWitness { round: self.played });
-        };
-        self.played += 1;
-        Ok(sent)
-    }
-
-    /// Takes a round that came: absorbs the values, at a positive difficulty tests the witness, and draws the challenge. At difficulty 0 a witness is
-    /// ignored.
-    ///
-    /// `WrongWidth` comes exactly where there are more or fewer values than a round sends, before any event, and leaves the history as it was.
-    /// `MissingWitness` comes exactly where the difficulty is positive and no witness came; the history then ends with the values. `InvalidWitness`
-    /// comes exactly where the witness fails; the history then ends with its word and its test. After `NoMemory`, which comes as it does from
-    /// [`Rounds::play`], the history is as it was. After each of them the round is still to be taken.
-    pub fn take<F: Field, EF: ExtensionField<F>, C: Challenger<F>, V: RoundValues<EF>>(
-        &mut self,
-        challenger: &mut C,
-        values: &V,
-        witness: Option<F>,
-    ) -> Result<EF, RoundError>
-        requires difficulty { self.old.shape.pow_bits ≤ (C.rules challenger.old).max_bits }
-        requires left { self.old.played < self.old.shape.num_rounds }
-        ensures continues { Continues (driver_at C.rules C.history C.spare F.ops.size challenger.entry self.old)
-            (driver_at C.rules C.history C.spare F.ops.size challenger.exit self.new) }
-        ensures takes { IfOk result (λ x. TakesRound EF.extension (driver_at C.rules C.history C.spare F.ops.size challenger.entry self.old)
-            (driver_at C.rules C.history C.spare F.ops.size challenger.exit self.new)
-            (round_of (map EF.number (V.list values.now)) (option_map_or F.number witness 0)) (EF.number x)) }
-        ensures given { OnOk result (0 < self.old.shape.pow_bits → IsSome witness) }
-        ensures rejected { IfErr result (λ e. RejectsRound EF.extension (driver_at C.rules C.history C.spare F.ops.size challenger.entry self.old)
-            (driver_at C.rules C.history C.spare F.ops.size challenger.exit self.new)
-            (round_of (map EF.number (V.list values.now)) (option_map_or F.number witness 0)) witness (Some e)) }
-        ensures has_room { self.old.shape.width < 2 ^ 32 → HasRoom EF.DEGREE (driver_at C.rules C.history C.spare F.ops.size challenger.entry self.old)
-            → result ≢ Err RoundError.NoMemory }
-        ensures takes_room { OnOk result (TakesRoom EF.DEGREE (driver_at C.rules C.history C.spare F.ops.size challenger.entry self.old)
-            (driver_at C.rules C.history C.spare F.ops.size challenger.exit self.new)) }
-    {
-        prove!(self.played < self.shape.num_rounds);
-        let round = self.played;
-        let BatchShape {
-            num_rounds: _,
-            width,
-            pow_bits,
-        } = self.shape;
-        if values.count() != width {
-            return Err(RoundError::WrongWidth {
-                round,
-                expected: width,
-                actual: values.count(),
-            });
-        }
-        make_room::<F, EF, C>(challenger, width, pow_bits)?;
-        observe_values::<F, EF, C, V>(challenger, values);
-        match take_rest::<F, EF, C>(challenger, witness, pow_bits) {
-            Ok(challenge) => {
-                self.played += 1;
-                Ok(challenge)
-            }
-            Err(WitnessError::Missing) => Err(RoundError::MissingWitness {
-                round,
-                difficulty: pow_bits,
-            }),
-            Err(WitnessError::Invalid) => Err(RoundError::InvalidWitness {
-                round,
-                difficulty: pow_bits,
-            }),
-        }
-    }
-
-    /// The numbers of the batch.
-    pub fn shape(&self) -> BatchShape
-        ensures { result ≡ self.now.shape }
-    {
-        self.shape
-    }
-
-    /// What the protocol keeps with the batch.
-    pub fn kind(&self) -> K
-        ensures { result ≡ self.now.kind }
-    {
-        self.kind
-    }
-
-    /// How many rounds are still to be played.
-    pub fn left(&self) -> usize
-        requires { self.now.played ≤ self.now.shape.num_rounds }
-        ensures { result ≡ self.now.shape.num_rounds - self.now.played }
-    {
-        self.shape.num_rounds - self.played
-    }
-}
-
-// Makes room for the events of a round that sends so many values. More events than can be counted are never asked for.
-fn make_room<F: Field, EF: ExtensionField<F>, C: Challenger<F>>(
-    challenger: &mut C,
-    values: usize,
-    pow_bits: usize,
-) -> Result<(), NoMemory>
-    ensures rules { C.rules challenger.new ≡ C.rules challenger.old }
-    ensures history { C.history challenger.new ≡ C.history challenger.old }
-    ensures ok { OnOk result (events_of EF.DEGREE values pow_bits ≤ C.spare challenger.new) }
-    ensures never_lowers { C.spare challenger.old ≤ C.spare challenger.new }
-    ensures has_room { values < 2 ^ 32 → events_of EF.DEGREE values pow_bits ≤ C.spare challenger.old → IsOk result }
-{
-    let Some(events) = events_in_round(EF::DEGREE, values, pow_bits) else {
-        return Err(NoMemory);
-    };
-    challenger.reserve(events)
-}
-
-// How many events a round appends that sends so many values of an extension of a degree, where a `usize` holds that many: it does for fewer than 2^32
-// values of a degree of at most 8.
-fn events_in_round(degree: usize, values: usize, pow_bits: usize) -> Option<usize>
-    ensures number { IfSome result (λ n. n ≡ events_of degree values pow_bits) }
-    ensures some { degree ≤ 8 → values < 2 ^ 32 → IsSome result }
-{
-    let words = values.checked_add(1)?.checked_mul(degree)?;
-    if pow_bits == 0 {
-        Some(words)
-    } else {
-        words.checked_add(2)
-    }
-}
-
-// Absorbs values in order, each part after part. There is room for them, and no more is taken.
-fn observe_values<F: Field, EF: ExtensionField<F>, C: Challenger<F>, V: RoundValues<EF>>(
-    challenger: &mut C,
-    values: &V,
-)
-    requires { length (V.list values.now) * EF.DEGREE ≤ C.spare challenger.old }
-    ensures rules { C.rules challenger.new ≡ C.rules challenger.old }
-    ensures history { C.history challenger.new
-        ≡ C.history challenger.old ++ sent EF.extension (map EF.number (V.list values.now)) }
-    ensures spare { C.spare challenger.old
-        ≤ C.spare challenger.new + length (V.list values.now) * EF.DEGREE }
-{
-    for i in 0..values.count() {
-        observe_ext::<F, EF, C>(challenger, values.at(i)).unwrap();
-    }
-}
-
-// Ends a round whose values were absorbed: at a positive difficulty appends the first witness that passes and its test, and draws the challenge. There is
-// room for these events, and no more is taken. The difficulty is at most the challenger's `max_bits`.
-//
-// The answer is the challenge and the witness, or none exactly where the difficulty is positive and no element of the base field passes; the history
-// then ends with the values.
-fn send_rest<F: Field, EF: ExtensionField<F>, C: Challenger<F>>(
-    challenger: &mut C,
-    pow_bits: usize,
-) -> Option<(EF, Option<F>)>
-    requires difficulty { pow_bits ≤ (C.rules challenger.old).max_bits }
-    requires room { EF.DEGREE + length (witness_events pow_bits 0) ≤ C.spare challenger.old }
-    ensures rules { C.rules challenger.new ≡ C.rules challenger.old }
-    ensures sent { (h : List Event) (values : List ℕ) → C.history challenger.old ≡ h ++ sent EF.extension values
-        → LeavesSent F.number EF.number (channel (C.rules challenger.old) EF.extension F.ops.size pow_bits) h values result (C.history challenger.new) }
-    ensures spare { IsSome result → C.spare challenger.old ≤ C.spare challenger.new + (EF.DEGREE + length (witness_events pow_bits 0)) }
-{
-    let Ok(witness) = append_witness::<F, C>(challenger, pow_bits) else {
-        return None;
-    };
-    let challenge = sample_ext::<F, EF, C>(challenger).unwrap();
-    Some((challenge, witness))
-}
-
-// Ends a round that came and whose values were absorbed: at a positive difficulty tests the witness, and draws the challenge. At difficulty 0 a witness is
-// ignored. There is room for these events, and no more is taken. The difficulty is at most the challenger's `max_bits`.
-//
-// `Missing` comes exactly where the difficulty is positive and no witness came; the history then ends with the values. `Invalid` comes exactly where the
-// witness fails; the history then ends with its word and its test.
-fn take_rest<F: Field, EF: ExtensionField<F>, C: Challenger<F>>(
-    challenger: &mut C,
-    witness: Option<F>,
-    pow_bits: usize,
-) -> Result<EF, WitnessError>
-    requires difficulty { pow_bits ≤ (C.rules challenger.old).max_bits }
-    requires room { EF.DEGREE + length (witness_events pow_bits 0) ≤ C.spare challenger.old }
-    ensures rules { C.rules challenger.new ≡ C.rules challenger.old }
-    ensures taken { (h : List Event) (values : List ℕ) → C.history challenger.old ≡ h ++ sent EF.extension values
-        → LeavesTaken EF.number (channel (C.rules challenger.old) EF.extension F.ops.size pow_bits) h
-        (round_of values (option_map_or F.number witness 0)) witness result (C.history challenger.new) }
-    ensures spare { C.spare challenger.old ≤ C.spare challenger.new + (EF.DEGREE + length (witness_events pow_bits 0)) }
-{
-    match test_witness::<F, C>(challenger, pow_bits, witness) {
-        Tested::Passes => {}
-        Tested::Missing => return Err(WitnessError::Missing),
-        Tested::Fails => return Err(WitnessError::Invalid),
-    }
-    let challenge = sample_ext::<F, EF, C>(challenger).unwrap();
-    Ok(challenge)
-}
-
-// At a positive difficulty the first witness that passes, appended with its test; at difficulty 0 no witness. There is room for both events.
-fn append_witness<F: Field, C: Challenger<F>>(
-    challenger: &mut C,
-    pow_bits: usize,
-) -> Result<Option<F>, GrindError>
-    requires at_most { pow_bits ≤ (C.rules challenger.old).max_bits }
-    requires room { 0 < pow_bits → 2 ≤ C.spare challenger.old }
-    ensures rules { C.rules challenger.new ≡ C.rules challenger.old }
-    ensures history { IfOk result (λ w. C.history challenger.new ≡ C.history challenger.old ++ witness_events pow_bits (option_map_or F.number w 0)) }
-    ensures first { IfOk result (λ w. 0 < pow_bits → IsFirstWitness (C.rules challenger.old) (C.history challenger.old) pow_bits (option_map_or F.number w 0)) }
-    ensures some { IfOk result (λ w. 0 < pow_bits → IsSome w) }
-    ensures none { IfOk result (λ w. pow_bits ≡ 0 → w ≡ None) }
-    ensures positive { OnErr result (0 < pow_bits) }
-    ensures none_passes { OnErr result (NonePasses (C.rules challenger.old) (C.history challenger.old) pow_bits F.ops.size) }
-    ensures err { OnErr result (C.history challenger.new ≡ C.history challenger.old) }
-    ensures spare { OnOk result (C.spare challenger.old ≤ C.spare challenger.new + length (witness_events pow_bits 0)) }
-{
-    if pow_bits == 0 {
-        return Ok(None);
-    }
-    let witness = grind::<F, C>(challenger, pow_bits)?;
-    Ok(Some(witness))
-}
-
-// What a witness that came is.
-#[derive(Clone, Copy)]
-enum Tested {
-    // It passes, or there is no difficulty.
-    Passes,
-    // The difficulty is positive, and none came.
-    Missing,
-    // It fails.
-    Fails,
-}
-
-// At a positive difficulty tests a witness that came, and appends it with its test. There is room for both events.
-fn test_witness<F: Field, C: Challenger<F>>(
-    challenger: &mut C,
-    pow_bits: usize,
-    witness: Option<F>,
-) -> Tested
-    requires at_most { pow_bits ≤ (C.rules challenger.old).max_bits }
-    requires room { 0 < pow_bits → 2 ≤ C.spare challenger.old }
-    ensures rules { C.rules challenger.new ≡ C.rules challenger.old }
-    ensures missing { result ≡ Tested.Missing → (0 < pow_bits) × (witness ≡ None) × (C.history challenger.new ≡ C.history challenger.old) }
-    ensures passes { result ≡ Tested.Passes → 0 < pow_bits → (C.rules challenger.old).passes (C.history challenger.old) pow_bits (option_map_or F.number witness 0) ≡ true }
-    ensures fails { result ≡ Tested.Fails → (0 < pow_bits) × ((C.rules challenger.old).passes (C.history challenger.old) pow_bits (option_map_or F.number witness 0) ≡ false) }
-    ensures some { (result ≡ Tested.Missing → ⊥) → 0 < pow_bits → IsSome witness }
-    ensures history { (result ≡ Tested.Missing → ⊥) → C.history challenger.new ≡ C.history challenger.old ++ witness_events pow_bits (option_map_or F.number witness 0) }
-    ensures spare { C.spare challenger.old ≤ C.spare challenger.new + length (witness_events pow_bits 0) }
-{
-    if pow_bits == 0 {
-        return Tested::Passes;
-    }
-    let Some(witness) = witness else {
-        return Tested::Missing;
-    };
-    if challenger.check_witness(pow_bits, witness).unwrap() {
-        Tested::Passes
-    } else {
-        Tested::Fails
-    }
-}
-
-/// The witness of a round, if one came.
-#[tactic(auto, using(crate::proofs::WitnessReads::reads))]
-pub fn witness_at<F: Field>(witnesses: &[F], i: usize) -> Option<F>
-    ensures number { option_map_or F.number result 0
-        ≡ slice_index_or (map F.number witnesses.now) i 0 }
-    ensures some { i < length witnesses.now → IsSome result }
-{
-    if i < witnesses.len() {
-        Some(witnesses[i])
-    } else {
-        None
-    }
 }

@@ -1,7 +1,63 @@
-//! What a sumcheck refuses.
-use crate::driver::RoundError;
+//! What rounds refuse, and what a sumcheck does.
+ghost use Rattle.std.specs.Prelude.{◌≡◌};
+
 use sc_field::NoMemory;
 use thiserror::Error;
+
+/// Why a round is not played or not taken, or why rounds that came are not replayed: what each protocol tells by an error of its own. Rounds are counted
+/// from 0.
+#[derive(Clone, Copy, Debug, PartialEq, Eq, Error)]
+pub enum RoundError {
+    /// Another number of rounds came than the batch has.
+    #[error("expected {expected} rounds, but {actual} came")]
+    RoundCount {
+        expected: usize,
+        actual: usize,
+    },
+    /// Another number of witnesses came than one a round at a positive difficulty, and none at difficulty 0.
+    #[error("expected {expected} witnesses, but {actual} came")]
+    WitnessCount {
+        expected: usize,
+        actual: usize,
+    },
+    /// Another number of values came than a round sends.
+    #[error("expected {expected} values in round {round}, but {actual} came")]
+    WrongWidth {
+        round: usize,
+        expected: usize,
+        actual: usize,
+    },
+    /// No element of the base field passes the test of a round that is played.
+    #[error("no witness passes in round {round}")]
+    NoWitness {
+        round: usize,
+    },
+    /// A round at a positive difficulty came without a witness.
+    #[error("round {round} came without a witness for {difficulty} bits")]
+    MissingWitness {
+        round: usize,
+        difficulty: usize,
+    },
+    /// The witness of a round that came fails its test.
+    #[error("the witness of round {round} does not pass at {difficulty} bits")]
+    InvalidWitness {
+        round: usize,
+        difficulty: usize,
+    },
+    /// A call wanted more memory than there was.
+    #[error("out of memory")]
+    NoMemory,
+}
+
+impl From<NoMemory> for RoundError {
+    ghost use Rattle.sc_transcript.specs.declared.error.RoundError.TheVariants as rounds;
+
+    ghost from_gives = { λ _ e. e ≡ rounds.NoMemory };
+
+    fn from(_error: NoMemory) -> RoundError {
+        RoundError::NoMemory
+    }
+}
 
 /// Why a proof or a round was refused. The texts name what was expected and what came; rounds are counted from 0.
 #[derive(Clone, Copy, Debug, PartialEq, Eq, Error)]
@@ -73,7 +129,6 @@ pub enum SumcheckError {
 }
 
 impl From<NoMemory> for SumcheckError {
-    ghost use Rattle.std.specs.Prelude.{◌≡◌};
     ghost use Rattle.sc_transcript.specs.declared.error.SumcheckError.TheVariants as errors;
 
     ghost from_gives = { λ _ e. e ≡ errors.NoMemory };
@@ -84,13 +139,18 @@ impl From<NoMemory> for SumcheckError {
 }
 
 impl From<RoundError> for SumcheckError {
-    ghost use Rattle.std.specs.Prelude.{◌≡◌};
     ghost use Rattle.sc_transcript.specs.Causes.{told_as};
 
     ghost from_gives = { λ of e. e ≡ told_as of };
 
     fn from(error: RoundError) -> SumcheckError {
         match error {
+            RoundError::RoundCount { expected, actual } => {
+                SumcheckError::RoundCountMismatch { expected, actual }
+            }
+            RoundError::WitnessCount { expected, actual } => {
+                SumcheckError::PowWitnessCountMismatch { expected, actual }
+            }
             RoundError::WrongWidth {
                 round,
                 expected,
@@ -101,14 +161,12 @@ impl From<RoundError> for SumcheckError {
                 actual,
             },
             RoundError::NoWitness { round } => SumcheckError::NoWitness { round },
-            RoundError::MissingWitness { round, difficulty } => SumcheckError::MissingPowWitness {
-                round,
-                difficulty,
-            },
-            RoundError::InvalidWitness { round, difficulty } => SumcheckError::InvalidPowWitness {
-                round,
-                difficulty,
-            },
+            RoundError::MissingWitness { round, difficulty } => {
+                SumcheckError::MissingPowWitness { round, difficulty }
+            }
+            RoundError::InvalidWitness { round, difficulty } => {
+                SumcheckError::InvalidPowWitness { round, difficulty }
+            }
             RoundError::NoMemory => SumcheckError::NoMemory,
         }
     }

@@ -9,9 +9,10 @@ pub mod driver;
 mod error;
 mod laws;
 pub mod replay;
+pub mod rounds;
 mod transcript;
 
 pub use data::{SumcheckData, verify_final_sumcheck_rounds};
-pub use error::SumcheckError;
+pub use error::{RoundError, SumcheckError};
 pub use laws::shape_laws;
 pub use transcript::{ProverTranscript, SumcheckShape, VerifierTranscript};

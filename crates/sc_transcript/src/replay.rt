@@ -1,13 +1,15 @@
-//! The replay of rounds that came, whatever they send: each is taken in its turn, and folds a claim.
-ghost use Rattle.std.specs.Prelude.{◌≡◌, ℕ, ◌<◌, ◌≤◌, [], List, Some, IsSome, length, map, vec_capacity};
+//! The replay of rounds that came, whatever they send: they are counted, and each is taken in its turn and folds a claim.
+ghost use Rattle.std.specs.Prelude.{◌≡◌, ℕ, ◌<◌, ◌≤◌, [], List, Some, IsSome, IfErr, OnOk, length, map, vec_capacity};
 ghost use Rattle.std.specs.List.{slice_get};
 ghost use Rattle.std.specs.Option.{option_map_or};
 ghost use Rattle.sc_definitions.specs.Transcript.{Round, round_of};
 ghost use Rattle.sc_definitions.specs.Channels.{channel, footing};
-ghost use Rattle.sc_transcript.specs.Counts.{witness_count};
+ghost use Rattle.sc_transcript.specs.Drivers.{answer_as};
 ghost use Rattle.sc_transcript.specs.Walks.{walk, LeavesWalk};
+ghost use Rattle.sc_transcript.specs.Replayed.{AreCounted, AreMiscounted};
 
-use crate::driver::{BatchShape, RoundError, RoundValues, Rounds};
+use crate::error::RoundError;
+use crate::rounds::{BatchShape, RoundValues, Rounds};
 use sc_challenger::Challenger;
 use sc_field::{ExtensionField, Field};
 
@@ -41,6 +43,32 @@ pub trait CameRounds<F: Field, EF: ExtensionField<F>> {
         ensures { EF.number result ≡ next self.now (EF.number claim) (map EF.number (Self.Values.list values.now)) (EF.number challenge) };
 }
 
+/// Whether as many rounds came as a batch has, else `RoundCount`, and as many witnesses as its difficulty asks for, one a round or none, else
+/// `WitnessCount`.
+pub fn check_counts(shape: BatchShape, rounds: usize, witnesses: usize) -> Result<(), RoundError>
+    ensures ok { OnOk result (AreCounted shape rounds witnesses) }
+    ensures err { IfErr result (AreMiscounted shape rounds witnesses) }
+{
+    if rounds != shape.num_rounds {
+        return Err(RoundError::RoundCount {
+            expected: shape.num_rounds,
+            actual: rounds,
+        });
+    }
+    let expected = if shape.pow_bits == 0 {
+        0
+    } else {
+        shape.num_rounds
+    };
+    if witnesses != expected {
+        return Err(RoundError::WitnessCount {
+            expected,
+            actual: witnesses,
+        });
+    }
+    Ok(())
+}
+
 /// Replays rounds, as many as the shape has and with as many witnesses as its difficulty asks for, which is at most the challenger's
 /// [`Challenger::max_bits`]: answers their challenges in drawing order, and folds the claim once for each. There is room for the challenges.
 ///
@@ -55,16 +83,14 @@ pub fn replay<F: Field, EF: ExtensionField<F>, C: Challenger<F>, R: CameRounds<F
     mut challenges: Vec<EF>,
 ) -> Result<Vec<EF>, RoundError>
     requires tested { shape.pow_bits ≤ (C.rules challenger.old).max_bits }
-    requires counted { length (R.rounds came.now) ≡ shape.num_rounds }
-    requires witnessed { R.witnesses came.now ≡ witness_count shape.pow_bits shape.num_rounds }
+    requires counted { AreCounted shape (length (R.rounds came.now)) (R.witnesses came.now) }
     requires wide { R.width came.now ≡ shape.width }
     requires empty { challenges.items ≡ [] }
     requires room { shape.num_rounds ≤ vec_capacity challenges }
     ensures rules { C.rules challenger.new ≡ C.rules challenger.old }
-    ensures leaves { LeavesWalk (λ out. map EF.number out.items)
-        (walk (R.next came.now) (channel (C.rules challenger.old) EF.extension F.ops.size shape.pow_bits) shape.width
+    ensures leaves { LeavesWalk (walk (R.next came.now) (channel (C.rules challenger.old) EF.extension F.ops.size shape.pow_bits) shape.width
         (footing (C.history challenger.old) (EF.number claim.old)) (R.rounds came.now))
-        result (footing (C.history challenger.new) (EF.number claim.new)) }
+        (answer_as (λ out. map EF.number out.items) (λ e. Some e) result) (footing (C.history challenger.new) (EF.number claim.new)) }
 {
     let mut rounds = Rounds::new(shape, ());
     'rounds: for i in 0..shape.num_rounds {

@@ -1,23 +1,20 @@
-//! The transcript of a batch of rounds, for the prover and for the verifier.
+//! The transcript of a batch of quadratic rounds, for the prover and for the verifier.
 //!
 //! A batch begins with a seed, which tells its protocol, its number of rounds, its difficulty and its basis from others. Each round then absorbs the
 //! two values that it sends, at a positive difficulty a witness with its test, and draws a challenge. A batch of no rounds absorbs and draws nothing.
-ghost use Rattle.std.specs.Prelude.{◌≡◌, ◌≢◌, ◌+◌, ◌-◌, ◌<◌, ◌≤◌, [], ◌∷◌, ◌++◌, Err, length, IfOk, IfErr, OnOk, OnErr, IsSome};
-ghost use Rattle.std.specs.Option.{option_map_or};
+ghost use Rattle.std.specs.Prelude.{◌≡◌, ◌+◌, ◌≤◌, [], ◌∷◌, ◌++◌, length, IfOk, OnOk, OnErr};
 ghost use Rattle.sc_definitions.specs.Events.{words};
 ghost use Rattle.sc_definitions.specs.Seeds.{basis_byte, quadratic_separator, rounds_steps};
 ghost use Rattle.sc_table.specs.Strategy.{basis_of};
-ghost use Rattle.sc_transcript.specs.Shapes.{seed_of, pair_round, batch_of};
-ghost use Rattle.sc_transcript.specs.Rounds.{IsDue};
-ghost use Rattle.sc_transcript.specs.Causes.{cause_of};
+ghost use Rattle.sc_transcript.specs.Shapes.{seed_of, batch_of};
 
-use crate::driver::{BatchShape, Rounds, push_round_steps};
+use crate::driver::{ProverSide, RoundShape, Transcript, VerifierSide, push_round_steps};
 use crate::error::SumcheckError;
+use crate::rounds::BatchShape;
 use sc_challenger::{Challenger, DomainSeparator, InteractionPattern, Protocol};
 use sc_field::{ExtensionField, Field, NoMemory};
 use sc_table::{Basis, RoundMessage};
 use std::alloc::Global;
-use std::marker::PhantomData;
 
 // The version of the seed's format.
 const VERSION: u8 = 1;
@@ -45,17 +42,6 @@ impl SumcheckShape {
             num_rounds,
             pow_bits,
             basis,
-        }
-    }
-
-    // The numbers of its batch.
-    pub(crate) fn batch(&self) -> BatchShape
-        ensures { result ≡ batch_of self.now }
-    {
-        BatchShape {
-            num_rounds: self.num_rounds,
-            width: VALUES_PER_ROUND,
-            pow_bits: self.pow_bits,
         }
     }
 
@@ -109,6 +95,18 @@ impl SumcheckShape {
     }
 }
 
+impl RoundShape for SumcheckShape {
+    ghost numbers = { batch_of };
+
+    fn batch(&self) -> BatchShape {
+        BatchShape {
+            num_rounds: self.num_rounds,
+            width: VALUES_PER_ROUND,
+            pow_bits: self.pow_bits,
+        }
+    }
+}
+
 // The byte that a basis has in the seed.
 fn basis_label(basis: Basis) -> u8
     ensures { result ≡ basis_byte (basis_of basis) }
@@ -119,22 +117,25 @@ fn basis_label(basis: Basis) -> u8
     }
 }
 
-/// The prover's side of a batch. It borrows the challenger, and must be spent by [`ProverTranscript::finish`] or [`ProverTranscript::abort`], which hand
-/// the challenger back as it then is.
-pub struct ProverTranscript<'a, C: Challenger<F>, F: Field, EF> {
-    challenger: &'a mut C,
-    rounds: Rounds<Basis>,
-    of: PhantomData<(F, EF)>,
-    ghost tested: { rounds.shape.pow_bits ≤ (C.rules challenger.now).max_bits },
-    ghost counted: { rounds.played ≤ rounds.shape.num_rounds },
-    ghost pairs: { rounds.shape.width ≡ 2 },
-}
+/// The prover's side of a batch of quadratic rounds.
+pub type ProverTranscript<'a, C, F, EF> = Transcript<'a, C, F, EF, SumcheckShape, ProverSide>;
 
-impl<'a, C: Challenger<F>, F: Field, EF: ExtensionField<F>> ProverTranscript<'a, C, F, EF> {
-    ghost use Rattle.sc_transcript.specs.Transcripts.{driver_in, challenger_in, unbegun, shape_in};
-    ghost use Rattle.sc_transcript.specs.Drivers.{Continues, IsLent, IsFresh, IsBegun, HasRoundLeft, IsDone, PlaysRound, RefusesRound, HasRoom, TakesRoom};
+/// The verifier's side of a batch of quadratic rounds.
+pub type VerifierTranscript<'a, C, F, EF> = Transcript<'a, C, F, EF, SumcheckShape, VerifierSide>;
 
-    /// Begins a batch: the seed's words are observed, or nothing for no rounds. No more of the challenger's room is taken than they need.
+impl<'a, C: Challenger<F>, F: Field, EF: ExtensionField<F>, P> Transcript<
+    'a,
+    C,
+    F,
+    EF,
+    SumcheckShape,
+    P,
+> {
+    ghost use Rattle.sc_transcript.specs.Transcripts.{driver_in, unbegun};
+    ghost use Rattle.sc_transcript.specs.Drivers.{IsBegun};
+
+    /// Begins a batch: the seed's words are observed, or nothing for no rounds. No more of the challenger's room is taken than they need. Its contract says
+    /// nothing of the challenger after `NoMemory`, since that is gone with the borrow: [`SumcheckShape::seed`] and then [`Transcript::over`] say all.
     ///
     /// The difficulty is at most the challenger's [`Challenger::max_bits`].
     pub fn new(alloc: Global, challenger: &'a mut C, shape: SumcheckShape) -> Result<Self, NoMemory>
@@ -142,187 +143,63 @@ impl<'a, C: Challenger<F>, F: Field, EF: ExtensionField<F>> ProverTranscript<'a,
         ensures { IfOk result (λ t. IsBegun (words (seed_of EF.DEGREE shape)) (unbegun t challenger.entry shape) (driver_in t)) }
     {
         shape.seed::<F, EF, C>(alloc, challenger)?;
-        Ok(ProverTranscript::over(challenger, shape))
+        Ok(Transcript::over(challenger, shape))
     }
+}
 
-    /// A batch over a challenger that has observed the seed already, by [`SumcheckShape::seed`]. It cannot fail: a caller that has to know what a refused
-    /// seed leaves calls the two one after the other.
-    pub fn over(challenger: &'a mut C, shape: SumcheckShape) -> Self
-        requires { shape.pow_bits ≤ (C.rules challenger.old).max_bits }
-        ensures lent { IsLent challenger.entry (challenger_in result) }
-        ensures fresh { IsFresh (batch_of shape) shape.basis (driver_in result) }
-    {
-        ProverTranscript {
-            challenger,
-            rounds: Rounds::new(shape.batch(), shape.basis),
-            of: PhantomData,
-        }
-    }
+impl<'a, C: Challenger<F>, F: Field, EF: ExtensionField<F>> Transcript<
+    'a,
+    C,
+    F,
+    EF,
+    SumcheckShape,
+    ProverSide,
+> {
+    ghost use Rattle.sc_transcript.specs.Causes.{cause_of};
+    ghost use Rattle.sc_transcript.specs.Transcripts.{driver_in};
+    ghost use Rattle.sc_transcript.specs.Drivers.{HasRoundLeft, answer_as, PlaysOrRefuses};
 
     /// Plays a round: absorbs the two values, at a positive difficulty appends the first witness that passes and its test, and draws the challenge.
     ///
     /// `NoWitness` comes exactly where the difficulty is positive and no element of the base field passes; the history then ends with the two values.
-    /// After `NoMemory` the history is as it was. After either the round is still to be played, and the driver is spent by [`ProverTranscript::abort`].
+    /// After `NoMemory` the history is as it was. After either the round is still to be played, and the driver is spent by [`Transcript::abort`].
     pub fn round(&mut self, c_a: EF, c_inf: EF) -> Result<(EF, Option<F>), SumcheckError>
         requires { HasRoundLeft (driver_in self.old) }
-        ensures continues { Continues (driver_in self.old) (driver_in self.new) }
-        ensures plays { IfOk result (λ x. PlaysRound EF.extension (driver_in self.old) (driver_in self.new)
-            (pair_round (EF.number c_a) (EF.number c_inf) (option_map_or F.number x.1 0)) (EF.number x.0)) }
-        ensures due { IfOk result (λ x. IsDue (driver_in self.old).shape.pow_bits x.1) }
-        ensures refused { IfErr result (λ e. RefusesRound EF.extension (driver_in self.old) (driver_in self.new) (EF.number c_a ∷ EF.number c_inf ∷ []) (cause_of e)) }
-        ensures has_room { HasRoom EF.DEGREE (driver_in self.old) → result ≢ Err SumcheckError.NoMemory }
-        ensures takes_room { OnOk result (TakesRoom EF.DEGREE (driver_in self.old) (driver_in self.new)) }
+        ensures { PlaysOrRefuses F.number EF.extension (driver_in self.old) (driver_in self.new) (EF.number c_a ∷ EF.number c_inf ∷ [])
+            (answer_as (λ x. (EF.number x.0, x.1)) cause_of result) }
     {
         Ok(
             self.rounds
                 .play(self.challenger, &RoundMessage { c_a, c_inf })?,
         )
     }
-
-    /// The numbers that the batch was begun with.
-    pub fn shape(&self) -> SumcheckShape
-        ensures { result ≡ shape_in (driver_in self.now) }
-    {
-        let batch = self.rounds.shape();
-        SumcheckShape {
-            num_rounds: batch.num_rounds,
-            pow_bits: batch.pow_bits,
-            basis: self.rounds.kind(),
-        }
-    }
-
-    /// How many rounds are still to be played.
-    pub fn rounds_left(&self) -> usize
-        ensures { result ≡ (driver_in self.now).shape.num_rounds - (driver_in self.now).played }
-    {
-        self.rounds.left()
-    }
-
-    /// Ends a batch of which every round was played. The challenger stays as it is.
-    pub fn finish(self)
-        requires { IsDone (driver_in self) }
-        ensures { self.exit.0.now ≡ (challenger_in self.entry).now }
-    {
-        let ProverTranscript {
-            challenger: _,
-            rounds: _,
-            of: _,
-        } = self;
-    }
-
-    /// Ends a batch that is broken off. The challenger stays as it is.
-    pub fn abort(self)
-        ensures { self.exit.0.now ≡ (challenger_in self.entry).now }
-    {
-        let ProverTranscript {
-            challenger: _,
-            rounds: _,
-            of: _,
-        } = self;
-    }
 }
 
-/// The verifier's side of a batch. It borrows the challenger, and must be spent by [`VerifierTranscript::finish`] or [`VerifierTranscript::abort`],
-/// which hand the challenger back as it then is.
-pub struct VerifierTranscript<'a, C: Challenger<F>, F: Field, EF> {
-    challenger: &'a mut C,
-    rounds: Rounds<Basis>,
-    of: PhantomData<(F, EF)>,
-    ghost tested: { rounds.shape.pow_bits ≤ (C.rules challenger.now).max_bits },
-    ghost counted: { rounds.played ≤ rounds.shape.num_rounds },
-    ghost pairs: { rounds.shape.width ≡ 2 },
-}
+impl<'a, C: Challenger<F>, F: Field, EF: ExtensionField<F>> Transcript<
+    'a,
+    C,
+    F,
+    EF,
+    SumcheckShape,
+    VerifierSide,
+> {
+    ghost use Rattle.sc_transcript.specs.Causes.{cause_of};
+    ghost use Rattle.sc_transcript.specs.Transcripts.{driver_in};
+    ghost use Rattle.sc_transcript.specs.Drivers.{HasRoundLeft, answer_as, TakesOrRejects};
 
-impl<'a, C: Challenger<F>, F: Field, EF: ExtensionField<F>> VerifierTranscript<'a, C, F, EF> {
-    ghost use Rattle.sc_transcript.specs.Transcripts.{replayer_in, lent_to_replayer, unbegun_replayer, shape_in};
-    ghost use Rattle.sc_transcript.specs.Drivers.{Continues, IsLent, IsFresh, IsBegun, HasRoundLeft, IsDone, TakesRound, RejectsRound, HasRoom, TakesRoom};
-
-    /// Begins a batch: the seed's words are observed, or nothing for no rounds. No more of the challenger's room is taken than they need.
-    ///
-    /// The difficulty is at most the challenger's [`Challenger::max_bits`].
-    pub fn new(alloc: Global, challenger: &'a mut C, shape: SumcheckShape) -> Result<Self, NoMemory>
-        requires { shape.pow_bits ≤ (C.rules challenger.old).max_bits }
-        ensures { IfOk result (λ t. IsBegun (words (seed_of EF.DEGREE shape)) (unbegun_replayer t challenger.entry shape) (replayer_in t)) }
-    {
-        shape.seed::<F, EF, C>(alloc, challenger)?;
-        Ok(VerifierTranscript::over(challenger, shape))
-    }
-
-    /// A batch over a challenger that has observed the seed already, by [`SumcheckShape::seed`]. It cannot fail: a caller that has to know what a refused
-    /// seed leaves calls the two one after the other.
-    pub fn over(challenger: &'a mut C, shape: SumcheckShape) -> Self
-        requires { shape.pow_bits ≤ (C.rules challenger.old).max_bits }
-        ensures lent { IsLent challenger.entry (lent_to_replayer result) }
-        ensures fresh { IsFresh (batch_of shape) shape.basis (replayer_in result) }
-    {
-        VerifierTranscript {
-            challenger,
-            rounds: Rounds::new(shape.batch(), shape.basis),
-            of: PhantomData,
-        }
-    }
-
-    /// Plays a round: absorbs the two values, at a positive difficulty tests the witness, and draws the challenge. At difficulty 0 a witness is ignored.
+    /// Takes a round: absorbs the two values, at a positive difficulty tests the witness, and draws the challenge. At difficulty 0 a witness is ignored.
     ///
     /// `MissingPowWitness` comes exactly where the difficulty is positive and no witness came; the history then ends with the two values.
     /// `InvalidPowWitness` comes exactly where the witness fails; the history then ends with its word and its test. After `NoMemory` the history is as
-    /// it was. After each of them the round is still to be played, and the driver is spent by [`VerifierTranscript::abort`].
+    /// it was. After each of them the round is still to be taken, and the driver is spent by [`Transcript::abort`].
     pub fn round(&mut self, c_a: EF, c_inf: EF, witness: Option<F>) -> Result<EF, SumcheckError>
-        requires { HasRoundLeft (replayer_in self.old) }
-        ensures continues { Continues (replayer_in self.old) (replayer_in self.new) }
-        ensures takes { IfOk result (λ x. TakesRound EF.extension (replayer_in self.old) (replayer_in self.new)
-            (pair_round (EF.number c_a) (EF.number c_inf) (option_map_or F.number witness 0)) (EF.number x)) }
-        ensures given { OnOk result (0 < (replayer_in self.old).shape.pow_bits → IsSome witness) }
-        ensures rejected { IfErr result (λ e. RejectsRound EF.extension (replayer_in self.old) (replayer_in self.new)
-            (pair_round (EF.number c_a) (EF.number c_inf) (option_map_or F.number witness 0)) witness (cause_of e)) }
-        ensures has_room { HasRoom EF.DEGREE (replayer_in self.old) → result ≢ Err SumcheckError.NoMemory }
-        ensures takes_room { OnOk result (TakesRoom EF.DEGREE (replayer_in self.old) (replayer_in self.new)) }
+        requires { HasRoundLeft (driver_in self.old) }
+        ensures { TakesOrRejects F.number EF.extension (driver_in self.old) (driver_in self.new) (EF.number c_a ∷ EF.number c_inf ∷ []) witness
+            (answer_as EF.number cause_of result) }
     {
         Ok(
             self.rounds
                 .take(self.challenger, &RoundMessage { c_a, c_inf }, witness)?,
         )
-    }
-
-    /// The numbers that the batch was begun with.
-    pub fn shape(&self) -> SumcheckShape
-        ensures { result ≡ shape_in (replayer_in self.now) }
-    {
-        let batch = self.rounds.shape();
-        SumcheckShape {
-            num_rounds: batch.num_rounds,
-            pow_bits: batch.pow_bits,
-            basis: self.rounds.kind(),
-        }
-    }
-
-    /// How many rounds are still to be played.
-    pub fn rounds_left(&self) -> usize
-        ensures { result ≡ (replayer_in self.now).shape.num_rounds - (replayer_in self.now).played }
-    {
-        self.rounds.left()
-    }
-
-    /// Ends a batch of which every round was played. The challenger stays as it is.
-    pub fn finish(self)
-        requires { IsDone (replayer_in self) }
-        ensures { self.exit.0.now ≡ (lent_to_replayer self.entry).now }
-    {
-        let VerifierTranscript {
-            challenger: _,
-            rounds: _,
-            of: _,
-        } = self;
-    }
-
-    /// Ends a batch that is broken off. The challenger stays as it is.
-    pub fn abort(self)
-        ensures { self.exit.0.now ≡ (lent_to_replayer self.entry).now }
-    {
-        let VerifierTranscript {
-            challenger: _,
-            rounds: _,
-            of: _,
-        } = self;
     }
 }

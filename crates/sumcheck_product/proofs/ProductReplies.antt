@@ -20,8 +20,10 @@ use Rattle.sc_transcript.specs.Data.{witness_count}
 use Rattle.sc_transcript.proofs.GivenRounds.{given_played}
 use Rattle.sc_degree.specs.declared.error.GenericDegreeError.{GenericDegreeError}
 use Rattle.sc_degree.specs.declared.error.GenericDegreeError.TheVariants.{InvalidDegree, RoundCountMismatch, PowWitnessCountMismatch, PolyEvalCountMismatch, InvalidPowWitness, NoWitness, NoMemory}
-use Rattle.sc_degree.specs.Proofs.{Replay, AreWide, rounds_in, start_of, IsCounted, IsReplayedTo, LeavesReplay}
-use Rattle.sc_degree.specs.Shapes.{shape_of}
+use Rattle.sc_transcript.specs.Walks.{AreWide, IsWalked}
+use Rattle.sc_transcript.specs.Replayed.{Replay, IsCounted}
+use Rattle.sc_degree.specs.Proofs.{generic_replay, LeavesVerify}
+use Rattle.sc_degree.specs.Shapes.{generic_shape}
 use Rattle.sc_verdicts.specs.declared.error.ShapeFault.{ShapeFault}
 use Rattle.sumcheck_jobs.specs.declared.product.ProductProof.{ProductProof}
 use Rattle.sumcheck_jobs.specs.declared.mode.BuildOrCheck.TheVariants.{Build, Check}
@@ -70,24 +72,17 @@ module _ (q : ProductCase) where
 
   -- the replay of what came with a claimed sum
   abbrev pub replay_for : ℕ → Wire → Replay
-  replay_for claimed came = record {
-    ops = q.ops;
-    channel = q.channel;
-    shape = shape_of q.variables (length q.tables) q.channel.bits;
-    claimed = claimed;
-    came = came;
-    history = q.history;
-  }
+  replay_for claimed came = generic_replay q.ops q.channel (generic_shape q.variables (length q.tables) q.channel.bits) claimed came q.history
 
   -- the replay in a shape of these numbers
   pub replay-is : (n degree claimed : ℕ) (came : Wire) → n ≡ q.variables → degree ≡ length q.tables →
-      ◌≡◌ {A = Replay} (record { ops = q.ops; channel = q.channel; shape = shape_of n degree q.channel.bits; claimed = claimed; came = came; history = q.history }) (replay_for claimed came)
+      generic_replay q.ops q.channel (generic_shape n degree q.channel.bits) claimed came q.history ≡ replay_for claimed came
   replay-is n degree claimed came count width = rw (count, width) refl
 
   -- ---- rounds that were built
 
   pub built-shown : (claimed product residual : ℕ) (came : Wire) (rs : List ℕ) (h' : List Event) → AreBuilt q claimed came product →
-      IsReplayedTo (replay_for claimed came) q.variables rs (footing h' residual) →
+      IsWalked (replay_for claimed came).walk rs (footing h' residual) →
       figures_reply q
       (record { claimed = claimed; messages = came.messages; witnesses = came.witnesses; challenges = rs; residual = residual; product = product }) ≡ mode_reply q Build
   built-shown claimed product residual came rs h' b replayed =
@@ -96,12 +91,11 @@ module _ (q : ProductCase) where
       let bits = q.channel.bits in
       let next = next_through q.ops in
       let start = product_start q (true_sum q) in
-      let given : rounds_in (replay_for claimed came) ≡ b.rounds =
+      let given : (replay_for claimed came).walk.rounds ≡ b.rounds =
       ap (λ (w : Wire). given_rounds w.messages w.witnesses) b.wire
       ∙ given_played (honest_values q.ops q.tables) q.channel start [] q.variables b.rounds b.honest in
-      let all : take q.variables (rounds_in (replay_for claimed came)) ≡ b.rounds = ap (take q.variables) given ∙ take_whole b.rounds q.variables (sym b.count) in
-      let from_claimed : IsReplayed next q.channel (start_of (replay_for claimed came)) (footing h' residual) b.rounds rs =
-      subst (λ rounds. IsReplayed next q.channel (start_of (replay_for claimed came)) (footing h' residual) rounds rs) all replayed.replays in
+      let from_claimed : IsReplayed next q.channel (replay_for claimed came).walk.start (footing h' residual) b.rounds rs =
+      subst (λ rounds. IsReplayed next q.channel (replay_for claimed came).walk.start (footing h' residual) rounds rs) given replayed.replays in
       let moved : IsReplayed next q.channel (footing start (true_sum q)) (footing h' residual) b.rounds rs =
       subst (λ k. IsReplayed next q.channel (footing (product_start q k) k) (footing h' residual) b.rounds rs) b.claim from_claimed in
       let cs = challenges R E bits start b.rounds in
@@ -139,7 +133,7 @@ module _ (q : ProductCase) where
     -- one of them is refused
     refused-as : (e : GenericDegreeError) → IsCounted (replay_for p.claimed (wire_of p)) → first_refused q.channel (length q.tables) 0 (product_start q p.claimed) handed ≡ Some e →
         product_given q p ≡ Err e
-    refused-as e counts first = counted counts.rounds counts.witnesses ∙ ap (λ t. unless_refused t handed) first
+    refused-as e counts first = counted counts.as_rounds counts.as_witnesses ∙ ap (λ t. unless_refused t handed) first
 
     -- the witnesses of the rounds are those that came
     all_witnesses : (ms : List (List ℕ)) (ws : List ℕ) → length ws ≡ length ms → map (λ (r : Round). r.witness) (given_rounds ms ws) ≡ ws
@@ -159,84 +153,81 @@ module _ (q : ProductCase) where
         all_witnesses p.rounds p.witnesses (count ∙ sym rounds)
 
     -- there are as many challenges as variables
-    pub given-count : (rs : List ℕ) (end : Footing) → IsCounted (replay_for p.claimed (wire_of p)) → IsReplayedTo (replay_for p.claimed (wire_of p)) q.variables rs end →
+    pub given-count : (rs : List ℕ) (end : Footing) → IsCounted (replay_for p.claimed (wire_of p)) → IsWalked (replay_for p.claimed (wire_of p)).walk rs end →
         length rs ≡ q.variables
     given-count rs end counts replayed =
-        let size : length handed ≡ q.variables = length-given_rounds p.rounds p.witnesses ∙ counts.rounds in
-        ap length replayed.replays.drawn
-        ∙ length-challenges q.channel.rules q.channel.extension q.channel.bits (product_start q p.claimed) (take q.variables handed)
-        ∙ ap length (take_whole handed q.variables (sym size)) ∙ size
+        ap length replayed.replays.drawn ∙ length-challenges q.channel.rules q.channel.extension q.channel.bits (product_start q p.claimed) handed
+        ∙ length-given_rounds p.rounds p.witnesses ∙ counts.as_rounds
 
     -- each round sends as many values as there are tables
-    pub given-wide : (rs : List ℕ) (end : Footing) → IsCounted (replay_for p.claimed (wire_of p)) → IsReplayedTo (replay_for p.claimed (wire_of p)) q.variables rs end →
+    pub given-wide : (rs : List ℕ) (end : Footing) → IsWalked (replay_for p.claimed (wire_of p)).walk rs end →
         All (λ values. length values ≡ length q.tables) p.rounds
-    given-wide rs end counts replayed =
-        let all : take q.variables handed ≡ handed = take_whole handed q.variables (sym (length-given_rounds p.rounds p.witnesses ∙ counts.rounds)) in
-        subst (All (λ values. length values ≡ length q.tables)) (messages-given_rounds p.rounds p.witnesses) (subst (AreWide (length q.tables)) all replayed.wide)
+    given-wide rs end replayed =
+        subst (All (λ values. length values ≡ length q.tables)) (messages-given_rounds p.rounds p.witnesses) replayed.wide
 
     -- they were replayed whole
     pub given-shown : (residual product : ℕ) (rs : List ℕ) (h' : List Event) → IsCounted (replay_for p.claimed (wire_of p)) →
-        IsReplayedTo (replay_for p.claimed (wire_of p)) q.variables rs (footing h' residual) → product ≡ values_product q.ops q.tables rs →
+        IsWalked (replay_for p.claimed (wire_of p)).walk rs (footing h' residual) → product ≡ values_product q.ops q.tables rs →
         figures_reply q
         (record { claimed = p.claimed; messages = p.rounds; witnesses = p.witnesses; challenges = rs; residual = residual; product = product }) ≡ mode_reply q (Check p)
     given-shown residual product rs h' counts replayed value =
         let start = product_start q p.claimed in
-        let all : take q.variables handed ≡ handed = take_whole handed q.variables (sym (length-given_rounds p.rounds p.witnesses ∙ counts.rounds)) in
-        let moved : IsReplayed (next_through q.ops) q.channel (footing start p.claimed) (footing h' residual) handed rs =
-        subst (λ rounds. IsReplayed (next_through q.ops) q.channel (footing start p.claimed) (footing h' residual) rounds rs) all replayed.replays in
-        let wide : AreWide (length q.tables) handed = subst (AreWide (length q.tables)) all replayed.wide in
+        let moved = replayed.replays in
         let none : product_given q p ≡ Ok handed =
-        counted counts.rounds counts.witnesses ∙ ap (λ t. unless_refused t handed) (refused-none q.channel (length q.tables) 0 start handed wide moved.passes) in
+        counted counts.as_rounds counts.as_witnesses ∙ ap (λ t. unless_refused t handed) (refused-none q.channel (length q.tables) 0 start handed replayed.wide moved.passes) in
         let same : ◌≡◌ {A = ProductFigures}
         (record { claimed = p.claimed; messages = p.rounds; witnesses = p.witnesses; challenges = rs; residual = residual; product = product })
         (product_figures q p.claimed handed) =
-        rw (value, moved.claim, moved.drawn, messages-given_rounds p.rounds p.witnesses, witnesses-handed q.channel.bits q.variables counts.rounds counts.witnesses) refl in
+        rw (value, moved.claim, moved.drawn, messages-given_rounds p.rounds p.witnesses, witnesses-handed q.channel.bits q.variables counts.as_rounds counts.as_witnesses) refl in
         ap (figures_reply q) same ∙ sym (ap (given_reply q p.claimed) none)
 
     -- they were refused
     pub given-refused : {X : Type 0} (number : X → ℕ) (e : GenericDegreeError) (h' : List Event) → e ≢ NoMemory → 1 ≤ length q.tables →
-        LeavesReplay number (replay_for p.claimed (wire_of p)) (Err e) h' → degree_refusal q.channel.bits e ≡ mode_reply q (Check p)
+        LeavesVerify number (replay_for p.claimed (wire_of p)) q.history (Err e) h' → degree_refusal q.channel.bits e ≡ mode_reply q (Check p)
     given-refused number (InvalidDegree d) h' some degree left = absurd (omega (arith, degree, left.1))
     given-refused number (RoundCountMismatch expected actual) h' some degree left =
+        let why = left.1.1.0 in
         let few = Err (PowWitnessCountMismatch (witness_count q.channel.bits q.variables) (length p.witnesses)) in
         let counts = if length p.witnesses == witness_count q.channel.bits q.variables then product_played q p.claimed handed else few in
         let other : product_given q p ≡ Err (RoundCountMismatch q.variables (length p.rounds)) =
-        ap (λ b. if b then counts else Err (RoundCountMismatch q.variables (length p.rounds))) (ne_eqb _ _ (λ e. left.2 (left.1 ∙ e ∙ sym left.0))) in
-        ap (λ n. degree_refusal q.channel.bits (RoundCountMismatch n actual)) left.0 ∙ ap (λ n. degree_refusal q.channel.bits (RoundCountMismatch q.variables n)) left.1
+        ap (λ b. if b then counts else Err (RoundCountMismatch q.variables (length p.rounds))) (ne_eqb _ _ (λ e. why.2 (why.1 ∙ e ∙ sym why.0))) in
+        ap (λ n. degree_refusal q.channel.bits (RoundCountMismatch n actual)) why.0 ∙ ap (λ n. degree_refusal q.channel.bits (RoundCountMismatch q.variables n)) why.1
         ∙ sym (ap (given_reply q p.claimed) other)
     given-refused number (PowWitnessCountMismatch expected actual) h' some degree left =
+        let why = left.1.1.0 in
         let expects = witness_count q.channel.bits q.variables in
         let few = Err (PowWitnessCountMismatch expects (length p.witnesses)) in
         let others = Err (RoundCountMismatch q.variables (length p.rounds)) in
         let counts = if length p.witnesses == expects then product_played q p.claimed handed else few in
         let other : product_given q p ≡ few =
-        ap (λ b. if b then counts else others) (eq-eqb _ _ left.3)
-        ∙ ap (λ b. if b then product_played q p.claimed handed else few) (ne_eqb _ _ (λ e. left.2 (left.1 ∙ e ∙ sym left.0))) in
-        ap (λ n. degree_refusal q.channel.bits (PowWitnessCountMismatch n actual)) left.0 ∙ ap (λ n. degree_refusal q.channel.bits (PowWitnessCountMismatch expects n)) left.1
+        ap (λ b. if b then counts else others) (eq-eqb _ _ why.3)
+        ∙ ap (λ b. if b then product_played q p.claimed handed else few) (ne_eqb _ _ (λ e. why.2 (why.1 ∙ e ∙ sym why.0))) in
+        ap (λ n. degree_refusal q.channel.bits (PowWitnessCountMismatch n actual)) why.0 ∙ ap (λ n. degree_refusal q.channel.bits (PowWitnessCountMismatch expects n)) why.1
         ∙ sym (ap (given_reply q p.claimed) other)
     given-refused number (PolyEvalCountMismatch i expected actual) h' some degree left =
-        let narrow = left.2 in
-        let behind = narrow.behind.replayed in
-        let first = refused-as (PolyEvalCountMismatch i (length q.tables) (length narrow.round.values)) left.0
-        (refused-width q.channel (length q.tables) 0 (product_start q p.claimed) handed i narrow.round behind.wide behind.replays.passes narrow.is (λ e. narrow.other (narrow.width ∙ e))
+        let told = left.1.1 in
+        let narrow = told.1.1 in
+        let first = refused-as (PolyEvalCountMismatch i (length q.tables) (length narrow.round.values)) told.0
+        (refused-width q.channel (length q.tables) 0 (product_start q p.claimed) handed i narrow.round narrow.walked.wide narrow.walked.replays.passes narrow.is (λ e. narrow.other (narrow.counts ∙ e))
         ∙ ap (λ k. Some (PolyEvalCountMismatch k (length q.tables) (length narrow.round.values))) (zero-add i)) in
-        ap (λ n. degree_refusal q.channel.bits (PolyEvalCountMismatch i n actual)) left.1
-        ∙ ap (λ n. degree_refusal q.channel.bits (PolyEvalCountMismatch i (length q.tables) n)) narrow.width
+        ap (λ n. degree_refusal q.channel.bits (PolyEvalCountMismatch i n actual)) told.1.0
+        ∙ ap (λ n. degree_refusal q.channel.bits (PolyEvalCountMismatch i (length q.tables) n)) narrow.counts
         ∙ sym (ap (given_reply q p.claimed) first)
     given-refused number (InvalidPowWitness i) h' some degree left =
         let R = q.channel.rules in
         let E = q.channel.extension in
         let bits = q.channel.bits in
         let start = product_start q p.claimed in
-        let at = left.1.at in
+        let told = left.1.1 in
+        let at = told.1.1.at in
         let fails = ap (λ t. round_passes R E bits t at.round) (sym at.replays.history) ∙ at.test.fails in
         let more : i + 1 ≡ suc i = omega arith in
-        let wide : AreWide (length q.tables) (take (suc i) handed) = subst (λ k. AreWide (length q.tables) (take k handed)) more left.1.wide in
-        let first = refused-as (InvalidPowWitness i) left.0
+        let wide : AreWide (length q.tables) (take (suc i) handed) = subst (λ k. AreWide (length q.tables) (take k handed)) more told.1.1.wide in
+        let first = refused-as (InvalidPowWitness i) told.0
         (refused-witness q.channel (length q.tables) 0 start handed i at.round wide at.replays.passes at.is fails ∙ ap (λ k. Some (InvalidPowWitness k)) (zero-add i)) in
         sym (ap (given_reply q p.claimed) first)
     given-refused number NoMemory h' some degree left = absurd (some refl)
-    given-refused number e h' some degree left = absurd left
+    given-refused number e h' some degree left = absurd left.1.1.1
 
   -- ---- a build
 

@@ -17,10 +17,10 @@ use Rattle.sc_definitions.proofs.BuiltLaws.{length-challenges}
 use Rattle.sc_definitions.proofs.ProductLaws.{product_claim-end}
 use Rattle.sc_degree.specs.declared.error.GenericDegreeError.{GenericDegreeError}
 use Rattle.sc_degree.specs.declared.error.GenericDegreeError.TheVariants.{PolyEvalCountMismatch, InvalidPowWitness, NoWitness, NoMemory}
-use Rattle.sc_degree.specs.Proofs.{AreWide}
+use Rattle.sc_transcript.specs.Walks.{AreWide}
 use Rattle.sc_degree.specs.Provers.{Prover, IsFolded, Play, play_of, honest_in, IsPlayed, StopsAt, LeavesPlay}
 use Rattle.sc_degree.specs.Products.{prover_of}
-use Rattle.sc_degree.specs.Shapes.{shape_of}
+use Rattle.sc_degree.specs.Shapes.{generic_shape}
 use Rattle.sumcheck_product.specs.declared.product.Built.{Built}
 use Rattle.sumcheck_product.specs.Products.{ProductCase, true_sum, product_start, product_built, first_refused}
 use Rattle.sumcheck_product.specs.ProductPlays.{AreBuilt, LeavesBuilt}
@@ -112,7 +112,7 @@ folded-value o ring fs gs n m rs f whole =
 module _ (q : ProductCase) where
   -- the play of a build, and its prover before it
   abbrev pub play_for : Play
-  play_for = play_of q.ops q.channel (shape_of q.variables (length q.tables) q.channel.bits) (true_sum q) q.history
+  play_for = play_of q.ops q.channel (generic_shape q.variables (length q.tables) q.channel.bits) (true_sum q) q.history
 
   abbrev pub prover_for : Prover
   prover_for = prover_of q.ops q.tables q.variables
@@ -192,5 +192,5 @@ module _ (q : ProductCase) where
 
   -- the play of a challenger's copy
   pub play-is : {R : Rules} {h : List Event} {n degree claimed : ℕ} → R ≡ q.channel.rules → h ≡ q.history → n ≡ q.variables → degree ≡ length q.tables → claimed ≡ true_sum q →
-      play_of q.ops (record { rules = R; extension = q.channel.extension; base_size = q.channel.base_size; bits = q.channel.bits }) (shape_of n degree q.channel.bits) claimed h ≡ play_for
+      play_of q.ops (record { rules = R; extension = q.channel.extension; base_size = q.channel.base_size; bits = q.channel.bits }) (generic_shape n degree q.channel.bits) claimed h ≡ play_for
   play-is rules history count width is = rw (rules, history, count, width, is) refl

@@ -5,7 +5,7 @@ use Rattle.sc_definitions.specs.Channels.{Wire, empty_wire, with_rounds, IsBuilt
 use Rattle.sc_definitions.specs.Products.{values_product, honest_values}
 use Rattle.sc_degree.specs.declared.error.GenericDegreeError.{GenericDegreeError}
 use Rattle.sc_degree.specs.declared.error.GenericDegreeError.TheVariants.{NoWitness, NoMemory}
-use Rattle.sc_degree.specs.Proofs.{wire_in}
+use Rattle.sc_degree.specs.Proofs.{proof_wire}
 use Rattle.sumcheck_jobs.specs.ProductJob.{most_tables}
 use Rattle.sumcheck_product.specs.declared.product.Built.{Built}
 use Rattle.sumcheck_product.specs.Products.{ProductCase, true_sum, product_start, product_built}
@@ -27,7 +27,7 @@ pub record AreBuilt (q : ProductCase) (claimed : ℕ) (came : Wire) (product : �
 
 -- what a build leaves, by its result
 abbrev pub LeavesBuilt : {F EF : Type 0} → (F → ℕ) → (EF → ℕ) → ProductCase → Result (Built F EF) GenericDegreeError → Type 0
-LeavesBuilt base number q (Ok b) = AreBuilt q (number b.proof.claimed_sum) (wire_in base number b.proof) (number b.product)
+LeavesBuilt base number q (Ok b) = AreBuilt q (number b.proof.claimed_sum) (proof_wire base number b.proof) (number b.product)
 LeavesBuilt base number q (Err (NoWitness i)) = product_built q ≡ Err i
 LeavesBuilt base number q (Err NoMemory) = Unit {0}
 LeavesBuilt base number q (Err e) = ⊥

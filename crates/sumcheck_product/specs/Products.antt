@@ -15,8 +15,8 @@ use Rattle.sc_transcript.specs.Data.{witness_count}
 use Rattle.sc_degree.specs.declared.error.GenericDegreeError.{GenericDegreeError}
 use Rattle.sc_degree.specs.declared.error.GenericDegreeError.TheVariants.{RoundCountMismatch, PowWitnessCountMismatch, PolyEvalCountMismatch, InvalidPowWitness, NoWitness}
 use Rattle.sc_degree.specs.declared.proof.GenericDegreeProof.{GenericDegreeProof}
-use Rattle.sc_degree.specs.Shapes.{prelude_of, shape_of}
-use Rattle.sc_degree.specs.Proofs.{wire_in}
+use Rattle.sc_degree.specs.Shapes.{prelude_of, generic_shape}
+use Rattle.sc_degree.specs.Proofs.{proof_wire}
 use Rattle.sc_degree.specs.declared.turns.FoundTurn.{FoundTurn}
 use Rattle.sc_degree.specs.Turns.{turn_in}
 use Rattle.sc_verdicts.specs.declared.error.ShapeFault.{ShapeFault}
@@ -90,7 +90,7 @@ true_sum q = product_claim q.ops q.tables [] q.variables
 
 -- the history before the first round, behind the seed and the claimed sum
 abbrev pub product_start : ProductCase → ℕ → List Event
-product_start q claimed = q.history ++ prelude_of q.channel.extension (shape_of q.variables (length q.tables) q.channel.bits) claimed
+product_start q claimed = q.history ++ prelude_of q.channel.extension (generic_shape q.variables (length q.tables) q.channel.bits) claimed
 
 -- ---- its rounds, or why they cannot be played
 
@@ -230,8 +230,8 @@ product_answer job = product_judged (fields_of job.field) job (product_rules job
 abbrev pub given_proof : {F EF : Type 0} → (F → ℕ) → (EF → ℕ) → GenericDegreeProof F EF → ProductProof
 given_proof base number p = record {
   claimed = number p.claimed_sum;
-  rounds = (wire_in base number p).messages;
-  witnesses = (wire_in base number p).witnesses;
+  rounds = (proof_wire base number p).messages;
+  witnesses = (proof_wire base number p).witnesses;
 }
 
 -- what is done with a product
@@ -243,8 +243,8 @@ task_mode base number (Some p) = Check (given_proof base number p)
 abbrev pub figures_in : {F EF : Type 0} → (F → ℕ) → (EF → ℕ) → Played F EF → ProductFigures
 figures_in base number p = record {
   claimed = number p.proof.claimed_sum;
-  messages = (wire_in base number p.proof).messages;
-  witnesses = (wire_in base number p.proof).witnesses;
+  messages = (proof_wire base number p.proof).messages;
+  witnesses = (proof_wire base number p.proof).witnesses;
   challenges = map number p.challenges;
   residual = number p.residual;
   product = number p.product;

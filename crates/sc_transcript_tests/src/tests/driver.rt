@@ -1,12 +1,16 @@
-//! Rounds of three values, by the rounds that every driver plays.
-ghost use Rattle.std.specs.Prelude.{◌≡◌, min};
+//! A protocol of its own on the drivers: rounds of three values, behind two words.
+ghost use Rattle.std.specs.Prelude.{◌≡◌, ◌≤◌, Some, length};
 
 use super::{ends, numbers};
 use sc_challenger::{Challenger, Event, Interaction, Kind, Label, Length, ScriptedChallenger};
-use sc_field::{Field, NoMemory};
+use sc_field::NoMemory;
 use sc_small_fields::F65537;
 use sc_tests_common::{of, scripted};
-use sc_transcript::driver::{BatchShape, RoundError, Rounds, push_round_steps};
+use sc_transcript::RoundError;
+use sc_transcript::driver::{
+    ProverSide, RoundShape, SliceShape, Transcript, VerifierSide, push_round_steps,
+};
+use sc_transcript::rounds::BatchShape;
 use std::alloc::Global;
 
 static GOOD: [&[u64]; 1] = [&[5, 9]];
@@ -21,7 +25,21 @@ static SENT: [Event; 6] = [
     Event::Draw,
 ];
 
-static REFUSALS: [(RoundError, &str); 5] = [
+static REFUSALS: [(RoundError, &str); 7] = [
+    (
+        RoundError::RoundCount {
+            expected: 2,
+            actual: 3,
+        },
+        "expected 2 rounds, but 3 came",
+    ),
+    (
+        RoundError::WitnessCount {
+            expected: 2,
+            actual: 0,
+        },
+        "expected 2 witnesses, but 0 came",
+    ),
     (
         RoundError::WrongWidth {
             round: 1,
@@ -51,80 +69,171 @@ static REFUSALS: [(RoundError, &str); 5] = [
     (RoundError::NoMemory, "out of memory"),
 ];
 
+// A batch of one round of three values.
+#[derive(Clone, Copy)]
+struct Triple {
+    pow_bits: usize,
+}
+
+impl RoundShape for Triple {
+    ghost numbers = { λ s. record { num_rounds = 1; width = 3; pow_bits = s.pow_bits } };
+
+    fn batch(&self) -> BatchShape {
+        BatchShape {
+            num_rounds: 1,
+            width: 3,
+            pow_bits: self.pow_bits,
+        }
+    }
+}
+
+impl SliceShape for Triple {
+    type Error = RoundError;
+
+    ghost cause = { λ _ e. Some e };
+
+    fn refusal(&self, error: RoundError) -> RoundError {
+        error
+    }
+}
+
+// What stands before its round.
+fn begin<C: Challenger<F65537>>(challenger: &mut C) -> Result<(), NoMemory>
+    ensures { C.rules challenger.new ≡ C.rules challenger.old }
+{
+    challenger.observe(of(40))?;
+    challenger.observe(of(41))
+}
+
+// What a prover of these values answers. The challenger is handed back.
+fn sent<C: Challenger<F65537>>(
+    challenger: &mut C,
+    shape: Triple,
+    values: &[F65537],
+) -> Result<(F65537, Option<F65537>), RoundError>
+    requires difficulty { shape.pow_bits ≤ (C.rules challenger.old).max_bits }
+    requires three { length values.now ≡ 3 }
+    ensures { C.rules challenger.new ≡ C.rules challenger.old }
+{
+    begin(challenger)?;
+    let mut transcript: Transcript<'_, C, F65537, F65537, Triple, ProverSide> = Transcript::over(
+        challenger, shape,
+    );
+    match transcript.round(values) {
+        Ok(sent) => {
+            transcript.finish();
+            Ok(sent)
+        }
+        Err(error) => {
+            transcript.abort();
+            Err(error)
+        }
+    }
+}
+
+// What a verifier answers to these values and a witness. The challenger is handed back.
+fn taken<C: Challenger<F65537>>(
+    challenger: &mut C,
+    shape: Triple,
+    values: &[F65537],
+    witness: Option<F65537>,
+) -> Result<F65537, RoundError>
+    requires { shape.pow_bits ≤ (C.rules challenger.old).max_bits }
+    ensures { C.rules challenger.new ≡ C.rules challenger.old }
+{
+    begin(challenger)?;
+    let mut transcript: Transcript<'_, C, F65537, F65537, Triple, VerifierSide> = Transcript::over(
+        challenger, shape,
+    );
+    match transcript.round(values, witness) {
+        Ok(challenge) => {
+            transcript.finish();
+            Ok(challenge)
+        }
+        Err(error) => {
+            transcript.abort();
+            Err(error)
+        }
+    }
+}
+
 // A challenger that draws 7, and whose first test 5 and 9 pass.
 fn challenger(alloc: Global) -> Result<ScriptedChallenger<F65537>, NoMemory> {
     scripted(alloc, &[7], &GOOD)
 }
 
-// One round of three values, at 4 bits or at as many as there can be.
-fn one_round(max_bits: usize) -> Rounds<()>
-    ensures shape { result.shape ≡ record { num_rounds = 1; width = 3; pow_bits = min max_bits 4 } }
-    ensures played { result.played ≡ 0 }
+// The shape at 4 bits, or at as many as there can be.
+fn shape(challenger: &ScriptedChallenger<F65537>) -> Triple
+    ensures { result.pow_bits ≤ (⟦<ScriptedChallenger<F65537> as Challenger<F65537>>⟧.rules challenger.now).max_bits }
 {
-    let shape = BatchShape {
-        num_rounds: 1,
-        width: 3,
-        pow_bits: max_bits.min(4),
-    };
-    Rounds::new(shape, ())
+    Triple {
+        pow_bits: challenger.max_bits().min(4),
+    }
 }
 
-// What a verifier answers to a round of the first of 1, 2 and 3, so many of them.
-fn taken(
-    challenger: &mut ScriptedChallenger<F65537>,
+// What a verifier answers to the first of 1, 2 and 3, so many of them, and what its challenger then ends with, of so many events.
+fn rejected(
+    alloc: Global,
     count: usize,
     witness: Option<F65537>,
-) -> Result<F65537, RoundError> {
-    let mut rounds = one_round(challenger.max_bits());
+    events: usize,
+    last: &[Event],
+) -> Result<Option<RoundError>, NoMemory> {
+    let mut verifier = challenger(alloc)?;
+    let shape = shape(&verifier);
     let values = [of(1), of(2), of(3)];
-    rounds.take::<F65537, F65537, _, _>(challenger, &&values[..count.min(3)], witness)
+    match taken(&mut verifier, shape, &values[..count.min(3)], witness) {
+        Ok(_) => Ok(None),
+        Err(error) => Ok(if ends(&verifier, events, last) {
+            Some(error)
+        } else {
+            None
+        }),
+    }
 }
 
 #[test]
-fn a_round_may_send_three_values(rt: HostRuntime) {
+fn a_round_of_three_values_is_played(rt: HostRuntime) {
     let mut prover = challenger(rt.alloc()).expect(&rt, "an answer");
-    let mut rounds = one_round(prover.max_bits());
-    let values = [of(1), of(2), of(3)];
-    let sent = rounds
-        .play::<F65537, F65537, _, _>(&mut prover, &values.as_slice())
-        .expect(&rt, "an answer");
-    assert!(rt; numbers(sent) == (7, Some(5)));
-    assert!(rt; ends(&prover, 6, &SENT));
+    let shape = shape(&prover);
+    let answer = sent(&mut prover, shape, &[of(1), of(2), of(3)]).expect(&rt, "an answer");
+    assert!(rt; numbers(answer) == (7, Some(5)));
+    assert!(rt; ends(&prover, 8, &SENT));
 }
 
 #[test]
 fn a_round_of_three_values_is_taken(rt: HostRuntime) {
     let mut verifier = challenger(rt.alloc()).expect(&rt, "an answer");
-    assert!(rt; taken(&mut verifier, 3, Some(of(5))) == Ok(of(7)));
-    assert!(rt; ends(&verifier, 6, &SENT));
-    let mut verifier = challenger(rt.alloc()).expect(&rt, "an answer");
+    let shape = shape(&verifier);
+    let answer = taken(&mut verifier, shape, &[of(1), of(2), of(3)], Some(of(5)));
+    assert!(rt; answer == Ok(of(7)));
+    assert!(rt; ends(&verifier, 8, &SENT));
+}
+
+#[test]
+fn a_round_of_three_values_is_rejected(rt: HostRuntime) {
     let failed = RoundError::InvalidWitness {
         round: 0,
         difficulty: 4,
     };
-    assert!(rt; taken(&mut verifier, 3, Some(of(6))) == Err(failed));
-    assert!(rt;
-        ends(
-            &verifier,
-            5,
-            &[Event::Word(3), Event::Word(6), Event::Test(4)]
-        )
-    );
-    let mut verifier = challenger(rt.alloc()).expect(&rt, "an answer");
+    let end = [Event::Word(3), Event::Word(6), Event::Test(4)];
+    let answer = rejected(rt.alloc(), 3, Some(of(6)), 7, &end).expect(&rt, "an answer");
+    assert!(rt; answer == Some(failed));
     let missing = RoundError::MissingWitness {
         round: 0,
         difficulty: 4,
     };
-    assert!(rt; taken(&mut verifier, 3, None) == Err(missing));
-    assert!(rt; ends(&verifier, 3, &[Event::Word(2), Event::Word(3)]));
-    let mut verifier = challenger(rt.alloc()).expect(&rt, "an answer");
+    let end = [Event::Word(2), Event::Word(3)];
+    let answer = rejected(rt.alloc(), 3, None, 5, &end).expect(&rt, "an answer");
+    assert!(rt; answer == Some(missing));
     let narrow = RoundError::WrongWidth {
         round: 0,
         expected: 3,
         actual: 2,
     };
-    assert!(rt; taken(&mut verifier, 2, Some(of(5))) == Err(narrow));
-    assert!(rt; ends(&verifier, 0, &[]));
+    let end = [Event::Word(40), Event::Word(41)];
+    let answer = rejected(rt.alloc(), 2, Some(of(5)), 2, &end).expect(&rt, "an answer");
+    assert!(rt; answer == Some(narrow));
 }
 
 #[test]

@@ -73,6 +73,6 @@ returns-in-Err-clause-task g c =
     let start = start_is q _ _ _ (sym g.met.EF.ExtensionField.degree_is) c.num_variables.ensures claim in
     let end = footing (g.C.Challenger.history c.verify_rounds.new.challenger) (N c.verify_rounds.new.claimed_sum) in
     record {
-      answers = caused_err _ (with_task q (check (Some given))) _ _ _ c.refusal.ensures (proof_refused q given N _ _ _ end _ c.in-Err.error c.num_variables.ensures start (λ kept. kept) c.in-Err.ensures.left);
-      refused = refused_err _ _ _ _ c.refusal.ensures (counts_refused q given _ N _ _ end _ c.in-Err.error c.num_variables.ensures c.in-Err.ensures.left);
+      answers = caused_err _ (with_task q (check (Some given))) _ _ _ c.refusal.ensures (proof_refused q given _ _ _ end _ c.in-Err.error c.num_variables.ensures start (λ kept. kept) c.in-Err.ensures.left);
+      refused = refused_err _ _ _ _ c.refusal.ensures (counts_refused q given _ _ _ end _ c.in-Err.error c.num_variables.ensures c.in-Err.ensures.left);
     }

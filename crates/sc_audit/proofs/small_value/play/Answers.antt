@@ -5,7 +5,7 @@ use Rattle.sc_definitions.specs.Combined.{combined_weight}
 use Rattle.sc_transcript.specs.Data.{wire_in}
 use Rattle.sc_transcript.specs.Drivers.{channel_of}
 use Rattle.sc_transcript.specs.Transcripts.{driver_in}
-use Rattle.sc_transcript.specs.declared.driver.BatchShape.{BatchShape}
+use Rattle.sc_transcript.specs.declared.rounds.BatchShape.{BatchShape}
 use Rattle.sc_transcript.proofs.ReplayedLaws.{same_channel}
 use Rattle.sc_rounds.specs.Provers.{shown_of}
 use Rattle.sc_rounds.specs.HeldProducts.{standing_over}

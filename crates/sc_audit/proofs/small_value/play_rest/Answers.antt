@@ -1,7 +1,7 @@
 use Rattle.std.proofs.Common.{◌≡◌, ◌+◌, ◌≤◌, map, vec_len, ap, sym, refl, arith, ◌∙◌}
 use Rattle.std.proofs.lemmas.List.{map-append}
 use Rattle.sc_transcript.proofs.ReplayedLaws.{same_channel}
-use Rattle.sc_transcript.specs.declared.driver.BatchShape.{BatchShape}
+use Rattle.sc_transcript.specs.declared.rounds.BatchShape.{BatchShape}
 use Rattle.sc_transcript.specs.declared.transcript.SumcheckShape.{SumcheckShape}
 use Rattle.sc_rounds.specs.declared.product_polynomial.ProductPolynomial.{ProductPolynomial}
 use Rattle.sc_rounds.specs.Products.{variables_in}
@@ -49,13 +49,13 @@ loop-round-preserved g c =
 pub round-requires-clause-variables : goal.round-requires-clause-variables
 round-requires-clause-variables g c =
     let enough : c.args.transcript.now.rounds.shape.num_rounds ≤ variables_in c.args.left.now + c.args.transcript.now.rounds.played = omega (arith, c.requires.variables) in
-    some_left _ _ _ _ c.loop-round.invariant.left enough (less_at _ _ _ _ refl c.loop-round-test.true (ap (λ (s : SumcheckShape). s.num_rounds) c.shape-round-end.ensures))
+    some_left _ _ _ _ c.loop-round.invariant.left enough (less_at _ _ _ _ refl c.loop-round-test.true (ap (λ (s : BatchShape). s.num_rounds) c.shape-round-end.ensures.numbers))
 
 -- the round of the loop is the transcript's
 pub round-requires-clause-left : goal.round-requires-clause-left
 round-requires-clause-left g c =
     let inv = c.loop-round.invariant in
-    less_at _ _ _ _ inv.played c.loop-round-test.true (ap (λ (s : SumcheckShape). s.num_rounds) c.shape-round-end.ensures ∙ ap (λ (s : BatchShape). s.num_rounds) (sym inv.continues.shape))
+    less_at _ _ _ _ inv.played c.loop-round-test.true (ap (λ (s : BatchShape). s.num_rounds) c.shape-round-end.ensures.numbers ∙ ap (λ (s : BatchShape). s.num_rounds) (sym inv.continues.shape))
 
 pub round-requires-clause-sum : goal.round-requires-clause-sum
 round-requires-clause-sum g c = c.loop-round.invariant.sum
@@ -64,7 +64,7 @@ round-requires-clause-sum g c = c.loop-round.invariant.sum
 pub push_reserved-requires : goal.push_reserved-requires
 push_reserved-requires g c =
     let inv = c.loop-round.invariant in
-    room_at inv.len c.loop-round-test.true (ap (λ (s : SumcheckShape). s.num_rounds) c.shape-round-end.ensures ∙ ap (λ (s : BatchShape). s.num_rounds) (sym inv.continues.shape)) inv.room
+    room_at inv.len c.loop-round-test.true (ap (λ (s : BatchShape). s.num_rounds) c.shape-round-end.ensures.numbers ∙ ap (λ (s : BatchShape). s.num_rounds) (sym inv.continues.shape)) inv.room
 
 -- all rounds are played, and what the invariant says of them holds of all
 pub returns : goal.returns
@@ -72,12 +72,12 @@ returns g c =
     let inv = c.loop-round.invariant in
     let count : vec_len c.args.challenges.now ≡ c.args.transcript.now.rounds.played = c.args.challenges.now.ok.0 ∙ c.requires.begun.count in
     let enough : c.args.transcript.now.rounds.played ≤ c.args.transcript.now.rounds.shape.num_rounds = omega (arith, c.requires.variables) in
-    let below : c.len-round.result ≤ c.shape-round-end.result.num_rounds = begun_within c.len-round.ensures count enough (ap (λ (s : SumcheckShape). s.num_rounds) c.shape-round-end.ensures) in
+    let below : c.len-round.result ≤ c.shape-round-end.result.num_rounds = begun_within c.len-round.ensures count enough (ap (λ (s : BatchShape). s.num_rounds) c.shape-round-end.ensures.numbers) in
     record {
       continues = inv.continues;
       left = sum_at _ _ _ _ inv.played inv.left;
       rounds = λ start before. (
-        all_played _ _ _ _ inv.played (ap (λ (s : BatchShape). s.num_rounds) inv.continues.shape ∙ ap (λ (s : SumcheckShape). s.num_rounds) (sym c.shape-round-end.ensures)) c.loop-round-test.false (c.loop-round.auto._round-end below),
+        all_played _ _ _ _ inv.played (ap (λ (s : BatchShape). s.num_rounds) inv.continues.shape ∙ ap (λ (s : BatchShape). s.num_rounds) (sym c.shape-round-end.ensures.numbers)) c.loop-round-test.false (c.loop-round.auto._round-end below),
         inv.batch start before,
       );
     }
@@ -96,7 +96,7 @@ returns-in-Err g c =
       };
       left = sum_at _ _ _ _ (round.counts ∙ inv.played) (ap (λ (p : ProductPolynomial g.row.F.Denot g.row.EF.Denot). variables_in p + c.loop-round._round) round.kept.0 ∙ inv.left);
       rounds = λ start before. (
-        less_at _ _ _ _ (round.counts ∙ inv.played) c.loop-round-test.true (ap (λ (s : SumcheckShape). s.num_rounds) c.shape-round-end.ensures ∙ ap (λ (s : BatchShape). s.num_rounds) (sym inv.continues.shape ∙ sym round.continues.shape)),
+        less_at _ _ _ _ (round.counts ∙ inv.played) c.loop-round-test.true (ap (λ (s : BatchShape). s.num_rounds) c.shape-round-end.ensures.numbers ∙ ap (λ (s : BatchShape). s.num_rounds) (sym inv.continues.shape ∙ sym round.continues.shape)),
         stops _ c.in-Err.error
             (same_setting (same_channel g.F.Field.ops.size inv.continues.rules (ap (λ (s : BatchShape). s.pow_bits) inv.continues.shape)) inv.order)
             (sym round.counts) (inv.batch start before) round.round,

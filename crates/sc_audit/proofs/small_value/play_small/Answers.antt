@@ -5,7 +5,7 @@ use Rattle.sc_definitions.proofs.StandingLaws.{length-entries_of}
 use Rattle.sc_transcript.specs.Data.{wire_in}
 use Rattle.sc_transcript.specs.Drivers.{channel_of}
 use Rattle.sc_transcript.specs.Transcripts.{driver_in}
-use Rattle.sc_transcript.specs.declared.driver.BatchShape.{BatchShape}
+use Rattle.sc_transcript.specs.declared.rounds.BatchShape.{BatchShape}
 use Rattle.sc_transcript.specs.declared.error.SumcheckError.TheVariants.{NoMemory}
 use Rattle.sc_transcript.proofs.ReplayedLaws.{same_channel}
 use Rattle.sc_transcript.proofs.BatchLaws.{fits}
@@ -66,7 +66,7 @@ returns-in_err-r-clause-drawn g c = λ p of is.
     let message = read_message o ring p (batch_in c.args.batch.now) of s.channel t.history t.wire rs (footing d.history (N c.loop-round.sum)) on values low played
     (c.in_ok-message.ensures.honest p.table of.grids ∙ ap (λ xs. honest_of o (batch_in c.args.batch.now) p.table (map N xs)) c.as_slice.ensures.value) in
     let refused = c.in_err-r.ensures.refused in
-    let size = ap (λ (k : BatchShape). k.num_rounds) (c.in_err-r.ensures.continues.shape ∙ inv.continues.shape) in
+    let size = ap (λ (k : BatchShape). k.num_rounds) (refused.continues.shape ∙ inv.continues.shape) in
     leaves_stopped s t rs (N c.loop-round.sum) d' (wire_in g.F.Field.number N c.observe_and_sample.new.self) c.from_residual-in_err-r.result _ c.from_residual-in_err-r.ensures.1
     (drawn_refused s ring tt t rs (footing d.history (N c.loop-round.sum)) on played (omega (arith, low, of.within)) values message (channel_of g.EF.ExtensionField.extension d)
     (same_channel g.F.Field.ops.size inv.continues.rules (ap (λ (k : BatchShape). k.pow_bits) inv.continues.shape)) d' _ d.played _ refused.why c.in_err-r.ensures.kept
@@ -89,14 +89,14 @@ loop-round-preserved g c =
     let values = N c.in_ok-message.message.c_a ∷ N c.in_ok-message.message.c_inf ∷ [] in
     record {
       continues = record {
-        lender = round.continues.lender ∙ inv.continues.lender;
-        rules = round.continues.rules ∙ inv.continues.rules;
-        shape = round.continues.shape ∙ inv.continues.shape;
-        kind = round.continues.kind ∙ inv.continues.kind;
+        lender = round.puts.plays.continues.lender ∙ inv.continues.lender;
+        rules = round.puts.plays.continues.rules ∙ inv.continues.rules;
+        shape = round.puts.plays.continues.shape ∙ inv.continues.shape;
+        kind = round.puts.plays.continues.kind ∙ inv.continues.kind;
       };
       played = round.puts.plays.played ∙ ap (λ n. n + 1) inv.played;
       len = c.push_reserved.ensures.len ∙ ap (λ n. n + 1) inv.len;
-      room = fits _ _ _ _ (ap (λ (s : BatchShape). s.num_rounds) round.continues.shape) c.push_reserved.ensures.capacity inv.room;
+      room = fits _ _ _ _ (ap (λ (s : BatchShape). s.num_rounds) round.puts.plays.continues.shape) c.push_reserved.ensures.capacity inv.room;
       drawn = λ p of is.
           let s = setting_for g.EF.ExtensionField.extension o p c.args.transcript.now in
           let t = begun_for N o p c.args.transcript.now c.args.sumcheck_data.now in

@@ -1,10 +1,12 @@
-use Rattle.std.proofs.Common.{map, refl, ap, ◌∙◌, rules}
+use Rattle.std.proofs.Common.{map, ap, ◌∙◌, rules}
 use Rattle.sc_definitions.specs.Channels.{channel}
+use Rattle.sc_transcript.specs.declared.rounds.BatchShape.{BatchShape}
+use Rattle.sc_transcript.specs.Transcripts.{driver_in}
 use Rattle.sc_transcript.proofs.ReplayedLaws.{same_channel}
 use Rattle.sc_transcript.proofs.Lent.{returned}
-use Rattle.sc_transcript.specs.declared.driver.BatchShape.{BatchShape}
 use Rattle.sc_degree.specs.Provers.{Play, play_of}
-use Rattle.sc_degree.proofs.PlayLaws.{played_at, stops_at, all_played, stopped, never_begun}
+use Rattle.sc_degree.specs.Plays.{Standing, playing}
+use Rattle.sc_degree.proofs.PlayLaws.{all_played, stopped_at}
 use Rattle.sc_degree.proofs.prover.play_batch.Goals as goal
 
 -- all rounds are played behind the seed and the claimed sum
@@ -13,15 +15,14 @@ returns-in-Ok-clause-left g c =
     let N = g.EF.Field.number in
     let H = g.C.Challenger.history in
     let R = g.C.Challenger.rules in
-    let E = g.EF.ExtensionField.extension in
     let begun = c.over-transcript.ensures in
     let told = c.in-Ok.ensures in
-    let q : Play = play_of g.EF.Field.ops (channel (R c.args.challenger.now) E g.F.Field.ops.size c.args.shape.pow_bits) c.args.shape (N c.args.claimed_sum) (H c.args.challenger.now) in
+    let q : Play = play_of g.EF.Field.ops (channel (R c.args.challenger.now) g.EF.ExtensionField.extension g.F.Field.ops.size c.args.shape.pow_bits) c.args.shape (N c.args.claimed_sum) (H c.args.challenger.now) in
+    let start : Standing = playing g.F.Field.number N (driver_in c.over-transcript.result) (g.P.RoundProver.meaning c.args.prover.now) c.in_ok-played.played in
     let same = same_channel g.F.Field.ops.size (ap R begun.lent.same ∙ c.in_ok-begin.ensures.rules) (ap (λ (s : BatchShape). s.pow_bits) begun.fresh.shape) in (
-      told.claimed ∙ c.in_ok-played.ensures.claimed,
-      all_played q (g.P.RoundProver.meaning c.args.prover.now) _ _ _ _
-          (played_at same (ap H begun.lent.same ∙ c.in_ok-begin.ensures.ok) told.rounds.0)
-          (told.rounds.1 ∙ ap (λ (s : BatchShape). s.num_rounds) begun.fresh.shape) refl (ap (map N) c.new-in-Ok.ensures)
+      told.rounds.0.claimed ∙ c.in_ok-played.ensures.claimed,
+      all_played q start (ap H begun.lent.same ∙ c.in_ok-begin.ensures.ok) same _ _ _ told.rounds.0
+          (told.rounds.1 ∙ ap (λ (s : BatchShape). s.num_rounds) begun.fresh.shape) (ap (map N) c.new-in-Ok.ensures)
           (ap H (returned (search rules) told.continues.lender begun.lent.lender c.finish.ensures)),
     )
 
@@ -31,18 +32,10 @@ returns-in-Err-clause-left g c =
     let N = g.EF.Field.number in
     let H = g.C.Challenger.history in
     let R = g.C.Challenger.rules in
-    let E = g.EF.ExtensionField.extension in
     let begun = c.over-transcript.ensures in
     let told = c.in-Err.ensures in
-    let q : Play = play_of g.EF.Field.ops (channel (R c.args.challenger.now) E g.F.Field.ops.size c.args.shape.pow_bits) c.args.shape (N c.args.claimed_sum) (H c.args.challenger.now) in
+    let q : Play = play_of g.EF.Field.ops (channel (R c.args.challenger.now) g.EF.ExtensionField.extension g.F.Field.ops.size c.args.shape.pow_bits) c.args.shape (N c.args.claimed_sum) (H c.args.challenger.now) in
+    let start : Standing = playing g.F.Field.number N (driver_in c.over-transcript.result) (g.P.RoundProver.meaning c.args.prover.now) c.in_ok-played.played in
     let same = same_channel g.F.Field.ops.size (ap R begun.lent.same ∙ c.in_ok-begin.ensures.rules) (ap (λ (s : BatchShape). s.pow_bits) begun.fresh.shape) in
-    stopped q (g.P.RoundProver.meaning c.args.prover.now) g.F.Field.number N _ _ c.in-Err.error c.requires.variables
-    (stops_at same (ap (λ (s : BatchShape). s.num_rounds) begun.fresh.shape) (ap H begun.lent.same ∙ c.in_ok-begin.ensures.ok) told.rounds)
-    (ap H (returned (search rules) told.continues.lender begun.lent.lender c.abort.ensures))
-
--- without memory for the proof, the challenges or the seed nothing is
-pub returns-in_err-played-clause-left : goal.returns-in_err-played-clause-left
-returns-in_err-played-clause-left g c = never_begun _ _ _ (search rules) refl refl
-
-pub returns-in_err-begin-clause-left : goal.returns-in_err-begin-clause-left
-returns-in_err-begin-clause-left g c = never_begun _ _ _ (search rules) refl c.in_err-begin.ensures.err
+    stopped_at q start (ap H begun.lent.same ∙ c.in_ok-begin.ensures.ok) g.F.Field.number N same (ap (λ (s : BatchShape). s.num_rounds) begun.fresh.shape) _ _ c.in-Err.error
+    c.requires.variables told.rounds (ap H (returned (search rules) told.continues.lender begun.lent.lender c.abort.ensures))

@@ -1,4 +1,4 @@
-use Rattle.std.proofs.Common.{List, refl, ◌++◌, inr, ap, map}
+use Rattle.std.proofs.Common.{List, refl, ◌++◌, inr, ap, map, length}
 use Rattle.sc_definitions.specs.Tables.{evaluation}
 use Rattle.sc_definitions.specs.Events.{words}
 use Rattle.sc_definitions.specs.Seeds.{quadratic_seed}
@@ -6,6 +6,10 @@ use Rattle.sc_definitions.specs.declared.events.Event.{Event}
 use Rattle.sc_definitions.specs.Channels.{channel}
 use Rattle.sc_rounds.proofs.TakenLaws.{claim_begun, same_footing}
 use Rattle.sc_transcript.proofs.InStep.{message_count, found_count, same_challenges, same_ends, wants_memory, step_as, not_begun}
+use Rattle.sc_table.specs.declared.strategy.Basis.TheVariants.{Evaluation}
+use Rattle.sc_transcript.specs.Shapes.{shape_of, batch_of}
+use Rattle.sc_transcript.specs.Data.{wire_in}
+use Rattle.sc_transcript.specs.Replayed.{AreCounted}
 use Rattle.sc_rounds.specs.ProverViews.{stated_to}
 use Rattle.sc_rounds.proofs.laws.batch_in_step.Goals as goal
 
@@ -43,9 +47,12 @@ returns-in_err-replayed g c =
     let begun = same_footing (ap seed c.requires.history) claim in
     let whole = c.in_ok-drawn.ensures.batch.whole in
     let played = c.in_ok-drawn.ensures.batch.played in
-    let counted = message_count _ _ _ _ C _ c.requires.empty same begun played c.args.folding_factor whole in
-    let witnessed = found_count _ _ _ _ C _ c.requires.empty same begun played c.args.folding_factor whole in
-    let told = wants_memory _ _ _ _ C _ c.requires.empty same begun played N _ _ c.args.folding_factor _ _ c.in_err-replayed.field-0.0 _ counted witnessed c.in_err-replayed.ensures.left in
+    let shape = batch_of (shape_of c.args.folding_factor c.args.pow_bits Evaluation) in
+    let counted : AreCounted shape (length (wire_in g.F.Field.number N c.compute_sumcheck_polynomials.new.sumcheck_data).messages) (length (wire_in g.F.Field.number N c.compute_sumcheck_polynomials.new.sumcheck_data).witnesses) = record {
+      as_rounds = message_count _ _ _ _ C _ c.requires.empty same begun played c.args.folding_factor whole;
+      as_witnesses = found_count _ _ _ _ C _ c.requires.empty same begun played c.args.folding_factor whole;
+    } in
+    let told = wants_memory _ _ _ _ C _ c.requires.empty same begun played _ _ shape c.in_err-replayed.field-0.0 _ counted c.in_err-replayed.ensures.left in
     record {
       step = step_as (map N) N _ _ _ _ c.from_residual-in_err-replayed.result _ (rw told.0 at c.from_residual-in_err-replayed.ensures.1)
           (inr (record { rs = _; played = c.in_ok-drawn.ensures.batch; left = told.1 }));
@@ -64,7 +71,7 @@ returns g c =
     let claim = claim_begun g.EF.Field.ops (stated_to c.args.prover.now c.args.constraint) _ _ _ c.claimed_sum.ensures.number c.with_claim-claim.ensures in
     let begun = same_footing (ap seed c.requires.history) claim in
     let played = c.in_ok-drawn.ensures.batch.played in
-    let replayed = c.in_ok-replayed.ensures.left.1 in
+    let replayed = c.in_ok-replayed.ensures.left.1.replays in
     record {
       step = record {
         played = c.in_ok-drawn.ensures.batch;

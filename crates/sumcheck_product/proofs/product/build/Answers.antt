@@ -1,7 +1,9 @@
 use Rattle.std.proofs.Common.{None, map, ◌∙◌, ap, subst}
 use Rattle.std.proofs.lemmas.Result.{IfOk-weaker}
 use Rattle.sc_definitions.specs.Channels.{Footing, channel, footing}
-use Rattle.sc_degree.specs.Proofs.{Replay, wire_in, IsReplayedTo}
+use Rattle.sc_transcript.specs.Walks.{IsWalked}
+use Rattle.sc_transcript.specs.Replayed.{Replay}
+use Rattle.sc_degree.specs.Proofs.{proof_wire}
 use Rattle.sc_degree.specs.Products.{tables_of, arity_of}
 use Rattle.sumcheck_product.specs.Products.{ProductCase, ProductFigures, case_over, shown_reply}
 use Rattle.sumcheck_product.proofs.ProductReplies.{replay-is, built-shown, figures-shown}
@@ -15,11 +17,11 @@ returns-in-Ok-verify g c =
     let q : ProductCase = case_over g.EF.Field.ops (tables_of N c.args.product) (arity_of c.args.product)
     (channel (g.C.Challenger.rules c.args.challenger.now) g.EF.ExtensionField.extension g.F.Field.ops.size c.args.pow_bits) (g.C.Challenger.history c.args.challenger.now) in
     let built = c.in-Ok.built in
-    let came = wire_in B N built.proof in
+    let came = proof_wire B N built.proof in
     let rs = map N c.in-Ok-verify.challenges in
     let end : Footing = footing (g.C.Challenger.history c.verify.new.challenger) (N c.in-Ok-verify.residual) in
     let same = replay-is q _ _ (N built.proof.claimed_sum) came c.num_variables-variables.ensures c.degree-degree.ensures in
-    let replayed = subst (λ (p : Replay). IsReplayedTo p p.shape.num_rounds rs end) same c.in-Ok-verify.ensures.left.1 in
+    let replayed = subst (λ (p : Replay). IsWalked p.walk rs end) same c.in-Ok-verify.ensures.left.1.1 in
     let figures : ProductFigures = record {
       claimed = N built.proof.claimed_sum;
       messages = came.messages;

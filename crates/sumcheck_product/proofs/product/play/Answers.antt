@@ -1,7 +1,7 @@
 use Rattle.std.proofs.Common.{◌<◌, Err, map, ◌∙◌, subst}
 use Rattle.std.proofs.lemmas.List.Elements.{All-map}
 use Rattle.sc_definitions.specs.Channels.{channel}
-use Rattle.sc_degree.specs.Proofs.{wire_in}
+use Rattle.sc_degree.specs.Proofs.{proof_wire}
 use Rattle.sc_degree.specs.Provers.{LeavesPlay, IsPlayed}
 use Rattle.sc_degree.specs.Products.{prover_of, tables_of, arity_of}
 use Rattle.sumcheck_product.specs.Products.{ProductCase, case_over}
@@ -25,7 +25,7 @@ returns g c =
     (channel (g.C.Challenger.rules c.args.challenger.now) g.EF.ExtensionField.extension g.F.Field.ops.size c.args.pow_bits) (g.C.Challenger.history c.args.challenger.now) in
     let after = prover_of e.ops (tables_of e.number c.prove.new.self) (arity_of c.prove.new.self) in
     let same = play-is q c.in_ok-copied.ensures.rules c.in_ok-copied.ensures.history c.num_variables-variables.ensures c.degree-degree.ensures c.requires.sum in
-    let came = wire_in g.F.Field.number e.number c.in_ok-proof.proof in
+    let came = proof_wire g.F.Field.number e.number c.in_ok-proof.proof in
     built-played q g.met.EF.Field.is_field.ring (tables_of e.number c.prove.new.self) (arity_of c.prove.new.self) came (map e.number c.in_ok-proof.field-0-1)
     (g.C.Challenger.history c.prove.new.challenger) (e.number c.in_ok-proof.proof.claimed_sum) (e.number c.sum.result)
     (c.in_ok-proof.ensures.left.0 ∙ c.requires.sum)

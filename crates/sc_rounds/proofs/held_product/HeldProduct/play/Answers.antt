@@ -1,7 +1,7 @@
 use Rattle.std.proofs.Common.{◌+◌, ◌≤◌, map, ap, sym, refl, inl, inr, ◌∙◌}
 use Rattle.std.proofs.lemmas.List.{map-append}
 use Rattle.sc_transcript.proofs.ReplayedLaws.{same_channel}
-use Rattle.sc_transcript.specs.declared.driver.BatchShape.{BatchShape}
+use Rattle.sc_transcript.specs.declared.rounds.BatchShape.{BatchShape}
 use Rattle.sc_transcript.specs.declared.transcript.SumcheckShape.{SumcheckShape}
 use Rattle.sc_definitions.specs.Shown.{Shown}
 use Rattle.sc_rounds.specs.HeldProducts.{shown_in, image_in, standing_over}
@@ -56,30 +56,30 @@ loop-round-preserved g c =
 -- a round is left, and so is a variable
 pub round-requires-clause-variables : goal.round-requires-clause-variables
 round-requires-clause-variables g c =
-    some_left _ _ _ _ c.loop-round.invariant.left c.requires.variables (less_at _ _ _ _ refl c.loop-round-test.true (ap (λ (s : SumcheckShape). s.num_rounds) c.shape-round-end.ensures))
+    some_left _ _ _ _ c.loop-round.invariant.left c.requires.variables (less_at _ _ _ _ refl c.loop-round-test.true (ap (λ (s : BatchShape). s.num_rounds) c.shape-round-end.ensures.numbers))
 
 -- the round of the loop is the transcript's
 pub round-requires-clause-left : goal.round-requires-clause-left
 round-requires-clause-left g c =
     let inv = c.loop-round.invariant in
-    less_at _ _ _ _ inv.played c.loop-round-test.true (ap (λ (s : SumcheckShape). s.num_rounds) c.shape-round-end.ensures ∙ ap (λ (s : BatchShape). s.num_rounds) (sym inv.continues.shape))
+    less_at _ _ _ _ inv.played c.loop-round-test.true (ap (λ (s : BatchShape). s.num_rounds) c.shape-round-end.ensures.numbers ∙ ap (λ (s : BatchShape). s.num_rounds) (sym inv.continues.shape))
 
 -- as many challenges as rounds so far, and there is room for one of each round
 pub push_reserved-requires : goal.push_reserved-requires
 push_reserved-requires g c =
     let inv = c.loop-round.invariant in
-    room_at inv.len c.loop-round-test.true (ap (λ (s : SumcheckShape). s.num_rounds) c.shape-round-end.ensures ∙ ap (λ (s : BatchShape). s.num_rounds) (sym inv.continues.shape)) inv.room
+    room_at inv.len c.loop-round-test.true (ap (λ (s : BatchShape). s.num_rounds) c.shape-round-end.ensures.numbers ∙ ap (λ (s : BatchShape). s.num_rounds) (sym inv.continues.shape)) inv.room
 
 -- all rounds are played, and what the invariant says of them holds of all
 pub returns : goal.returns
 returns g c =
     let inv = c.loop-round.invariant in
-    let below : c.len-round.result ≤ c.shape-round-end.result.num_rounds = begun_within c.len-round.ensures c.requires.count c.requires.begun (ap (λ (s : SumcheckShape). s.num_rounds) c.shape-round-end.ensures) in
+    let below : c.len-round.result ≤ c.shape-round-end.result.num_rounds = begun_within c.len-round.ensures c.requires.count c.requires.begun (ap (λ (s : BatchShape). s.num_rounds) c.shape-round-end.ensures.numbers) in
     record {
       continues = inv.continues;
       order = inv.order;
       left = sum_at _ _ _ _ inv.played inv.left;
-      rounds = λ start before. (all_played _ _ _ _ inv.played (ap (λ (s : BatchShape). s.num_rounds) inv.continues.shape ∙ ap (λ (s : SumcheckShape). s.num_rounds) (sym c.shape-round-end.ensures)) c.loop-round-test.false (c.loop-round.auto._round-end below), inv.batch start before);
+      rounds = λ start before. (all_played _ _ _ _ inv.played (ap (λ (s : BatchShape). s.num_rounds) inv.continues.shape ∙ ap (λ (s : BatchShape). s.num_rounds) (sym c.shape-round-end.ensures.numbers)) c.loop-round-test.false (c.loop-round.auto._round-end below), inv.batch start before);
       holds = inv.holds;
     }
 
@@ -98,7 +98,7 @@ returns-in-Err g c =
       order = round.order ∙ inv.order;
       left = sum_at _ _ _ _ (round.counts ∙ inv.played) (ap (λ (s : Shown). s.variables + c.loop-round._round) round.kept ∙ inv.left);
       rounds = λ start before. (
-        less_at _ _ _ _ (round.counts ∙ inv.played) c.loop-round-test.true (ap (λ (s : SumcheckShape). s.num_rounds) c.shape-round-end.ensures ∙ ap (λ (s : BatchShape). s.num_rounds) (sym inv.continues.shape ∙ sym round.continues.shape)),
+        less_at _ _ _ _ (round.counts ∙ inv.played) c.loop-round-test.true (ap (λ (s : BatchShape). s.num_rounds) c.shape-round-end.ensures.numbers ∙ ap (λ (s : BatchShape). s.num_rounds) (sym inv.continues.shape ∙ sym round.continues.shape)),
         stops _ c.in-Err.error
             (same_setting (same_channel g.G.Field.ops.size inv.continues.rules (ap (λ (s : BatchShape). s.pow_bits) inv.continues.shape)) inv.order)
             (sym round.counts) (inv.batch start before) round.round,

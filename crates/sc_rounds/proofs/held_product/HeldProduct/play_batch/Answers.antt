@@ -1,5 +1,5 @@
 use Rattle.std.proofs.Common.{ap, sym, ◌∙◌, refl, rules, map}
-use Rattle.sc_transcript.specs.declared.driver.BatchShape.{BatchShape}
+use Rattle.sc_transcript.specs.declared.rounds.BatchShape.{BatchShape}
 use Rattle.sc_transcript.specs.Data.{wire_in}
 use Rattle.sc_transcript.proofs.ReplayedLaws.{same_channel}
 use Rattle.sc_transcript.proofs.Lent.{returned}

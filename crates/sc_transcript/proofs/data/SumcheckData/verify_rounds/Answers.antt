@@ -1,19 +1,33 @@
-use Rattle.std.proofs.Common.{◌≡◌, refl, Err, rules, ◌∙◌}
-use Rattle.sc_transcript.proofs.ReplayedLaws.{begun_left, counts_passed, counts_as, rounds_came, witnesses_came, counted_left}
+use Rattle.std.proofs.Common.{◌≡◌, map, vec_len, refl, ap, sym, ◌∙◌, rules}
+use Rattle.std.proofs.lemmas.List.{length-map}
+use Rattle.sc_definitions.specs.Channels.{channel, footing}
+use Rattle.sc_definitions.proofs.ReplayLaws.{length-given_rounds}
+use Rattle.sc_transcript.specs.Shapes.{shape_of, batch_of}
+use Rattle.sc_transcript.specs.Data.{wire_in, pair_replay}
+use Rattle.sc_transcript.specs.Replayed.{Replay, AreCounted}
+use Rattle.sc_transcript.proofs.PairLaws.{pairs_wide, came_counted, pairs_left}
 use Rattle.sc_transcript.proofs.data.SumcheckData.verify_rounds.Goals as goal
 
-pub seed_and_replay-requires : goal.seed_and_replay-requires
-seed_and_replay-requires g c = record { tested = c.requires; counted = c.in_ok-check_counts.ensures.ok.0; witnessed = c.in_ok-check_counts.ensures.ok.1 }
+-- as many rounds came as the shape has
+pub replay-requires-clause-counted : goal.replay-requires-clause-counted
+replay-requires-clause-counted g c =
+    let right = rw (c.len.ensures, c.len-2.ensures) at c.in_ok-check_counts.ensures.ok in
+    record {
+      as_rounds = length-given_rounds _ _ ∙ length-map _ _ ∙ sym c.args.self.now.polynomial_evaluations.ok.0 ∙ right.as_rounds;
+      as_witnesses = right.as_witnesses;
+    }
 
-pub returns-clause-left : goal.returns-clause-left
-returns-clause-left g c =
-    let right = c.in_ok-check_counts.ensures.ok in
+-- one of them is rejected; each of them sends two values
+pub returns-in_err-drawn-clause-left : goal.returns-in_err-drawn-clause-left
+returns-in_err-drawn-clause-left g c =
+    let B = g.F.Field.number in
+    let N = g.EF.Field.number in
     let d = c.args.self.now in
-    begun_left _ g.EF.Field.number _ _ _ (record { rounds = rounds_came g.EF.Field.number d ∙ right.0; witnesses = witnesses_came g.F.Field.number d ∙ right.1 }) c.seed_and_replay.ensures.leaves
-
-pub returns-in_err-check_counts-clause-left : goal.returns-in_err-check_counts-clause-left
-returns-in_err-check_counts-clause-left g c =
-    let is : c.from_residual.result ≡ Err c.in_err-check_counts.field-0.0 = search rules in
-    let d = c.args.self.now in
-    counted_left _ g.EF.Field.number _ _ _ (refl, refl)
-    (counts_as (rounds_came g.EF.Field.number d) (witnesses_came g.F.Field.number d) (counts_passed is c.in_err-check_counts.ensures.err))
+    let shape = shape_of c.args.expected_rounds c.args.pow_bits c.args.basis in
+    let p : Replay = pair_replay g.EF.Field.ops (channel (g.C.Challenger.rules c.args.challenger.now) g.EF.ExtensionField.extension g.F.Field.ops.size c.args.pow_bits)
+    g.EF.ExtensionField.DEGREE shape (wire_in B N d) (footing (g.C.Challenger.history c.args.challenger.now) (N c.args.claimed_sum.now)) in
+    let batch : c.batch-batch.result ≡ batch_of shape = c.batch-batch.ensures ∙ ap batch_of c.new-shape.ensures in
+    let counts : AreCounted (batch_of shape) (vec_len d.polynomial_evaluations) (vec_len d.pow_witnesses) =
+    rw (batch, c.len.ensures, c.len-2.ensures) at c.in_ok-check_counts.ensures.ok in
+    pairs_left _ (map N) p (rw (batch, c.in_ok-seed.ensures.rules, c.in_ok-seed.ensures.ok, c.new-shape.ensures) refl) (λ i r is. pairs_wide N _ _ i r is) _ _ _
+    (came_counted B N d (batch_of shape) counts) (search rules) c.in_err-drawn.ensures.leaves

@@ -1,6 +1,5 @@
 use Rattle.std.proofs.Common.{◌++◌, ◌∙◌, ap}
 use Rattle.std.proofs.Math.Nat.{le_antisymm}
-use Rattle.std.proofs.lemmas.Result.{IfOk-from_err}
 use Rattle.sc_definitions.specs.Seeds.{round_steps, rounds_steps}
 use Rattle.sc_transcript.proofs.StepLaws.{steps_more}
 use Rattle.sc_transcript.proofs.transcript.SumcheckShape.pattern.Goals as goal
@@ -20,7 +19,3 @@ pub returns : goal.returns
 returns g c =
     c.new.ensures ∙ c.loop-round.invariant
     ∙ ap (rounds_steps g.EF.ExtensionField.DEGREE 2 c.args.self.now.pow_bits) (le_antisymm c.loop-round.auto._round-end c.loop-round-test.false)
-
--- a refusal tells nothing of an answer
-pub returns-in_err-push_round_steps : goal.returns-in_err-push_round_steps
-returns-in_err-push_round_steps g c = IfOk-from_err c.from_residual.result _ c.from_residual.ensures.0

@@ -1,6 +1,5 @@
 use Rattle.std.proofs.Common.{◌∙◌, ap}
 use Rattle.std.proofs.Math.Nat.{pos_of_ne-zero, le-add_right}
-use Rattle.std.proofs.lemmas.Result.{IfOk-from_err}
 use Rattle.sc_definitions.specs.Seeds.{seed_words}
 use Rattle.sc_transcript.proofs.RoundWords.{seed_none, seed_some}
 use Rattle.sc_transcript.proofs.transcript.SumcheckShape.seed.Goals as goal
@@ -16,25 +15,9 @@ returns-clause-spare g c =
     let same = ap seed_words c.in_ok-separator.ensures ∙ seed_some _ _ _ _ (pos_of_ne-zero c.if-self-eq0.false) in
     rw same at c.seed.ensures.spare
 
-pub returns-clause-rules : goal.returns-clause-rules
-returns-clause-rules g c = c.seed.ensures.rules
-
-pub returns-clause-err : goal.returns-clause-err
-returns-clause-err g c = c.seed.ensures.err
-
-pub returns-clause-spare_err : goal.returns-clause-spare_err
-returns-clause-spare_err g c = c.seed.ensures.spare_err
-
 -- no rounds have no seed
 pub returns-then-self-eq0-clause-ok : goal.returns-then-self-eq0-clause-ok
 returns-then-self-eq0-clause-ok g c = seed_none _ _ _ _ c.if-self-eq0.true
 
 pub returns-then-self-eq0-clause-spare : goal.returns-then-self-eq0-clause-spare
 returns-then-self-eq0-clause-spare g c = le-add_right _ _
-
--- a refusal tells nothing of an answer
-pub returns-in_err-separator-clause-ok : goal.returns-in_err-separator-clause-ok
-returns-in_err-separator-clause-ok g c = IfOk-from_err c.from_residual.result _ c.from_residual.ensures.0
-
-pub returns-in_err-separator-clause-spare : goal.returns-in_err-separator-clause-spare
-returns-in_err-separator-clause-spare g c = IfOk-from_err c.from_residual.result _ c.from_residual.ensures.0

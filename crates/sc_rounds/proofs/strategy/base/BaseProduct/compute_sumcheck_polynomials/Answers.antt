@@ -1,7 +1,7 @@
 use Rattle.std.proofs.Common.{map, ap, sym, ◌∙◌, refl, inl, rules}
 use Rattle.sc_definitions.specs.Standings.{Standing}
 use Rattle.sc_transcript.specs.Data.{wire_in}
-use Rattle.sc_transcript.specs.declared.driver.BatchShape.{BatchShape}
+use Rattle.sc_transcript.specs.declared.rounds.BatchShape.{BatchShape}
 use Rattle.sc_transcript.specs.declared.transcript.SumcheckShape.{SumcheckShape}
 use Rattle.sc_transcript.specs.declared.error.SumcheckError.TheVariants.{NoMemory}
 use Rattle.sc_transcript.proofs.ReplayedLaws.{same_channel}

@@ -2,7 +2,7 @@ use Rattle.std.proofs.Common.{◌≡◌, ◌+◌, ◌∷◌, ◌++◌, [], map, 
 use Rattle.sc_definitions.proofs.StandingLaws.{IsSized}
 use Rattle.sc_transcript.specs.Transcripts.{driver_in}
 use Rattle.sc_transcript.specs.Data.{wire_in}
-use Rattle.sc_transcript.specs.declared.driver.BatchShape.{BatchShape}
+use Rattle.sc_transcript.specs.declared.rounds.BatchShape.{BatchShape}
 use Rattle.sc_transcript.specs.declared.error.SumcheckError.TheVariants.{NoMemory}
 use Rattle.sc_transcript.proofs.ReplayedLaws.{same_channel}
 use Rattle.sc_definitions.specs.Shown.{Shown, with_bound}

@@ -1,6 +1,6 @@
 use Rattle.std.proofs.Common.{◌<◌, refl, subst, ◌∙◌, arith}
 use Rattle.sc_transcript.proofs.RoundWords.{sent_none, sent_more}
-use Rattle.sc_transcript.proofs.driver.observe_values.Goals as goal
+use Rattle.sc_transcript.proofs.rounds.observe_values.Goals as goal
 
 pub loop-i-init : goal.loop-i-init
 loop-i-init g c = record {

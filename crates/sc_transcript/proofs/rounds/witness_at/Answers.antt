@@ -1,5 +1,5 @@
 use Rattle.sc_transcript.proofs.WitnessReads.{read_at, read_past}
-use Rattle.sc_transcript.proofs.driver.witness_at.Goals as goal
+use Rattle.sc_transcript.proofs.rounds.witness_at.Goals as goal
 
 pub returns-then-i-witnesses-clause-number : goal.returns-then-i-witnesses-clause-number
 returns-then-i-witnesses-clause-number g c =

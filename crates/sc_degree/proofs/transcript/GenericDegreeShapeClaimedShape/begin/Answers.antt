@@ -1,5 +1,5 @@
 use Rattle.sc_degree.proofs.PreludeLaws.{prelude_grown, prelude_room}
-use Rattle.sc_degree.proofs.transcript.GenericDegreeShape.begin.Goals as goal
+use Rattle.sc_degree.proofs.transcript.GenericDegreeShapeClaimedShape.begin.Goals as goal
 
 pub returns-clause-ok : goal.returns-clause-ok
 returns-clause-ok g c =

@@ -1,6 +1,6 @@
 use Rattle.std.proofs.Common.{◌≡◌, ◌+◌, ◌*◌, ◌≤◌, ◌++◌, length, map, take}
 use Rattle.sc_definitions.specs.Transcript.{sent}
-use Rattle.sc_transcript.proofs.driver.observe_values.Given as goal
+use Rattle.sc_transcript.proofs.rounds.observe_values.Given as goal
 
 abbrev pub invariant-loop-i : goal.invariant-loop-i
 invariant-loop-i g l =
