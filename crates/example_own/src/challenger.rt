@@ -18,8 +18,8 @@ pub struct Counting {
 impl Counting {
     /// A challenger with an empty history.
     pub fn new(alloc: Global) -> Self
-        ensures history { ⟦<Counting as Challenger<F31>>⟧.history result ≡ [] }
-        ensures rules { ⟦<Counting as Challenger<F31>>⟧.rules result ≡ counting_rules }
+        ensures history { (⟦<Counting as Challenger<F31>>⟧.party result).history ≡ [] }
+        ensures rules { (⟦<Counting as Challenger<F31>>⟧.party result).rules ≡ counting_rules }
     {
         Counting {
             events: Vec::new(alloc),
@@ -35,11 +35,11 @@ impl Counting {
 }
 
 impl Challenger<F31> for Counting {
-    ghost history = { λ s. s.events.items };
-
-    ghost rules = { λ _. counting_rules };
-
-    ghost spare = { λ s. vec_capacity s.events - vec_len s.events };
+    ghost party = { λ s. record {
+      rules = counting_rules;
+      history = s.events.items;
+      spare = vec_capacity s.events - vec_len s.events;
+    } };
 
     fn observe(&mut self, x: F31) -> Result<(), NoMemory> {
         self.events.push(Event::Word(x.index()))?;

@@ -1,3 +1,4 @@
 pub mod Built
 pub mod SmallRounds
 pub mod Ways
+pub mod Asked

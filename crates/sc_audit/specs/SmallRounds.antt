@@ -11,6 +11,7 @@ use Rattle.sc_definitions.specs.Problem.{Problem}
 use Rattle.sc_field.specs.declared.field.Field.{Ghosts as FieldOf}
 use Rattle.sc_field.specs.declared.algebra.Algebra.{Ghosts as AlgebraOf}
 use Rattle.sc_field.specs.declared.algebra.ExtensionField.{Ghosts as ExtensionOf}
+use Rattle.sc_challenger.specs.Parties.{Party, channel_by}
 use Rattle.sc_challenger.specs.declared.challenger.Challenger.{Ghosts as ChallengerOf}
 use Rattle.sc_table.specs.declared.strategy.Basis.TheVariants.{Evaluation}
 use Rattle.sc_table.specs.declared.strategy.Strategy.{Strategy}
@@ -104,9 +105,9 @@ LeavesPlayed b after rs d wire (Err e) = StopsFrom b.setting b.start d wire e
 
 module _ {F EF : Type 0} {f : FieldOf F} {p : PartialEqOf F} {x : ExtensionOf EF F} {a : AlgebraOf EF F} {e : FieldOf EF} {q : PartialEqOf EF} where
   -- the rounds of a job, where so much is on the wire, a challenger answers by these rules and has this history
-  abbrev pub rounds_for : Job F EF f p x a e q → Wire → Rules → List Event → Rounds
-  rounds_for job on R h =
-      batch_at (setting_at (channel R x.extension f.ops.size job.pow_bits) e.ops (prover_for e.ops (problem_in job))) (standing_at (prover_for e.ops (problem_in job)) h on)
+  abbrev pub rounds_for : Job F EF f p x a e q → Wire → Party → Rounds
+  rounds_for job on party =
+      batch_at (setting_at (channel_by party x.extension f.ops.size job.pow_bits) e.ops (prover_for e.ops (problem_in job))) (standing_at (prover_for e.ops (problem_in job)) party.history on)
       x.DEGREE (shape_of (constraint_arity job.constraint) job.pow_bits Evaluation)
 
 -- what they leave, by their result: they were played whole, with these challenges, and stand where it says, or they break off

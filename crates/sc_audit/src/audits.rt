@@ -1,6 +1,7 @@
 //! The calls.
+ghost use Rattle.sc_audit.specs.Asked.{asked_by};
 ghost use Rattle.std.specs.Prelude.{◌≡◌, IfOk, IfErr, IfSome};
-ghost use Rattle.sc_jobs.specs.Cases.{asked_of, problem_in, task_in};
+ghost use Rattle.sc_jobs.specs.Cases.{problem_in, task_in};
 ghost use Rattle.sc_jobs.specs.Refusals.{refusal_of, shape_refusal};
 ghost use Rattle.sc_jobs.specs.Figures.{report_in};
 ghost use Rattle.sc_jobs.specs.Audits.{Answers, IsAnswer, IsRefusedBy, HoldsIfBuilt, IsValid, MayMeet};
@@ -30,11 +31,11 @@ pub fn audit<F: Field, EF: ExtensionField<F>, R: IntoTranscriptField<EF>, C: Cha
     job: &Job<F, EF>,
     challenger: &mut C,
 ) -> Result<Report<F, EF>, AuditError>
-    ensures rules { C.rules challenger.new ≡ C.rules challenger.old }
+    ensures rules { (C.party challenger.new).rules ≡ (C.party challenger.old).rules }
 
     // A report shows the rounds of the job, and what they and their challenges determine; a refusal has its one cause, want of memory aside.
-    ensures answers { Answers F.number EF.number (refusal_of (asked_of job.now (C.rules challenger.old) (C.history challenger.old)))
-        (asked_of job.now (C.rules challenger.old) (C.history challenger.old)) result (C.history challenger.new) }
+    ensures answers { Answers F.number EF.number (refusal_of (asked_by job.now (C.party challenger.old)))
+        (asked_by job.now (C.party challenger.old)) result (C.party challenger.new).history }
 
     // The verdict on a build is that the statements hold.
     ensures holds { IfOk result (λ r. HoldsIfBuilt (task_in F.number EF.number job.now.mode) (report_in F.number EF.number r).figures) }
@@ -45,10 +46,10 @@ pub fn audit<F: Field, EF: ExtensionField<F>, R: IntoTranscriptField<EF>, C: Cha
         (report_in F.number EF.number r).figures) }
 
     // A cause is refused.
-    ensures refused { IsRefusedBy (refusal_of (asked_of job.now (C.rules challenger.old) (C.history challenger.old))) result }
+    ensures refused { IsRefusedBy (refusal_of (asked_by job.now (C.party challenger.old))) result }
 
     // A valid job is answered.
-    ensures answered { IsValid (asked_of job.now (C.rules challenger.old) (C.history challenger.old)) → IfErr result MayMeet }
+    ensures answered { IsValid (asked_by job.now (C.party challenger.old)) → IfErr result MayMeet }
 {
     audit_by::<F, EF, R, C>(alloc, job, None, challenger)
 }
@@ -65,7 +66,7 @@ pub fn audit_true<F: Field, EF: ExtensionField<F>, R: IntoTranscriptField<EF>, C
     job: &mut Job<F, EF>,
     challenger: &mut C,
 ) -> Result<Report<F, EF>, AuditError>
-    ensures rules { C.rules challenger.new ≡ C.rules challenger.old }
+    ensures rules { (C.party challenger.new).rules ≡ (C.party challenger.old).rules }
 
     // All of the job stays but what its statements claim.
     ensures kept { IsRestated job.old job.new }
@@ -73,22 +74,22 @@ pub fn audit_true<F: Field, EF: ExtensionField<F>, R: IntoTranscriptField<EF>, C
     // They claim their true values, unless the shape is refused; after want of memory these or the
     // old ones.
     ensures stated { LeavesStated
-        (shape_refusal (asked_of job.old (C.rules challenger.old) (C.history challenger.old)))
+        (shape_refusal (asked_by job.old (C.party challenger.old)))
         EF.ops (problem_in job.old) (problem_in job.new) result }
 
     // What is answered is said of the job as it is then, as by `audit`.
     ensures answers { Answers F.number EF.number
-        (refusal_of (asked_of job.new (C.rules challenger.old) (C.history challenger.old)))
-        (asked_of job.new (C.rules challenger.old) (C.history challenger.old))
-        result (C.history challenger.new) }
+        (refusal_of (asked_by job.new (C.party challenger.old)))
+        (asked_by job.new (C.party challenger.old))
+        result (C.party challenger.new).history }
     ensures holds { IfOk result (λ r. HoldsIfBuilt (task_in F.number EF.number job.new.mode)
         (report_in F.number EF.number r).figures) }
     ensures certified { IfOk result (λ r. CertifiesLuck EF.ops (problem_in job.new)
         (report_in F.number EF.number r).figures) }
     ensures refused { IsRefusedBy
-        (refusal_of (asked_of job.new (C.rules challenger.old) (C.history challenger.old))) result }
+        (refusal_of (asked_by job.new (C.party challenger.old))) result }
     ensures answered { IsValid
-        (asked_of job.new (C.rules challenger.old) (C.history challenger.old))
+        (asked_by job.new (C.party challenger.old))
         → IfErr result MayMeet }
 {
     let way = state_truth(alloc, job, challenger.max_bits())?;
@@ -104,10 +105,10 @@ fn audit_by<F: Field, EF: ExtensionField<F>, R: IntoTranscriptField<EF>, C: Chal
     challenger: &mut C,
 ) -> Result<Report<F, EF>, AuditError>
     requires { IfSome way (IsWayOf job.now) }
-    ensures rules { C.rules challenger.new ≡ C.rules challenger.old }
+    ensures rules { (C.party challenger.new).rules ≡ (C.party challenger.old).rules }
     ensures answer { IsAnswer F.number EF.number
-        (asked_of job.now (C.rules challenger.old) (C.history challenger.old)) result
-        (C.history challenger.new) }
+        (asked_by job.now (C.party challenger.old)) result
+        (C.party challenger.new).history }
 {
     let fitting = FittingJob::of(job, challenger.max_bits())?;
     match &job.mode {

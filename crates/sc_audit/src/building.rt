@@ -1,6 +1,7 @@
 //! Rounds that are built.
+ghost use Rattle.sc_audit.specs.Asked.{asked_for};
 ghost use Rattle.std.specs.Prelude.{◌≡◌, IfOk, None};
-ghost use Rattle.sc_jobs.specs.Cases.{asked_to, build};
+ghost use Rattle.sc_jobs.specs.Cases.{build};
 ghost use Rattle.sc_jobs.specs.Fitting.{job_in, stated_in, AllTrue, IsAllowed};
 ghost use Rattle.sc_jobs.specs.Audits.{Answers, AnswersTask};
 ghost use Rattle.sc_audit.specs.Built.{LeavesBuild, kept_in};
@@ -26,11 +27,10 @@ pub(crate) fn build<F: Field, EF: ExtensionField<F>, R: IntoTranscriptField<EF>,
     strategy: Strategy,
     challenger: &mut C,
 ) -> Result<Report<F, EF>, AuditError>
-    requires { IsAllowed fitting.now (C.rules challenger.old) }
-    ensures rules { C.rules challenger.new ≡ C.rules challenger.old }
+    requires { IsAllowed fitting.now (C.party challenger.old).rules }
+    ensures rules { (C.party challenger.new).rules ≡ (C.party challenger.old).rules }
     ensures task { AnswersTask F.number EF.number
-        (asked_to (job_in fitting.now) (build strategy) (C.rules challenger.old)
-        (C.history challenger.old)) result (C.history challenger.new) }
+        (asked_for (job_in fitting.now) (build strategy) (C.party challenger.old)) result (C.party challenger.new).history }
     ensures holds { IfOk result (λ r. r.verdict ≡ Verdict.Holds) }
 {
     check_strategy(fitting, strategy)?;
@@ -46,13 +46,12 @@ pub(crate) fn play<F: Field, EF: ExtensionField<F>, R: IntoTranscriptField<EF>, 
     way: Way<F, EF>,
     challenger: &mut C,
 ) -> Result<Report<F, EF>, AuditError>
-    requires difficulty { IsAllowed fitting.now (C.rules challenger.old) }
+    requires difficulty { IsAllowed fitting.now (C.party challenger.old).rules }
     requires all_true { AllTrue fitting.now }
     requires ready { IsReady EF.ops (stated_in fitting.now) way }
-    ensures rules { C.rules challenger.new ≡ C.rules challenger.old }
+    ensures rules { (C.party challenger.new).rules ≡ (C.party challenger.old).rules }
     ensures answers { Answers F.number EF.number None
-        (asked_to (job_in fitting.now) (build (strategy_by way)) (C.rules challenger.old)
-        (C.history challenger.old)) result (C.history challenger.new) }
+        (asked_for (job_in fitting.now) (build (strategy_by way)) (C.party challenger.old)) result (C.party challenger.new).history }
     ensures holds { IfOk result (λ r. r.verdict ≡ Verdict.Holds) }
 {
     let built = rounds_by::<F, EF, R, C>(alloc, fitting, way, challenger)?;
@@ -67,12 +66,11 @@ fn rounds_by<F: Field, EF: ExtensionField<F>, R: IntoTranscriptField<EF>, C: Cha
     way: Way<F, EF>,
     challenger: &C,
 ) -> Result<Built<F, EF>, AuditError>
-    requires difficulty { IsAllowed fitting.now (C.rules challenger.now) }
+    requires difficulty { IsAllowed fitting.now (C.party challenger.now).rules }
     requires all_true { AllTrue fitting.now }
     requires ready { IsReady EF.ops (stated_in fitting.now) way }
     ensures { LeavesBuild F.number EF.number
-        (asked_to (job_in fitting.now) (build (strategy_by way)) (C.rules challenger.now)
-        (C.history challenger.now)) result }
+        (asked_for (job_in fitting.now) (build (strategy_by way)) (C.party challenger.now)) result }
 {
     match way {
         Way::Plain => plain(alloc, fitting, challenger),
@@ -89,15 +87,13 @@ fn replay<F: Field, EF: ExtensionField<F>, C: Challenger<F>>(
     built: Built<F, EF>,
     challenger: &mut C,
 ) -> Result<Report<F, EF>, AuditError>
-    requires difficulty { IsAllowed fitting.now (C.rules challenger.old) }
+    requires difficulty { IsAllowed fitting.now (C.party challenger.old).rules }
     requires all_true { AllTrue fitting.now }
-    ensures rules { C.rules challenger.new ≡ C.rules challenger.old }
+    ensures rules { (C.party challenger.new).rules ≡ (C.party challenger.old).rules }
     ensures answers { (s : Strategy) → IsBuiltCase
-        (asked_to (job_in fitting.now) (build s) (C.rules challenger.old)
-        (C.history challenger.old)) (kept_in F.number EF.number built) →
+        (asked_for (job_in fitting.now) (build s) (C.party challenger.old)) (kept_in F.number EF.number built) →
         Answers F.number EF.number None
-        (asked_to (job_in fitting.now) (build s) (C.rules challenger.old)
-        (C.history challenger.old)) result (C.history challenger.new) }
+        (asked_for (job_in fitting.now) (build s) (C.party challenger.old)) result (C.party challenger.new).history }
     ensures holds { IfOk result (λ r. r.verdict ≡ Verdict.Holds) }
 {
     let Built {

@@ -1,11 +1,12 @@
 //! Rounds of a proof that are checked.
+ghost use Rattle.sc_audit.specs.Asked.{asked_for};
 ghost use Rattle.std.specs.Prelude.{◌≡◌, IfOk, Err, Some, None, length, map};
 ghost use Rattle.std.specs.Option.{option_map};
 ghost use Rattle.sc_definitions.specs.Tables.{point_of};
 ghost use Rattle.sc_definitions.specs.Problem.{claim_of, residual_of};
 ghost use Rattle.sc_table.specs.Strategy.{order_of};
 ghost use Rattle.sc_transcript.specs.Data.{messages_in, witnesses_in};
-ghost use Rattle.sc_jobs.specs.Cases.{asked_to, given_in, check};
+ghost use Rattle.sc_jobs.specs.Cases.{given_in, check};
 ghost use Rattle.sc_jobs.specs.Fitting.{job_in, stated_in, IsAllowed};
 ghost use Rattle.sc_jobs.specs.Figures.{figures_of};
 ghost use Rattle.sc_jobs.specs.Audits.{AnswersTask};
@@ -29,11 +30,11 @@ pub(crate) fn check<F: Field, EF: ExtensionField<F>, C: Challenger<F>>(
     proof: &Option<SumcheckData<F, EF>>,
     challenger: &mut C,
 ) -> Result<Report<F, EF>, AuditError>
-    requires { IsAllowed fitting.now (C.rules challenger.old) }
-    ensures rules { C.rules challenger.new ≡ C.rules challenger.old }
+    requires { IsAllowed fitting.now (C.party challenger.old).rules }
+    ensures rules { (C.party challenger.new).rules ≡ (C.party challenger.old).rules }
     ensures task { AnswersTask F.number EF.number
-        (asked_to (job_in fitting.now) (check (option_map (given_in F.number EF.number) proof.now))
-        (C.rules challenger.old) (C.history challenger.old)) result (C.history challenger.new) }
+        (asked_for (job_in fitting.now) (check (option_map (given_in F.number EF.number) proof.now))
+        (C.party challenger.old)) result (C.party challenger.new).history }
 {
     match proof {
         Some(proof) => check_rounds(alloc, fitting, proof, challenger),
@@ -47,11 +48,10 @@ fn check_none<F: Field, EF: ExtensionField<F>, C: Challenger<F>>(
     fitting: &FittingJob<'_, F, EF>,
     challenger: &mut C,
 ) -> Result<Report<F, EF>, AuditError>
-    requires { IsAllowed fitting.now (C.rules challenger.old) }
-    ensures rules { C.rules challenger.new ≡ C.rules challenger.old }
+    requires { IsAllowed fitting.now (C.party challenger.old).rules }
+    ensures rules { (C.party challenger.new).rules ≡ (C.party challenger.old).rules }
     ensures task { AnswersTask F.number EF.number
-        (asked_to (job_in fitting.now) (check None)
-        (C.rules challenger.old) (C.history challenger.old)) result (C.history challenger.new) }
+        (asked_for (job_in fitting.now) (check None) (C.party challenger.old)) result (C.party challenger.new).history }
 {
     let variables = fitting.job.constraint.num_variables();
     if variables > 0 {
@@ -69,11 +69,11 @@ fn check_rounds<F: Field, EF: ExtensionField<F>, C: Challenger<F>>(
     proof: &SumcheckData<F, EF>,
     challenger: &mut C,
 ) -> Result<Report<F, EF>, AuditError>
-    requires { IsAllowed fitting.now (C.rules challenger.old) }
-    ensures rules { C.rules challenger.new ≡ C.rules challenger.old }
+    requires { IsAllowed fitting.now (C.party challenger.old).rules }
+    ensures rules { (C.party challenger.new).rules ≡ (C.party challenger.old).rules }
     ensures task { AnswersTask F.number EF.number
-        (asked_to (job_in fitting.now) (check (Some (given_in F.number EF.number proof.now)))
-        (C.rules challenger.old) (C.history challenger.old)) result (C.history challenger.new) }
+        (asked_for (job_in fitting.now) (check (Some (given_in F.number EF.number proof.now)))
+        (C.party challenger.old)) result (C.party challenger.new).history }
 {
     let job = fitting.job;
     let mut claim = EF::ZERO;

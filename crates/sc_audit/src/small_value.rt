@@ -1,5 +1,6 @@
 //! How rounds are built that begin on small values: the first ones are read off the grids of the
 //! job's own table, and the others are played on what these leave of it.
+ghost use Rattle.sc_audit.specs.Asked.{asked_for};
 ghost use Rattle.std.specs.Prelude.{◌≡◌, ◌+◌, ◌≤◌, OnOk, length, map, vec_capacity};
 ghost use Rattle.sc_definitions.specs.Problem.{Problem, claim_of};
 ghost use Rattle.sc_table.specs.declared.strategy.Strategy.TheVariants.{SmallValue};
@@ -12,7 +13,7 @@ ghost use Rattle.sc_rounds.specs.HeldProducts.{course_over};
 ghost use Rattle.sc_transcript.specs.Batches.{GoesOn};
 ghost use Rattle.sc_rounds.specs.Standings.{standing_in, standing_on};
 ghost use Rattle.sc_svo.specs.Batches.{batch_in};
-ghost use Rattle.sc_jobs.specs.Cases.{asked_to, build};
+ghost use Rattle.sc_jobs.specs.Cases.{build};
 ghost use Rattle.sc_jobs.specs.Fitting.{job_in, stated_in, AllTrue, IsAllowed};
 ghost use Rattle.sc_audit.specs.Built.{LeavesBuild};
 ghost use Rattle.sc_audit.specs.SmallRounds.{
@@ -44,12 +45,12 @@ pub(crate) fn small_value<F: Field, EF: ExtensionField<F>, C: Challenger<F>>(
     batch: SvoBatch<F, EF>,
     challenger: &C,
 ) -> Result<Built<F, EF>, AuditError>
-    requires difficulty { IsAllowed fitting.now (C.rules challenger.now) }
+    requires difficulty { IsAllowed fitting.now (C.party challenger.now).rules }
     requires all_true { AllTrue fitting.now }
     requires batch { IsBatchOf EF.ops (stated_in fitting.now) (batch_in batch) }
     ensures { LeavesBuild F.number EF.number
-        (asked_to (job_in fitting.now) (build (SmallValue (length (batch_in batch).grids)))
-        (C.rules challenger.now) (C.history challenger.now)) result }
+        (asked_for (job_in fitting.now) (build (SmallValue (length (batch_in batch).grids)))
+        (C.party challenger.now)) result }
 {
     let mut claim = EF::ZERO;
     fitting.job.constraint.combine_evals(&mut claim);
@@ -92,13 +93,13 @@ fn play_all<F: Field, EF: ExtensionField<F>, C: Challenger<F>>(
     requires batch { IsBatchOf EF.ops (stated_in fitting.now) (batch_in batch.now) }
     requires claim { EF.number sum.old ≡ claim_of EF.ops (stated_in fitting.now) }
     requires all_true { AllTrue fitting.now }
-    requires difficulty { IsAllowed fitting.now (C.rules challenger.old) }
+    requires difficulty { IsAllowed fitting.now (C.party challenger.old).rules }
     ensures { LeavesRounds
         (rounds_for (job_in fitting.now) (wire_in F.number EF.number sumcheck_data.old)
-        (C.rules challenger.old) (C.history challenger.old))
-        (λ p. standing_in EF.number p.0 sum.new (C.history challenger.new)
+        (C.party challenger.old))
+        (λ p. standing_in EF.number p.0 sum.new (C.party challenger.new).history
         (wire_in F.number EF.number sumcheck_data.new)) (λ p. map EF.number p.1)
-        (C.history challenger.new) (wire_in F.number EF.number sumcheck_data.new) result }
+        (C.party challenger.new).history (wire_in F.number EF.number sumcheck_data.new) result }
 {
     let variables = fitting.job.constraint.num_variables();
     let shape = SumcheckShape::new(variables, fitting.job.pow_bits, Basis::Evaluation);

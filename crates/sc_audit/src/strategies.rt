@@ -1,4 +1,5 @@
 //! How the rounds of a job are built.
+ghost use Rattle.sc_audit.specs.Asked.{asked_for};
 ghost use Rattle.std.specs.Prelude.{◌≡◌, ◌∷◌, [], List, IfOk, map};
 ghost use Rattle.sc_definitions.specs.declared.events.Event.{Event};
 ghost use Rattle.sc_definitions.specs.Events.{Rules};
@@ -40,10 +41,9 @@ pub(crate) fn plain<F: Field, EF: ExtensionField<F>, C: Challenger<F>>(
     fitting: &FittingJob<'_, F, EF>,
     challenger: &C,
 ) -> Result<Built<F, EF>, AuditError>
-    requires difficulty { IsAllowed fitting.now (C.rules challenger.now) }
+    requires difficulty { IsAllowed fitting.now (C.party challenger.now).rules }
     requires all_true { AllTrue fitting.now }
-    ensures { LeavesBuild F.number EF.number (asked_to (job_in fitting.now) (build Plain)
-        (C.rules challenger.now) (C.history challenger.now)) result }
+    ensures { LeavesBuild F.number EF.number (asked_for (job_in fitting.now) (build Plain) (C.party challenger.now)) result }
 {
     let variables = fitting.job.constraint.num_variables();
     if variables == 0 {
@@ -110,10 +110,9 @@ pub(crate) fn represented<
     fitting: &FittingJob<'_, F, EF>,
     challenger: &C,
 ) -> Result<Built<F, EF>, AuditError>
-    requires difficulty { IsAllowed fitting.now (C.rules challenger.now) }
+    requires difficulty { IsAllowed fitting.now (C.party challenger.now).rules }
     requires all_true { AllTrue fitting.now }
-    ensures { LeavesBuild F.number EF.number (asked_to (job_in fitting.now) (build Represented)
-        (C.rules challenger.now) (C.history challenger.now)) result }
+    ensures { LeavesBuild F.number EF.number (asked_for (job_in fitting.now) (build Represented) (C.party challenger.now)) result }
 {
     let mut prover: ReprSumcheckProver<F, EF, R> = ReprSumcheckProver::new(
         alloc,

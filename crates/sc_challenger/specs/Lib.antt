@@ -1,1 +1,3 @@
 pub mod Hashed
+pub mod Parties
+pub mod Ground

@@ -1,5 +1,6 @@
 //! Elements of an extension, part by part.
-ghost use Rattle.std.specs.Prelude.{◌≡◌, ◌+◌, ◌≤◌, ◌++◌, replicate, IfOk, OnOk, OnErr, IsOk};
+ghost use Rattle.std.specs.Prelude.{◌≡◌, replicate, IfOk};
+ghost use Rattle.sc_challenger.specs.Parties.{LeavesAppended};
 ghost use Rattle.sc_definitions.specs.declared.events.Event.TheVariants.{Draw};
 ghost use Rattle.sc_definitions.specs.Events.{words, extension_draw};
 
@@ -11,12 +12,7 @@ pub fn observe_ext<F: Field, EF: ExtensionField<F>, C: Challenger<F>>(
     challenger: &mut C,
     x: EF,
 ) -> Result<(), NoMemory>
-    ensures rules { C.rules challenger.new ≡ C.rules challenger.old }
-    ensures ok { OnOk result (C.history challenger.new ≡ C.history challenger.old ++ words (EF.extension.parts (EF.number x))) }
-    ensures err { OnErr result (C.history challenger.new ≡ C.history challenger.old) }
-    ensures has_room { EF.DEGREE ≤ C.spare challenger.old → IsOk result }
-    ensures spare { OnOk result (C.spare challenger.old ≤ C.spare challenger.new + EF.DEGREE) }
-    ensures spare_err { OnErr result (C.spare challenger.old ≤ C.spare challenger.new) }
+    ensures { LeavesAppended (words (EF.extension.parts (EF.number x))) EF.DEGREE (C.party challenger.old) (C.party challenger.new) result }
 {
     challenger.reserve(EF::DEGREE)?;
     for i in 0..EF::DEGREE {
@@ -30,13 +26,8 @@ pub fn observe_ext<F: Field, EF: ExtensionField<F>, C: Challenger<F>>(
 pub fn sample_ext<F: Field, EF: ExtensionField<F>, C: Challenger<F>>(
     challenger: &mut C,
 ) -> Result<EF, NoMemory>
-    ensures rules { C.rules challenger.new ≡ C.rules challenger.old }
-    ensures drawn { IfOk result (λ x. EF.number x ≡ extension_draw (C.rules challenger.old) EF.extension (C.history challenger.old)) }
-    ensures ok { OnOk result (C.history challenger.new ≡ C.history challenger.old ++ replicate EF.DEGREE Draw) }
-    ensures err { OnErr result (C.history challenger.new ≡ C.history challenger.old) }
-    ensures has_room { EF.DEGREE ≤ C.spare challenger.old → IsOk result }
-    ensures spare { OnOk result (C.spare challenger.old ≤ C.spare challenger.new + EF.DEGREE) }
-    ensures spare_err { OnErr result (C.spare challenger.old ≤ C.spare challenger.new) }
+    ensures drawn { IfOk result (λ x. EF.number x ≡ extension_draw (C.party challenger.old).rules EF.extension (C.party challenger.old).history) }
+    ensures left { LeavesAppended (replicate EF.DEGREE Draw) EF.DEGREE (C.party challenger.old) (C.party challenger.new) result }
 {
     challenger.reserve(EF::DEGREE)?;
     let mut x = EF::ZERO;

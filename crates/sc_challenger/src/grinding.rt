@@ -2,6 +2,7 @@
 ghost use Rattle.std.specs.Prelude.{◌≡◌, ◌≢◌, ◌↔◌, ◌+◌, ◌≤◌, ◌++◌, [], ◌∷◌, Err, IfOk, IfSome, OnOk, OnErr, IsErrOf, IsNone, IsSome};
 ghost use Rattle.sc_definitions.specs.declared.events.Event.TheVariants.{Word, Test};
 ghost use Rattle.sc_definitions.specs.Events.{IsFirstWitness, NonePasses};
+ghost use Rattle.sc_challenger.specs.Ground.{LeavesGround};
 
 use crate::challenger::Challenger;
 use sc_field::{Field, NoMemory};
@@ -34,15 +35,8 @@ impl From<NoMemory> for GrindError {
 /// [`GrindError::NoWitness`] comes exactly where no element passes. After either refusal the history is as it was.
 pub fn grind<F: Field, C: Challenger<F>>(challenger: &mut C, bits: usize) -> Result<F, GrindError>
     requires positive { 1 ≤ bits }
-    requires at_most { bits ≤ (C.rules challenger.old).max_bits }
-    ensures rules { C.rules challenger.new ≡ C.rules challenger.old }
-    ensures first { IfOk result (λ w. IsFirstWitness (C.rules challenger.old) (C.history challenger.old) bits (F.number w)) }
-    ensures ok { IfOk result (λ w. C.history challenger.new ≡ C.history challenger.old ++ Word (F.number w) ∷ Test bits ∷ []) }
-    ensures err { OnErr result (C.history challenger.new ≡ C.history challenger.old) }
-    ensures none_passes { IsErrOf result GrindError.NoWitness ↔ NonePasses (C.rules challenger.old) (C.history challenger.old) bits F.ops.size }
-    ensures has_room { 2 ≤ C.spare challenger.old → result ≢ Err GrindError.NoMemory }
-    ensures spare { OnOk result (C.spare challenger.old ≤ C.spare challenger.new + 2) }
-    ensures spare_err { OnErr result (C.spare challenger.old ≤ C.spare challenger.new) }
+    requires at_most { bits ≤ (C.party challenger.old).rules.max_bits }
+    ensures { LeavesGround F.number F.ops.size bits (C.party challenger.old) (C.party challenger.new) result }
 {
     let Some(witness) = first_witness(challenger, bits) else {
         return Err(GrindError::NoWitness);
@@ -54,10 +48,10 @@ pub fn grind<F: Field, C: Challenger<F>>(challenger: &mut C, bits: usize) -> Res
 // The first element that passes, if one does.
 fn first_witness<F: Field, C: Challenger<F>>(challenger: &C, bits: usize) -> Option<F>
     requires positive { 1 ≤ bits }
-    requires at_most { bits ≤ (C.rules challenger.now).max_bits }
-    ensures first { IfSome result (λ w. IsFirstWitness (C.rules challenger.now) (C.history challenger.now) bits (F.number w)) }
-    ensures some { IsSome result → NonePasses (C.rules challenger.now) (C.history challenger.now) bits F.ops.size → ⊥ }
-    ensures none { IsNone result → NonePasses (C.rules challenger.now) (C.history challenger.now) bits F.ops.size }
+    requires at_most { bits ≤ (C.party challenger.now).rules.max_bits }
+    ensures first { IfSome result (λ w. IsFirstWitness (C.party challenger.now).rules (C.party challenger.now).history bits (F.number w)) }
+    ensures some { IsSome result → NonePasses (C.party challenger.now).rules (C.party challenger.now).history bits F.ops.size → ⊥ }
+    ensures none { IsNone result → NonePasses (C.party challenger.now).rules (C.party challenger.now).history bits F.ops.size }
 {
     for index in 0..F::size() {
         let witness = F::element(index);

@@ -33,8 +33,8 @@ pub struct HashChallenger<F: Field> {
 impl<F: Field> HashChallenger<F> {
     /// A challenger with an empty history.
     pub fn new(alloc: Global) -> Self
-        ensures history { ⟦<HashChallenger<F> as Challenger<F>>⟧.history result ≡ [] }
-        ensures rules { ⟦<HashChallenger<F> as Challenger<F>>⟧.rules result ≡ hash_rules F.ops.size }
+        ensures history { (⟦<HashChallenger<F> as Challenger<F>>⟧.party result).history ≡ [] }
+        ensures rules { (⟦<HashChallenger<F> as Challenger<F>>⟧.party result).rules ≡ hash_rules F.ops.size }
     {
         HashChallenger {
             events: Vec::new(alloc),
@@ -45,14 +45,14 @@ impl<F: Field> HashChallenger<F> {
 
     /// The history, the oldest event first.
     pub fn events(&self) -> &[Event]
-        ensures { result.now ≡ ⟦<HashChallenger<F> as Challenger<F>>⟧.history self.now }
+        ensures { result.now ≡ (⟦<HashChallenger<F> as Challenger<F>>⟧.party self.now).history }
     {
         self.events.as_slice()
     }
 
     /// The state of the history, from which its next draw or test follows.
     pub fn state(&self) -> [u8; 32]
-        ensures { result ≡ state_of (⟦<HashChallenger<F> as Challenger<F>>⟧.history self.now) }
+        ensures { result ≡ state_of ((⟦<HashChallenger<F> as Challenger<F>>⟧.party self.now).history) }
     {
         self.state
     }
@@ -74,11 +74,11 @@ impl<F: Field> HashChallenger<F> {
 }
 
 impl<F: Field> Challenger<F> for HashChallenger<F> {
-    ghost history = { λ s. s.events.items };
-
-    ghost rules = { λ _. hash_rules F.ops.size };
-
-    ghost spare = { λ s. vec_capacity s.events - vec_len s.events };
+    ghost party = { λ s. record {
+      rules = hash_rules F.ops.size;
+      history = s.events.items;
+      spare = vec_capacity s.events - vec_len s.events;
+    } };
 
     fn observe(&mut self, x: F) -> Result<(), NoMemory> {
         self.append(Event::Word(x.index()))

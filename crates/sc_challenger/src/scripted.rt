@@ -41,8 +41,8 @@ pub struct ScriptedChallenger<F: Field> {
 impl<F: Field> ScriptedChallenger<F> {
     /// A challenger with an empty history.
     pub fn new(alloc: Global, draws: Vec<F>, mut good: Vec<Vec<F>>) -> Self
-        ensures history { ⟦<ScriptedChallenger<F> as Challenger<F>>⟧.history result ≡ [] }
-        ensures rules { ⟦<ScriptedChallenger<F> as Challenger<F>>⟧.rules result
+        ensures history { (⟦<ScriptedChallenger<F> as Challenger<F>>⟧.party result).history ≡ [] }
+        ensures rules { (⟦<ScriptedChallenger<F> as Challenger<F>>⟧.party result).rules
             ≡ scripted_rules (map F.number draws.items)
             (map (λ list. map F.number list.items) good.items) }
     {
@@ -58,7 +58,7 @@ impl<F: Field> ScriptedChallenger<F> {
 
     /// The history, the oldest event first.
     pub fn events(&self) -> &[Event]
-        ensures { result.now ≡ ⟦<ScriptedChallenger<F> as Challenger<F>>⟧.history self.now }
+        ensures { result.now ≡ (⟦<ScriptedChallenger<F> as Challenger<F>>⟧.party self.now).history }
     {
         self.events.as_slice()
     }
@@ -67,7 +67,7 @@ impl<F: Field> ScriptedChallenger<F> {
     #[tactic(auto, using(crate::proofs::ListReads::reads))]
     fn next_draw(&self) -> F
         ensures { F.number result
-            ≡ (⟦<ScriptedChallenger<F> as Challenger<F>>⟧.rules self.now).draw self.now.events.items }
+            ≡ (⟦<ScriptedChallenger<F> as Challenger<F>>⟧.party self.now).rules.draw self.now.events.items }
     {
         match self.draws.get(self.drawn) {
             Some(draw) => *draw,
@@ -77,12 +77,12 @@ impl<F: Field> ScriptedChallenger<F> {
 }
 
 impl<F: Field> Challenger<F> for ScriptedChallenger<F> {
-    ghost history = { λ s. s.events.items };
-
-    ghost rules = { λ s. scripted_rules (map F.number s.draws.items)
-        (map (λ list. map F.number list.items) s.good.items) };
-
-    ghost spare = { λ s. vec_capacity s.events - vec_len s.events };
+    ghost party = { λ s. record {
+      rules = scripted_rules (map F.number s.draws.items)
+          (map (λ list. map F.number list.items) s.good.items);
+      history = s.events.items;
+      spare = vec_capacity s.events - vec_len s.events;
+    } };
 
     fn observe(&mut self, x: F) -> Result<(), NoMemory> {
         self.events.push(Event::Word(x.index()))?;

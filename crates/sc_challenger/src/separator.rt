@@ -2,6 +2,7 @@
 ghost use Rattle.std.specs.Prelude.{◌≡◌, ◌+◌, ◌<◌, ◌≤◌, ◌++◌, [], All, IfOk, OnOk, OnErr, flat_map, length};
 ghost use Rattle.sc_definitions.specs.Events.{words};
 ghost use Rattle.sc_definitions.specs.Seeds.{separator, label_text, protocol_name, eight_bytes, length_prefixed, kind_byte, length_bytes, step_bytes, separator_bytes, nibbles, seed_words};
+ghost use Rattle.sc_challenger.specs.Parties.{MayAppend};
 
 use crate::challenger::Challenger;
 use crate::interaction::InteractionPattern;
@@ -73,11 +74,7 @@ impl DomainSeparator {
         alloc: Global,
         challenger: &mut C,
     ) -> Result<(), NoMemory>
-        ensures rules { C.rules challenger.new ≡ C.rules challenger.old }
-        ensures ok { OnOk result (C.history challenger.new ≡ C.history challenger.old ++ words (seed_words self.now)) }
-        ensures err { OnErr result (C.history challenger.new ≡ C.history challenger.old) }
-        ensures spare { OnOk result (C.spare challenger.old ≤ C.spare challenger.new + length (seed_words self.now)) }
-        ensures spare_err { OnErr result (C.spare challenger.old ≤ C.spare challenger.new) }
+        ensures { MayAppend (words (seed_words self.now)) (length (seed_words self.now)) (C.party challenger.old) (C.party challenger.new) result }
     {
         let words = self.seed_words(alloc)?;
         challenger.reserve(words.len())?;

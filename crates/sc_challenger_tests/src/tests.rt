@@ -252,7 +252,7 @@ fn observed_and_drawn<F: Field, EF: ExtensionField<F>, C: Challenger<F>>(
 
 // Draws with a field as its own extension.
 fn drawn_of_itself<F: Field, C: Challenger<F>>(challenger: &mut C) -> Result<F, NoMemory>
-    ensures { IfOk result (λ x. F.number x ≡ extension_draw (C.rules challenger.old) own_extension (C.history challenger.old)) }
+    ensures { IfOk result (λ x. F.number x ≡ extension_draw (C.party challenger.old).rules own_extension (C.party challenger.old).history) }
 {
     sample_ext(challenger)
 }

@@ -1,6 +1,6 @@
 //! A proof of rounds of any degree, and the verifier's replay of it.
+ghost use Rattle.sc_challenger.specs.Parties.{channel_by};
 ghost use Rattle.std.specs.Prelude.{◌≡◌, ◌<◌, ◌≤◌, vec_len};
-ghost use Rattle.sc_definitions.specs.Channels.{channel};
 
 use crate::error::GenericDegreeError;
 use crate::transcript::GenericDegreeShape;
@@ -61,13 +61,13 @@ impl<F: Field, EF: ExtensionField<F>> GenericDegreeProof<F, EF> {
         pow_bits: usize,
     ) -> Result<(Point<EF>, EF), GenericDegreeError>
         requires nodes { degree < EF.ops.size }
-        requires difficulty { pow_bits ≤ (C.rules challenger.old).max_bits }
-        ensures rules { C.rules challenger.new ≡ C.rules challenger.old }
+        requires difficulty { pow_bits ≤ (C.party challenger.old).rules.max_bits }
+        ensures rules { (C.party challenger.new).rules ≡ (C.party challenger.old).rules }
         ensures left { LeavesVerify EF.number
-            (generic_replay EF.ops (channel (C.rules challenger.old) EF.extension F.ops.size pow_bits)
+            (generic_replay EF.ops (channel_by (C.party challenger.old) EF.extension F.ops.size pow_bits)
             (generic_shape num_rounds degree pow_bits) (EF.number self.now.claimed_sum)
-            (proof_wire F.number EF.number self.now) (C.history challenger.old))
-            (C.history challenger.old) result (C.history challenger.new) }
+            (proof_wire F.number EF.number self.now) (C.party challenger.old).history)
+            (C.party challenger.old).history result (C.party challenger.new).history }
     {
         if degree == 0 {
             return Err(GenericDegreeError::InvalidDegree { degree });

@@ -1,7 +1,7 @@
 //! What plays rounds of any degree, and how it proves.
+ghost use Rattle.sc_challenger.specs.Parties.{channel_by};
 ghost use Rattle.std.specs.Prelude.{◌≡◌, ◌+◌, ◌<◌, ◌≤◌, [], ◌∷◌, map, vec_len, IfOk, OnOk};
 ghost use Rattle.sc_definitions.specs.Interpolation.{node_values};
-ghost use Rattle.sc_definitions.specs.Channels.{channel};
 ghost use Rattle.sc_transcript.specs.Drivers.{channel_of, Continues, HasRoundLeft, IsDone};
 ghost use Rattle.sc_transcript.specs.Transcripts.{driver_in};
 ghost use Rattle.sc_degree.specs.Shapes.{generic_shape};
@@ -72,13 +72,13 @@ pub trait RoundProver<EF: Field> {
         requires some { 1 ≤ degree }
         requires nodes { degree < EF.ops.size }
         requires variables { num_rounds ≤ (meaning self.old).variables }
-        requires difficulty { pow_bits ≤ (C.rules challenger.old).max_bits }
-        ensures rules { C.rules challenger.new ≡ C.rules challenger.old }
+        requires difficulty { pow_bits ≤ (C.party challenger.old).rules.max_bits }
+        ensures rules { (C.party challenger.new).rules ≡ (C.party challenger.old).rules }
         ensures left { LeavesPlay F.number EF.number (play_of EF.ops
-            (channel (C.rules challenger.old) EF.extension F.ops.size pow_bits)
+            (channel_by (C.party challenger.old) EF.extension F.ops.size pow_bits)
             (generic_shape num_rounds degree pow_bits) (EF.number claimed_sum)
-            (C.history challenger.old)) (meaning self.old) (meaning self.new) result
-            (C.history challenger.new) }
+            (C.party challenger.old).history) (meaning self.old) (meaning self.new) result
+            (C.party challenger.new).history }
     {
         let shape = GenericDegreeShape::new(num_rounds, degree, pow_bits);
         play_batch(alloc, self, challenger, shape, claimed_sum)
@@ -96,12 +96,12 @@ fn play_batch<F: Field, EF: ExtensionField<F>, C: Challenger<F>, P: RoundProver<
     requires degree { shape.degree ≡ (P.meaning prover.old).degree }
     requires nodes { shape.degree < EF.ops.size }
     requires variables { shape.num_rounds ≤ (P.meaning prover.old).variables }
-    requires difficulty { shape.pow_bits ≤ (C.rules challenger.old).max_bits }
-    ensures rules { C.rules challenger.new ≡ C.rules challenger.old }
+    requires difficulty { shape.pow_bits ≤ (C.party challenger.old).rules.max_bits }
+    ensures rules { (C.party challenger.new).rules ≡ (C.party challenger.old).rules }
     ensures left { LeavesPlay F.number EF.number (play_of EF.ops
-        (channel (C.rules challenger.old) EF.extension F.ops.size shape.pow_bits)
-        shape (EF.number claimed_sum) (C.history challenger.old))
-        (P.meaning prover.old) (P.meaning prover.new) result (C.history challenger.new) }
+        (channel_by (C.party challenger.old) EF.extension F.ops.size shape.pow_bits)
+        shape (EF.number claimed_sum) (C.party challenger.old).history)
+        (P.meaning prover.old) (P.meaning prover.new) result (C.party challenger.new).history }
 {
     let mut played = Played::new(alloc, shape, claimed_sum)?;
     shape.begin::<F, EF, C>(alloc, challenger, claimed_sum)?;

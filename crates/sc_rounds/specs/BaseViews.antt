@@ -1,5 +1,6 @@
 -- What clauses see of a table of base elements under weights and a claim.
 use Rattle.std.specs.Prelude.{List}
+use Rattle.sc_challenger.specs.Parties.{Party, channel_by}
 use Rattle.std.specs.declared.cmp.PartialEq.{Ghosts as PartialEqOf}
 use Rattle.sc_definitions.specs.declared.events.Event.{Event}
 use Rattle.sc_definitions.specs.Events.{Rules}
@@ -21,6 +22,6 @@ module _ {F EF : Type 0} {f : FieldOf F} {p : PartialEqOf F} {x : ExtensionOf EF
   base_shown t = based (λ y. a.embedding (f.number y)) e.number t.order t.evals.now t.weights t.sum
 
   -- the batch of a shape that is asked of it, with data, where a challenger answers by these rules and has this history
-  abbrev pub base_batch_of : BaseProduct F EF f p x a e q → SumcheckData F EF → Rules → List Event → SumcheckShape → Batch
-  base_batch_of t d R h shape =
-      batch_at (setting_at (channel R x.extension f.ops.size shape.pow_bits) e.ops (base_shown t)) (standing_at (base_shown t) h (wire_in f.number e.number d)) x.DEGREE shape
+  abbrev pub base_batch_of : BaseProduct F EF f p x a e q → SumcheckData F EF → Party → SumcheckShape → Batch
+  base_batch_of t d party shape =
+      batch_at (setting_at (channel_by party x.extension f.ops.size shape.pow_bits) e.ops (base_shown t)) (standing_at (base_shown t) party.history (wire_in f.number e.number d)) x.DEGREE shape

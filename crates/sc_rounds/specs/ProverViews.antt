@@ -1,5 +1,6 @@
 -- What clauses see of the two provers.
 use Rattle.std.specs.Prelude.{List, Option}
+use Rattle.sc_challenger.specs.Parties.{Party, channel_by}
 use Rattle.std.specs.declared.cmp.PartialEq.{Ghosts as PartialEqOf}
 use Rattle.sc_definitions.specs.declared.events.Event.{Event}
 use Rattle.sc_definitions.specs.Events.{Rules}
@@ -49,9 +50,9 @@ module _ {F EF : Type 0} {f : FieldOf F} {p : PartialEqOf F} {x : ExtensionOf EF
   standing_of s d h = standing_at (shown_by s) h (wire_in f.number e.number d)
 
   -- the batch of a shape, with a constraint if there is one, that is asked of it where a challenger answers by these rules and has this history
-  abbrev pub batch_of : SumcheckProver F EF f p x a e q → Option (Constraint F EF) → SumcheckData F EF → Rules → List Event → SumcheckShape → Batch
-  batch_of s c d R h shape =
-      batch_at (setting_at (channel R x.extension f.ops.size shape.pow_bits) e.ops (shown_by s)) (standing_at (shown_with s c) h (wire_in f.number e.number d)) x.DEGREE shape
+  abbrev pub batch_of : SumcheckProver F EF f p x a e q → Option (Constraint F EF) → SumcheckData F EF → Party → SumcheckShape → Batch
+  batch_of s c d party shape =
+      batch_at (setting_at (channel_by party x.extension f.ops.size shape.pow_bits) e.ops (shown_by s)) (standing_at (shown_with s c) party.history (wire_in f.number e.number d)) x.DEGREE shape
 
 module _ {F EF R : Type 0} {f : FieldOf F} {p : PartialEqOf F} {x : ExtensionOf EF F} {a : AlgebraOf EF F} {e : FieldOf EF} {q : PartialEqOf EF}
     {t : FromTableOf R EF} {r : FieldOf R} {k : PartialEqOf R} where
@@ -68,6 +69,6 @@ module _ {F EF R : Type 0} {f : FieldOf F} {p : PartialEqOf F} {x : ExtensionOf 
   image_standing_of s d h = standing_at (image_shown_by s) h (wire_in f.number e.number d)
 
   -- the batch of a shape that is asked of it
-  abbrev pub image_batch_of : ReprSumcheckProver F EF R f p x a e q t r k → SumcheckData F EF → Rules → List Event → SumcheckShape → Batch
-  image_batch_of s d rules h shape =
-      batch_at (setting_at (channel rules x.extension f.ops.size shape.pow_bits) e.ops (image_shown_by s)) (image_standing_of s d h) x.DEGREE shape
+  abbrev pub image_batch_of : ReprSumcheckProver F EF R f p x a e q t r k → SumcheckData F EF → Party → SumcheckShape → Batch
+  image_batch_of s d party shape =
+      batch_at (setting_at (channel_by party x.extension f.ops.size shape.pow_bits) e.ops (image_shown_by s)) (image_standing_of s d party.history) x.DEGREE shape

@@ -1,4 +1,5 @@
 //! A pair of tables under a true claim, on which rounds are played one behind the other.
+ghost use Rattle.sc_challenger.specs.Parties.{channel_by};
 ghost use Rattle.std.specs.Prelude.{
   ◌≡◌,
   ℕ,
@@ -46,7 +47,6 @@ pub(crate) struct HeldProduct<F, EF: Field> {
 }
 
 impl<F: Field, EF: ExtensionField<F>> HeldProduct<F, EF> {
-    ghost use Rattle.sc_definitions.specs.Channels.{channel};
     ghost use Rattle.sc_transcript.specs.Data.{wire_in};
     ghost use Rattle.sc_transcript.specs.Drivers.{Continues, HasRoundLeft};
     ghost use Rattle.sc_transcript.specs.Transcripts.{driver_in};
@@ -274,18 +274,18 @@ impl<F: Field, EF: ExtensionField<F>> HeldProduct<F, EF> {
     where
         EF: IntoTranscriptField<EG>,
         requires variables { shape.num_rounds ≤ (shown_in self.old).variables }
-        requires difficulty { shape.pow_bits ≤ (C.rules challenger.old).max_bits }
-        ensures rules { C.rules challenger.new ≡ C.rules challenger.old }
+        requires difficulty { shape.pow_bits ≤ (C.party challenger.old).rules.max_bits }
+        ensures rules { (C.party challenger.new).rules ≡ (C.party challenger.old).rules }
         ensures order { (shown_in self.new).order ≡ (shown_in self.old).order }
         ensures batch { LeavesBatch (map EG.number)
-            (batch_asked (channel (C.rules challenger.old) EG.extension G.ops.size shape.pow_bits)
-            EG.ops (image_in EF.to_number self.old) (C.history challenger.old)
+            (batch_asked (channel_by (C.party challenger.old) EG.extension G.ops.size shape.pow_bits)
+            EG.ops (image_in EF.to_number self.old) (C.party challenger.old)
             (wire_in G.number EG.number sumcheck_data.old) EG.DEGREE shape)
-            (standing_at (image_in EF.to_number self.new) (C.history challenger.new)
+            (standing_at (image_in EF.to_number self.new) (C.party challenger.new).history
             (wire_in G.number EG.number sumcheck_data.new)) result }
         ensures holds { IfOk result (λ rs. HoldsBatch
-            (batch_asked (channel (C.rules challenger.old) EG.extension G.ops.size shape.pow_bits)
-            EG.ops (image_in EF.to_number self.old) (C.history challenger.old)
+            (batch_asked (channel_by (C.party challenger.old) EG.extension G.ops.size shape.pow_bits)
+            EG.ops (image_in EF.to_number self.old) (C.party challenger.old)
             (wire_in G.number EG.number sumcheck_data.old) EG.DEGREE shape)
             (map EG.number rs) (image_stored_in EF.to_number self.new)) }
     {

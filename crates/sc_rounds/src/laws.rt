@@ -46,16 +46,16 @@ pub fn batch_in_step<F: Field, EF: ExtensionField<F>, C: Challenger<F>>(
     constraint: Option<Constraint<F, EF>>,
 ) -> Result<(Point<EF>, Point<EF>, EF), SumcheckError>
     requires variables { folding_factor ≤ (shown_by prover.old).variables }
-    requires difficulty { pow_bits ≤ (C.rules prover_challenger.old).max_bits }
+    requires difficulty { pow_bits ≤ (C.party prover_challenger.old).rules.max_bits }
     requires constraint { IsNoneOrTrueOf prover.old constraint }
-    requires rules { C.rules verifier_challenger.old ≡ C.rules prover_challenger.old }
-    requires history { C.history verifier_challenger.old ≡ C.history prover_challenger.old }
+    requires rules { (C.party verifier_challenger.old).rules ≡ (C.party prover_challenger.old).rules }
+    requires history { (C.party verifier_challenger.old).history ≡ (C.party prover_challenger.old).history }
     requires empty { wire_in F.number EF.number sumcheck_data.old ≡ empty_wire }
     ensures step { LeavesStep (map EF.number) EF.number
-        (batch_of prover.old constraint sumcheck_data.old (C.rules prover_challenger.old) (C.history prover_challenger.old) (shape_of folding_factor pow_bits Basis.Evaluation))
-        (standing_of prover.new sumcheck_data.new (C.history prover_challenger.new)) (C.history verifier_challenger.old) (C.history verifier_challenger.new) result }
-    ensures prover_rules { C.rules prover_challenger.new ≡ C.rules prover_challenger.old }
-    ensures verifier_rules { C.rules verifier_challenger.new ≡ C.rules verifier_challenger.old }
+        (batch_of prover.old constraint sumcheck_data.old (C.party prover_challenger.old) (shape_of folding_factor pow_bits Basis.Evaluation))
+        (standing_of prover.new sumcheck_data.new (C.party prover_challenger.new).history) (C.party verifier_challenger.old).history (C.party verifier_challenger.new).history result }
+    ensures prover_rules { (C.party prover_challenger.new).rules ≡ (C.party prover_challenger.old).rules }
+    ensures verifier_rules { (C.party verifier_challenger.new).rules ≡ (C.party verifier_challenger.old).rules }
     ensures order { (shown_by prover.new).order ≡ (shown_by prover.old).order }
 {
     let mut claim = with_claim(prover.claimed_sum(), &constraint);

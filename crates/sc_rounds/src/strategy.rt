@@ -273,19 +273,17 @@ impl<F: Field, EF: ExtensionField<F>> SumcheckProver<F, EF> {
         constraint: Option<Constraint<F, EF>>,
     ) -> Result<Point<EF>, SumcheckError>
         requires variables { folding_factor ≤ (shown_by self.old).variables }
-        requires difficulty { pow_bits ≤ (C.rules challenger.old).max_bits }
+        requires difficulty { pow_bits ≤ (C.party challenger.old).rules.max_bits }
         requires constraint { IsNoneOrTrueOf self.old constraint }
-        ensures rules { C.rules challenger.new ≡ C.rules challenger.old }
+        ensures rules { (C.party challenger.new).rules ≡ (C.party challenger.old).rules }
         ensures order { (shown_by self.new).order ≡ (shown_by self.old).order }
         ensures batch { LeavesBatch (map EF.number)
-            (batch_of self.old constraint sumcheck_data.old (C.rules challenger.old)
-            (C.history challenger.old) (shape_of folding_factor pow_bits Basis.Evaluation))
-            (standing_of self.new sumcheck_data.new (C.history challenger.new)) result }
+            (batch_of self.old constraint sumcheck_data.old (C.party challenger.old) (shape_of folding_factor pow_bits Basis.Evaluation))
+            (standing_of self.new sumcheck_data.new (C.party challenger.new).history) result }
 
         // The last challenge is held, and the stored tables have all others bound.
         ensures holds { IfOk result (λ rs. HoldsBatch
-            (batch_of self.old constraint sumcheck_data.old (C.rules challenger.old)
-            (C.history challenger.old) (shape_of folding_factor pow_bits Basis.Evaluation))
+            (batch_of self.old constraint sumcheck_data.old (C.party challenger.old) (shape_of folding_factor pow_bits Basis.Evaluation))
             (map EF.number rs) (stored_by self.new)) }
     {
         self.take_in_if_some(alloc, constraint);

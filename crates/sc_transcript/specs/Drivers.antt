@@ -7,6 +7,7 @@ use Rattle.sc_definitions.specs.Events.{Rules, Extension}
 use Rattle.sc_definitions.specs.Transcript.{Round, round_of, sent}
 use Rattle.sc_definitions.specs.Channels.{Channel, IsSent, IsTaken, NoWitnessFound, WitnessFails, Wire, with_rounds}
 use Rattle.sc_field.specs.declared.field.Field.{Ghosts as FieldOf}
+use Rattle.sc_challenger.specs.Parties.{Party}
 use Rattle.sc_challenger.specs.declared.challenger.Challenger.{Ghosts as ChallengerOf}
 use Rattle.sc_transcript.specs.declared.rounds.BatchShape.{BatchShape}
 use Rattle.sc_transcript.specs.declared.error.RoundError.{RoundError}
@@ -27,33 +28,33 @@ pub record Driver (K : Type 0) : Type 0 where
   pub room : ℕ
 
 -- the driver of rounds over a challenger that was lent, which answers by these rules, has this history and this room
-abbrev pub driver_at : {C K : Type 0} → (C → Rules) → (C → List Event) → (C → ℕ) → ℕ → MutBor C → Rounds K → Driver K
-driver_at rules history spare base_size lent rounds = record {
+abbrev pub driver_at : {C K : Type 0} → (C → Party) → ℕ → MutBor C → Rounds K → Driver K
+driver_at party base_size lent rounds = record {
   lender = lent.ghost_name;
-  rules = rules lent.now;
+  rules = (party lent.now).rules;
   base_size = base_size;
   shape = rounds.shape;
   kind = rounds.kind;
   played = rounds.played;
-  history = history lent.now;
-  room = spare lent.now;
+  history = (party lent.now).history;
+  room = (party lent.now).spare;
 }
 
 -- the same by what is known of the challenger and of the field
 abbrev pub driver_over : {C F K : Type 0} → ChallengerOf C F → FieldOf F → MutBor C → Rounds K → Driver K
-driver_over c f lent rounds = driver_at c.rules c.history c.spare f.ops.size lent rounds
+driver_over c f lent rounds = driver_at c.party f.ops.size lent rounds
 
 -- the same before the first round of a batch of these numbers and this kind
 abbrev pub unplayed_over : {C F K : Type 0} → ChallengerOf C F → FieldOf F → MutBor C → BatchShape → K → Driver K
 unplayed_over c f lent shape kind = record {
   lender = lent.ghost_name;
-  rules = c.rules lent.now;
+  rules = (c.party lent.now).rules;
   base_size = f.ops.size;
   shape = shape;
   kind = kind;
   played = 0;
-  history = c.history lent.now;
-  room = c.spare lent.now;
+  history = (c.party lent.now).history;
+  room = (c.party lent.now).spare;
 }
 
 -- none of these rounds was played

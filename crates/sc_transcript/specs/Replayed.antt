@@ -1,6 +1,7 @@
 -- The replay of a proof, and what it leaves by its result, whatever its rounds send.
 use Rattle.std.specs.Prelude.{◌≡◌, ◌≢◌, ◌⊎◌, ℕ, List, Option, Some, Result, Ok, Err, length}
 use Rattle.sc_definitions.specs.declared.events.Event.{Event}
+use Rattle.sc_challenger.specs.Parties.{Party}
 use Rattle.sc_definitions.specs.Replays.{given_rounds}
 use Rattle.sc_definitions.specs.Channels.{Channel, Wire, Footing, footing}
 use Rattle.sc_transcript.specs.declared.error.RoundError.{RoundError}
@@ -57,9 +58,9 @@ pub record Place (X : Type 0) : Type 0 where
   pub history : List Event
   pub claim : X
 
--- the place of these
-abbrev pub place : {X : Type 0} → List Event → X → Place X
-place h claim = record { history = h; claim = claim }
+-- where one stands whose challenger this is, under a claim
+abbrev pub place : {X : Type 0} → Party → X → Place X
+place party claim = record { history = party.history; claim = claim }
 
 -- the footing there
 abbrev pub footing_at : {X : Type 0} → (X → ℕ) → Place X → Footing

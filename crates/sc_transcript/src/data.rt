@@ -1,9 +1,9 @@
 //! The data of a proof, and the verifier's replay of it.
+ghost use Rattle.sc_challenger.specs.Parties.{channel_by};
 ghost use Rattle.std.specs.Prelude.{◌≡◌, ◌≢◌, ◌↔◌, ◌⊎◌, ◌+◌, ◌<◌, ◌≤◌, [], ◌∷◌, Ok, Err, IfOk, IfErr, OnOk, OnErr, IsOk, IsSome, IsNone, IfSome, Some, length, map, vec_len};
 ghost use Rattle.std.specs.List.{slice_get};
 ghost use Rattle.std.specs.Option.{option_map_or};
 ghost use Rattle.sc_definitions.specs.Rounds.{next_claim};
-ghost use Rattle.sc_definitions.specs.Channels.{channel};
 ghost use Rattle.sc_table.specs.Strategy.{basis_of};
 ghost use Rattle.sc_transcript.specs.Shapes.{shape_of, pair_round};
 ghost use Rattle.sc_transcript.specs.Causes.{cause_of};
@@ -127,11 +127,11 @@ impl<F: Field, EF: ExtensionField<F>> SumcheckData<F, EF> {
         pow_bits: usize,
         basis: Basis,
     ) -> Result<Point<EF>, SumcheckError>
-        requires { pow_bits ≤ (C.rules challenger.old).max_bits }
-        ensures rules { C.rules challenger.new ≡ C.rules challenger.old }
-        ensures left { LeavesFrom EF.number (pair_replay EF.ops (channel (C.rules challenger.old) EF.extension F.ops.size pow_bits)
+        requires { pow_bits ≤ (C.party challenger.old).rules.max_bits }
+        ensures rules { (C.party challenger.new).rules ≡ (C.party challenger.old).rules }
+        ensures left { LeavesFrom EF.number (pair_replay EF.ops (channel_by (C.party challenger.old) EF.extension F.ops.size pow_bits)
             EF.DEGREE (shape_of expected_rounds pow_bits basis) (wire_in F.number EF.number self.now))
-            (place (C.history challenger.old) claimed_sum.old) (place (C.history challenger.new) claimed_sum.new)
+            (place (C.party challenger.old) claimed_sum.old) (place (C.party challenger.new) claimed_sum.new)
             (answer_as (map EF.number) cause_of result) }
     {
         let shape = SumcheckShape::new(expected_rounds, pow_bits, basis);
@@ -203,15 +203,15 @@ pub fn verify_final_sumcheck_rounds<F: Field, EF: ExtensionField<F>, C: Challeng
     pow_bits: usize,
     basis: Basis,
 ) -> Result<Point<EF>, SumcheckError>
-    requires { 0 < rounds → pow_bits ≤ (C.rules challenger.old).max_bits }
-    ensures rules { C.rules challenger.new ≡ C.rules challenger.old }
+    requires { 0 < rounds → pow_bits ≤ (C.party challenger.old).rules.max_bits }
+    ensures rules { (C.party challenger.new).rules ≡ (C.party challenger.old).rules }
     ensures none { rounds ≡ 0 → result ≡ Ok [] }
     ensures missing { result ≡ Err (SumcheckError.MissingSumcheckData rounds) ↔ ((0 < rounds) × IsNone final_sumcheck.entry) }
-    ensures untouched { (rounds ≡ 0) ⊎ IsNone final_sumcheck.entry → (C.history challenger.new ≡ C.history challenger.old) × (claimed_sum.new ≡ claimed_sum.old) }
+    ensures untouched { (rounds ≡ 0) ⊎ IsNone final_sumcheck.entry → ((C.party challenger.new).history ≡ (C.party challenger.old).history) × (claimed_sum.new ≡ claimed_sum.old) }
     ensures left { IfSome final_sumcheck.entry (λ d. 0 < rounds → LeavesFrom EF.number
-        (pair_replay EF.ops (channel (C.rules challenger.old) EF.extension F.ops.size pow_bits)
+        (pair_replay EF.ops (channel_by (C.party challenger.old) EF.extension F.ops.size pow_bits)
         EF.DEGREE (shape_of rounds pow_bits basis) (wire_in F.number EF.number d.now))
-        (place (C.history challenger.old) claimed_sum.old) (place (C.history challenger.new) claimed_sum.new)
+        (place (C.party challenger.old) claimed_sum.old) (place (C.party challenger.new) claimed_sum.new)
         (answer_as (map EF.number) cause_of result)) }
 {
     if rounds == 0 {

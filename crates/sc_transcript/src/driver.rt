@@ -6,6 +6,7 @@ ghost use Rattle.sc_definitions.specs.declared.events.Event.{Event};
 ghost use Rattle.sc_definitions.specs.Events.{Extension};
 ghost use Rattle.sc_definitions.specs.Seeds.{round_steps};
 ghost use Rattle.sc_transcript.specs.Rounds.{HasDifficulty};
+ghost use Rattle.sc_challenger.specs.Parties.{MayAppend};
 
 use crate::error::RoundError;
 use crate::rounds::{BatchShape, Rounds};
@@ -55,11 +56,9 @@ pub trait ClaimedShape: SliceShape {
         challenger: &mut C,
         claimed_sum: EF,
     ) -> Result<(), NoMemory>
-        ensures rules { C.rules challenger.new ≡ C.rules challenger.old }
-        ensures ok { OnOk result (C.history challenger.new ≡ C.history challenger.old ++ prelude self.now EF.extension (EF.number claimed_sum)) }
-        ensures err { OnErr result (C.history challenger.new ≡ C.history challenger.old) }
-        ensures spare { OnOk result (C.spare challenger.old ≤ C.spare challenger.new + length (prelude self.now EF.extension (EF.number claimed_sum))) }
-        ensures spare_err { OnErr result (C.spare challenger.old ≤ C.spare challenger.new) };
+        ensures { MayAppend (prelude self.now EF.extension (EF.number claimed_sum))
+            (length (prelude self.now EF.extension (EF.number claimed_sum)))
+            (C.party challenger.old) (C.party challenger.new) result };
 }
 
 /// The side of a batch that plays its rounds.
@@ -74,7 +73,7 @@ pub struct Transcript<'a, C: Challenger<F>, F: Field, EF, S: RoundShape, P> {
     pub(crate) challenger: &'a mut C,
     pub(crate) rounds: Rounds<S>,
     of: PhantomData<(F, EF, P)>,
-    ghost tested: { rounds.shape.pow_bits ≤ (C.rules challenger.now).max_bits },
+    ghost tested: { rounds.shape.pow_bits ≤ (C.party challenger.now).rules.max_bits },
     ghost counted: { rounds.played ≤ rounds.shape.num_rounds },
     ghost batched: { rounds.shape ≡ S.numbers rounds.kind },
 }
@@ -96,7 +95,7 @@ impl<'a, C: Challenger<F>, F: Field, EF: ExtensionField<F>, S: RoundShape, P> Tr
     ///
     /// The difficulty is at most the challenger's [`Challenger::max_bits`].
     pub fn over(challenger: &'a mut C, shape: S) -> Self
-        requires { (S.numbers shape).pow_bits ≤ (C.rules challenger.old).max_bits }
+        requires { (S.numbers shape).pow_bits ≤ (C.party challenger.old).rules.max_bits }
         ensures lent { IsLent challenger.entry (challenger_in result) }
         ensures fresh { IsFresh (S.numbers shape) shape (driver_in result) }
     {
@@ -169,7 +168,7 @@ impl<'a, C: Challenger<F>, F: Field, EF: ExtensionField<F>, S: ClaimedShape, P> 
         shape: S,
         claimed_sum: EF,
     ) -> Result<Self, NoMemory>
-        requires { (S.numbers shape).pow_bits ≤ (C.rules challenger.old).max_bits }
+        requires { (S.numbers shape).pow_bits ≤ (C.party challenger.old).rules.max_bits }
         ensures { IfOk result (λ t. IsBegun (S.prelude shape EF.extension (EF.number claimed_sum)) (unbegun t challenger.entry shape) (driver_in t)) }
     {
         shape.begin::<F, EF, C>(alloc, challenger, claimed_sum)?;

@@ -1,9 +1,10 @@
 //! The replay of rounds that came, whatever they send: they are counted, and each is taken in its turn and folds a claim.
+ghost use Rattle.sc_challenger.specs.Parties.{channel_by};
 ghost use Rattle.std.specs.Prelude.{◌≡◌, ℕ, ◌<◌, ◌≤◌, [], List, Some, IsSome, IfErr, OnOk, length, map, vec_capacity};
 ghost use Rattle.std.specs.List.{slice_get};
 ghost use Rattle.std.specs.Option.{option_map_or};
 ghost use Rattle.sc_definitions.specs.Transcript.{Round, round_of};
-ghost use Rattle.sc_definitions.specs.Channels.{channel, footing};
+ghost use Rattle.sc_definitions.specs.Channels.{footing};
 ghost use Rattle.sc_transcript.specs.Drivers.{answer_as};
 ghost use Rattle.sc_transcript.specs.Walks.{walk, LeavesWalk};
 ghost use Rattle.sc_transcript.specs.Replayed.{AreCounted, AreMiscounted};
@@ -82,15 +83,15 @@ pub fn replay<F: Field, EF: ExtensionField<F>, C: Challenger<F>, R: CameRounds<F
     shape: BatchShape,
     mut challenges: Vec<EF>,
 ) -> Result<Vec<EF>, RoundError>
-    requires tested { shape.pow_bits ≤ (C.rules challenger.old).max_bits }
+    requires tested { shape.pow_bits ≤ (C.party challenger.old).rules.max_bits }
     requires counted { AreCounted shape (length (R.rounds came.now)) (R.witnesses came.now) }
     requires wide { R.width came.now ≡ shape.width }
     requires empty { challenges.items ≡ [] }
     requires room { shape.num_rounds ≤ vec_capacity challenges }
-    ensures rules { C.rules challenger.new ≡ C.rules challenger.old }
-    ensures leaves { LeavesWalk (walk (R.next came.now) (channel (C.rules challenger.old) EF.extension F.ops.size shape.pow_bits) shape.width
-        (footing (C.history challenger.old) (EF.number claim.old)) (R.rounds came.now))
-        (answer_as (λ out. map EF.number out.items) (λ e. Some e) result) (footing (C.history challenger.new) (EF.number claim.new)) }
+    ensures rules { (C.party challenger.new).rules ≡ (C.party challenger.old).rules }
+    ensures leaves { LeavesWalk (walk (R.next came.now) (channel_by (C.party challenger.old) EF.extension F.ops.size shape.pow_bits) shape.width
+        (footing (C.party challenger.old).history (EF.number claim.old)) (R.rounds came.now))
+        (answer_as (λ out. map EF.number out.items) (λ e. Some e) result) (footing (C.party challenger.new).history (EF.number claim.new)) }
 {
     let mut rounds = Rounds::new(shape, ());
     'rounds: for i in 0..shape.num_rounds {

@@ -1,11 +1,12 @@
-//! Rounds under way, whatever they send: how one is played, and how one that came is taken. Every driver of a protocol plays its rounds by these.
+//! Rounds under way, whatever they send: how one is played, and how one that came is taken. Every
+//! driver of a protocol plays its rounds by these.
 ghost use Rattle.std.specs.Prelude.{◌≡◌, ◌+◌, ◌-◌, ◌*◌, ◌<◌, ◌≤◌, ◌^◌, [], ◌∷◌, ◌++◌, ℕ, List, None, length, map};
 ghost use Rattle.std.specs.Prelude.{slice_index_or, IfOk, OnOk, OnErr, IsOk, IfSome, IsSome, Some, true, false};
 ghost use Rattle.std.specs.Option.{option_map_or};
 ghost use Rattle.sc_definitions.specs.declared.events.Event.{Event};
 ghost use Rattle.sc_definitions.specs.Transcript.{sent, witness_events, round_of};
-ghost use Rattle.sc_definitions.specs.Channels.{channel};
 ghost use Rattle.sc_transcript.specs.Rounds.{events_of, LeavesFound, LeavesTested, LeavesSent, LeavesTaken};
+ghost use Rattle.sc_challenger.specs.Parties.{Appends, Keeps, channel_by};
 
 use crate::error::RoundError;
 use sc_challenger::{Challenger, GrindError, grind, observe_ext, sample_ext};
@@ -71,8 +72,10 @@ impl<EF: Field> RoundValues<EF> for RoundMessage<EF> {
     }
 }
 
-/// The rounds of a batch under way, which a driver holds beside its challenger: the batch's numbers, what the protocol keeps with them as its kind, and how
-/// many rounds were played. They are played over the challenger that is passed, of which the difficulty is at most its [`Challenger::max_bits`].
+/// The rounds of a batch under way, which a driver holds beside its challenger: the batch's
+/// numbers, what the protocol keeps with them as its kind, and how many rounds were played. They
+/// are played over the challenger that is passed, of which the difficulty is at most its
+/// [`Challenger::max_bits`].
 #[derive(Clone, Copy)]
 pub struct Rounds<K> {
     shape: BatchShape,
@@ -95,22 +98,24 @@ impl<K: Copy> Rounds<K> {
         }
     }
 
-    /// Plays a round: absorbs the values, at a positive difficulty appends the first witness that passes and its test, and draws the challenge.
+    /// Plays a round: absorbs the values, at a positive difficulty appends the first witness that
+    /// passes and its test, and draws the challenge.
     ///
-    /// `NoWitness` comes exactly where the difficulty is positive and no element of the base field passes; the history then ends with the values. After
-    /// `NoMemory` the history is as it was. After either the round is still to be played. Of fewer than 2^32 values a round, `NoMemory` comes only where
-    /// the challenger has no room for its events.
+    /// `NoWitness` comes exactly where the difficulty is positive and no element of the base field
+    /// passes; the history then ends with the values. After `NoMemory` the history is as it was.
+    /// After either the round is still to be played. Of fewer than 2^32 values a round, `NoMemory`
+    /// comes only where the challenger has no room for its events.
     pub fn play<F: Field, EF: ExtensionField<F>, C: Challenger<F>, V: RoundValues<EF>>(
         &mut self,
         challenger: &mut C,
         values: &V,
     ) -> Result<(EF, Option<F>), RoundError>
-        requires difficulty { self.old.shape.pow_bits ≤ (C.rules challenger.old).max_bits }
+        requires difficulty { self.old.shape.pow_bits ≤ (C.party challenger.old).rules.max_bits }
         requires left { self.old.played < self.old.shape.num_rounds }
         requires width { length (V.list values.now) ≡ self.old.shape.width }
         ensures { PlaysOrRefuses F.number EF.extension
-            (driver_at C.rules C.history C.spare F.ops.size challenger.entry self.old)
-            (driver_at C.rules C.history C.spare F.ops.size challenger.exit self.new)
+            (driver_at C.party F.ops.size challenger.entry self.old)
+            (driver_at C.party F.ops.size challenger.exit self.new)
             (map EF.number (V.list values.now)) (answer_as (λ x. (EF.number x.0, x.1)) (λ e. Some e) result) }
     {
         prove!(self.played < self.shape.num_rounds);
@@ -124,24 +129,26 @@ impl<K: Copy> Rounds<K> {
         Ok(sent)
     }
 
-    /// Takes a round that came: absorbs the values, at a positive difficulty tests the witness, and draws the challenge. At difficulty 0 a witness is
-    /// ignored.
+    /// Takes a round that came: absorbs the values, at a positive difficulty tests the witness, and
+    /// draws the challenge. At difficulty 0 a witness is ignored.
     ///
-    /// `WrongWidth` comes exactly where there are more or fewer values than a round sends, before any event, and leaves the history as it was.
-    /// `MissingWitness` comes exactly where the difficulty is positive and no witness came; the history then ends with the values. `InvalidWitness`
-    /// comes exactly where the witness fails; the history then ends with its word and its test. After `NoMemory`, which comes as it does from
-    /// [`Rounds::play`], the history is as it was. After each of them the round is still to be taken.
+    /// `WrongWidth` comes exactly where there are more or fewer values than a round sends, before
+    /// any event, and leaves the history as it was. `MissingWitness` comes exactly where the
+    /// difficulty is positive and no witness came; the history then ends with the values.
+    /// `InvalidWitness` comes exactly where the witness fails; the history then ends with its word
+    /// and its test. After `NoMemory`, which comes as it does from [`Rounds::play`], the history is
+    /// as it was. After each of them the round is still to be taken.
     pub fn take<F: Field, EF: ExtensionField<F>, C: Challenger<F>, V: RoundValues<EF>>(
         &mut self,
         challenger: &mut C,
         values: &V,
         witness: Option<F>,
     ) -> Result<EF, RoundError>
-        requires difficulty { self.old.shape.pow_bits ≤ (C.rules challenger.old).max_bits }
+        requires difficulty { self.old.shape.pow_bits ≤ (C.party challenger.old).rules.max_bits }
         requires left { self.old.played < self.old.shape.num_rounds }
         ensures { TakesOrRejects F.number EF.extension
-            (driver_at C.rules C.history C.spare F.ops.size challenger.entry self.old)
-            (driver_at C.rules C.history C.spare F.ops.size challenger.exit self.new)
+            (driver_at C.party F.ops.size challenger.entry self.old)
+            (driver_at C.party F.ops.size challenger.exit self.new)
             (map EF.number (V.list values.now)) witness (answer_as EF.number (λ e. Some e) result) }
     {
         prove!(self.played < self.shape.num_rounds);
@@ -192,17 +199,16 @@ impl<K: Copy> Rounds<K> {
     }
 }
 
-// Makes room for the events of a round that sends so many values. More events than can be counted are never asked for.
+// Makes room for the events of a round that sends so many values. More events than can be counted
+// are never asked for.
 fn make_room<F: Field, EF: ExtensionField<F>, C: Challenger<F>>(
     challenger: &mut C,
     values: usize,
     pow_bits: usize,
 ) -> Result<(), NoMemory>
-    ensures rules { C.rules challenger.new ≡ C.rules challenger.old }
-    ensures history { C.history challenger.new ≡ C.history challenger.old }
-    ensures ok { OnOk result (events_of EF.DEGREE values pow_bits ≤ C.spare challenger.new) }
-    ensures never_lowers { C.spare challenger.old ≤ C.spare challenger.new }
-    ensures has_room { values < 2 ^ 32 → events_of EF.DEGREE values pow_bits ≤ C.spare challenger.old → IsOk result }
+    ensures kept { Keeps (C.party challenger.old) (C.party challenger.new) }
+    ensures ok { OnOk result (events_of EF.DEGREE values pow_bits ≤ (C.party challenger.new).spare) }
+    ensures has_room { values < 2 ^ 32 → events_of EF.DEGREE values pow_bits ≤ (C.party challenger.old).spare → IsOk result }
 {
     let Some(events) = events_in_round(EF::DEGREE, values, pow_bits) else {
         return Err(NoMemory);
@@ -210,8 +216,8 @@ fn make_room<F: Field, EF: ExtensionField<F>, C: Challenger<F>>(
     challenger.reserve(events)
 }
 
-// How many events a round appends that sends so many values of an extension of a degree, where a `usize` holds that many: it does for fewer than 2^32
-// values of a degree of at most 8.
+// How many events a round appends that sends so many values of an extension of a degree, where a
+// `usize` holds that many: it does for fewer than 2^32 values of a degree of at most 8.
 fn events_in_round(degree: usize, values: usize, pow_bits: usize) -> Option<usize>
     ensures number { IfSome result (λ n. n ≡ events_of degree values pow_bits) }
     ensures some { degree ≤ 8 → values < 2 ^ 32 → IsSome result }
@@ -229,33 +235,31 @@ fn observe_values<F: Field, EF: ExtensionField<F>, C: Challenger<F>, V: RoundVal
     challenger: &mut C,
     values: &V,
 )
-    requires { length (V.list values.now) * EF.DEGREE ≤ C.spare challenger.old }
-    ensures rules { C.rules challenger.new ≡ C.rules challenger.old }
-    ensures history { C.history challenger.new
-        ≡ C.history challenger.old ++ sent EF.extension (map EF.number (V.list values.now)) }
-    ensures spare { C.spare challenger.old
-        ≤ C.spare challenger.new + length (V.list values.now) * EF.DEGREE }
+    requires { length (V.list values.now) * EF.DEGREE ≤ (C.party challenger.old).spare }
+    ensures { Appends (sent EF.extension (map EF.number (V.list values.now))) (length (V.list values.now) * EF.DEGREE)
+        (C.party challenger.old) (C.party challenger.new) }
 {
     for i in 0..values.count() {
         observe_ext::<F, EF, C>(challenger, values.at(i)).unwrap();
     }
 }
 
-// Ends a round whose values were absorbed: at a positive difficulty appends the first witness that passes and its test, and draws the challenge. There is
-// room for these events, and no more is taken. The difficulty is at most the challenger's `max_bits`.
+// Ends a round whose values were absorbed: at a positive difficulty appends the first witness that
+// passes and its test, and draws the challenge. There is room for these events, and no more is
+// taken. The difficulty is at most the challenger's `max_bits`.
 //
-// The answer is the challenge and the witness, or none exactly where the difficulty is positive and no element of the base field passes; the history
-// then ends with the values.
+// The answer is the challenge and the witness, or none exactly where the difficulty is positive and
+// no element of the base field passes; the history then ends with the values.
 fn send_rest<F: Field, EF: ExtensionField<F>, C: Challenger<F>>(
     challenger: &mut C,
     pow_bits: usize,
 ) -> Option<(EF, Option<F>)>
-    requires difficulty { pow_bits ≤ (C.rules challenger.old).max_bits }
-    requires room { EF.DEGREE + length (witness_events pow_bits 0) ≤ C.spare challenger.old }
-    ensures rules { C.rules challenger.new ≡ C.rules challenger.old }
-    ensures sent { (h : List Event) (values : List ℕ) → C.history challenger.old ≡ h ++ sent EF.extension values
-        → LeavesSent F.number EF.number (channel (C.rules challenger.old) EF.extension F.ops.size pow_bits) h values result (C.history challenger.new) }
-    ensures spare { IsSome result → C.spare challenger.old ≤ C.spare challenger.new + (EF.DEGREE + length (witness_events pow_bits 0)) }
+    requires difficulty { pow_bits ≤ (C.party challenger.old).rules.max_bits }
+    requires room { EF.DEGREE + length (witness_events pow_bits 0) ≤ (C.party challenger.old).spare }
+    ensures rules { (C.party challenger.new).rules ≡ (C.party challenger.old).rules }
+    ensures sent { (h : List Event) (values : List ℕ) → (C.party challenger.old).history ≡ h ++ sent EF.extension values
+        → LeavesSent F.number EF.number (channel_by (C.party challenger.old) EF.extension F.ops.size pow_bits) h values result (C.party challenger.new).history }
+    ensures spare { IsSome result → (C.party challenger.old).spare ≤ (C.party challenger.new).spare + (EF.DEGREE + length (witness_events pow_bits 0)) }
 {
     let Ok(witness) = append_witness::<F, C>(challenger, pow_bits) else {
         return None;
@@ -264,38 +268,41 @@ fn send_rest<F: Field, EF: ExtensionField<F>, C: Challenger<F>>(
     Some((challenge, witness))
 }
 
-// Ends a round that came and whose values were absorbed: at a positive difficulty tests the witness, and draws the challenge. At difficulty 0 a witness is
-// ignored. There is room for these events, and no more is taken. The difficulty is at most the challenger's `max_bits`.
+// Ends a round that came and whose values were absorbed: at a positive difficulty tests the
+// witness, and draws the challenge. At difficulty 0 a witness is ignored. There is room for these
+// events, and no more is taken. The difficulty is at most the challenger's `max_bits`.
 //
-// `Missing` comes exactly where the difficulty is positive and no witness came; the history then ends with the values. `Invalid` comes exactly where the
-// witness fails; the history then ends with its word and its test.
+// `Missing` comes exactly where the difficulty is positive and no witness came; the history then
+// ends with the values. `Invalid` comes exactly where the witness fails; the history then ends with
+// its word and its test.
 fn take_rest<F: Field, EF: ExtensionField<F>, C: Challenger<F>>(
     challenger: &mut C,
     witness: Option<F>,
     pow_bits: usize,
 ) -> Result<EF, WitnessError>
-    requires difficulty { pow_bits ≤ (C.rules challenger.old).max_bits }
-    requires room { EF.DEGREE + length (witness_events pow_bits 0) ≤ C.spare challenger.old }
-    ensures rules { C.rules challenger.new ≡ C.rules challenger.old }
-    ensures taken { (h : List Event) (values : List ℕ) → C.history challenger.old ≡ h ++ sent EF.extension values
-        → LeavesTaken EF.number (channel (C.rules challenger.old) EF.extension F.ops.size pow_bits) h
-        (round_of values (option_map_or F.number witness 0)) witness result (C.history challenger.new) }
-    ensures spare { C.spare challenger.old ≤ C.spare challenger.new + (EF.DEGREE + length (witness_events pow_bits 0)) }
+    requires difficulty { pow_bits ≤ (C.party challenger.old).rules.max_bits }
+    requires room { EF.DEGREE + length (witness_events pow_bits 0) ≤ (C.party challenger.old).spare }
+    ensures rules { (C.party challenger.new).rules ≡ (C.party challenger.old).rules }
+    ensures taken { (h : List Event) (values : List ℕ) → (C.party challenger.old).history ≡ h ++ sent EF.extension values
+        → LeavesTaken EF.number (channel_by (C.party challenger.old) EF.extension F.ops.size pow_bits) h
+        (round_of values (option_map_or F.number witness 0)) witness result (C.party challenger.new).history }
+    ensures spare { (C.party challenger.old).spare ≤ (C.party challenger.new).spare + (EF.DEGREE + length (witness_events pow_bits 0)) }
 {
     test_witness::<F, C>(challenger, pow_bits, witness)?;
     Ok(sample_ext::<F, EF, C>(challenger).unwrap())
 }
 
-// At a positive difficulty the first witness that passes, appended with its test; at difficulty 0 no witness. There is room for both events.
+// At a positive difficulty the first witness that passes, appended with its test; at difficulty 0
+// no witness. There is room for both events.
 fn append_witness<F: Field, C: Challenger<F>>(
     challenger: &mut C,
     pow_bits: usize,
 ) -> Result<Option<F>, GrindError>
-    requires at_most { pow_bits ≤ (C.rules challenger.old).max_bits }
-    requires room { 0 < pow_bits → 2 ≤ C.spare challenger.old }
-    ensures rules { C.rules challenger.new ≡ C.rules challenger.old }
-    ensures left { LeavesFound F.number (C.rules challenger.old) F.ops.size pow_bits (C.history challenger.old) result (C.history challenger.new) }
-    ensures spare { C.spare challenger.old ≤ C.spare challenger.new + length (witness_events pow_bits 0) }
+    requires at_most { pow_bits ≤ (C.party challenger.old).rules.max_bits }
+    requires room { 0 < pow_bits → 2 ≤ (C.party challenger.old).spare }
+    ensures rules { (C.party challenger.new).rules ≡ (C.party challenger.old).rules }
+    ensures left { LeavesFound F.number (C.party challenger.old).rules F.ops.size pow_bits (C.party challenger.old).history result (C.party challenger.new).history }
+    ensures spare { (C.party challenger.old).spare ≤ (C.party challenger.new).spare + length (witness_events pow_bits 0) }
 {
     if pow_bits == 0 {
         return Ok(None);
@@ -304,17 +311,18 @@ fn append_witness<F: Field, C: Challenger<F>>(
     Ok(Some(witness))
 }
 
-// At a positive difficulty tests a witness that came, and appends it with its test. There is room for both events.
+// At a positive difficulty tests a witness that came, and appends it with its test. There is room
+// for both events.
 fn test_witness<F: Field, C: Challenger<F>>(
     challenger: &mut C,
     pow_bits: usize,
     witness: Option<F>,
 ) -> Result<(), WitnessError>
-    requires at_most { pow_bits ≤ (C.rules challenger.old).max_bits }
-    requires room { 0 < pow_bits → 2 ≤ C.spare challenger.old }
-    ensures rules { C.rules challenger.new ≡ C.rules challenger.old }
-    ensures left { LeavesTested F.number (C.rules challenger.old) pow_bits witness (C.history challenger.old) result (C.history challenger.new) }
-    ensures spare { C.spare challenger.old ≤ C.spare challenger.new + length (witness_events pow_bits 0) }
+    requires at_most { pow_bits ≤ (C.party challenger.old).rules.max_bits }
+    requires room { 0 < pow_bits → 2 ≤ (C.party challenger.old).spare }
+    ensures rules { (C.party challenger.new).rules ≡ (C.party challenger.old).rules }
+    ensures left { LeavesTested F.number (C.party challenger.old).rules pow_bits witness (C.party challenger.old).history result (C.party challenger.new).history }
+    ensures spare { (C.party challenger.old).spare ≤ (C.party challenger.new).spare + length (witness_events pow_bits 0) }
 {
     if pow_bits == 0 {
         return Ok(());

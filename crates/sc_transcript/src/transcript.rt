@@ -7,6 +7,7 @@ ghost use Rattle.sc_definitions.specs.Events.{words};
 ghost use Rattle.sc_definitions.specs.Seeds.{basis_byte, quadratic_separator, rounds_steps};
 ghost use Rattle.sc_table.specs.Strategy.{basis_of};
 ghost use Rattle.sc_transcript.specs.Shapes.{seed_of, batch_of};
+ghost use Rattle.sc_challenger.specs.Parties.{MayAppend};
 
 use crate::driver::{ProverSide, RoundShape, Transcript, VerifierSide, push_round_steps};
 use crate::error::SumcheckError;
@@ -81,11 +82,7 @@ impl SumcheckShape {
         alloc: Global,
         challenger: &mut C,
     ) -> Result<(), NoMemory>
-        ensures rules { C.rules challenger.new ≡ C.rules challenger.old }
-        ensures ok { OnOk result (C.history challenger.new ≡ C.history challenger.old ++ words (seed_of EF.DEGREE self.now)) }
-        ensures err { OnErr result (C.history challenger.new ≡ C.history challenger.old) }
-        ensures spare { OnOk result (C.spare challenger.old ≤ C.spare challenger.new + length (seed_of EF.DEGREE self.now)) }
-        ensures spare_err { OnErr result (C.spare challenger.old ≤ C.spare challenger.new) }
+        ensures { MayAppend (words (seed_of EF.DEGREE self.now)) (length (seed_of EF.DEGREE self.now)) (C.party challenger.old) (C.party challenger.new) result }
     {
         if self.num_rounds == 0 {
             return Ok(());
@@ -139,7 +136,7 @@ impl<'a, C: Challenger<F>, F: Field, EF: ExtensionField<F>, P> Transcript<
     ///
     /// The difficulty is at most the challenger's [`Challenger::max_bits`].
     pub fn new(alloc: Global, challenger: &'a mut C, shape: SumcheckShape) -> Result<Self, NoMemory>
-        requires { shape.pow_bits ≤ (C.rules challenger.old).max_bits }
+        requires { shape.pow_bits ≤ (C.party challenger.old).rules.max_bits }
         ensures { IfOk result (λ t. IsBegun (words (seed_of EF.DEGREE shape)) (unbegun t challenger.entry shape) (driver_in t)) }
     {
         shape.seed::<F, EF, C>(alloc, challenger)?;

@@ -478,7 +478,7 @@ static LAST: [Last; 2] = [
 
 // A difficulty for so many rounds that the challenger takes.
 fn taken<F: Field, C: Challenger<F>>(challenger: &C, rounds: usize, pow_bits: usize) -> usize
-    ensures { 0 < rounds → result ≤ (C.rules challenger.now).max_bits }
+    ensures { 0 < rounds → result ≤ (C.party challenger.now).rules.max_bits }
 {
     if rounds == 0 {
         pow_bits

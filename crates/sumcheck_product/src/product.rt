@@ -1,7 +1,7 @@
 //! The answer to a job of `product`.
+ghost use Rattle.sc_challenger.specs.Parties.{channel_by};
 ghost use Rattle.std.specs.Prelude.{◌≡◌, ◌≢◌, ◌<◌, ◌≤◌, All, [], length};
 ghost use Rattle.std.specs.Prelude.{IfOk, Ok, OnOk, map, option_map, string_bytes};
-ghost use Rattle.sc_definitions.specs.Channels.{channel};
 ghost use Rattle.sc_definitions.specs.Lucky.{first_turn, product_course};
 ghost use Rattle.sc_definitions.specs.Products.{values_product};
 ghost use Rattle.sc_degree.specs.Products.{arity_of, tables_of};
@@ -61,7 +61,7 @@ pub(crate) fn answer_to<F: Field, EF: ExtensionField<F>, C: Challenger<F>>(
     requires { ProductJobFits (sizes_over F.ops EF.ops) job }
     ensures { Replies result (product_judged
         (fields_over F.ops EF.ops EF.extension EF.embedding) job
-        (C.rules challenger.old) (C.history challenger.old)) }
+        (C.party challenger.old).rules (C.party challenger.old).history) }
 {
     let n = match fitting_arity(&job, challenger.max_bits()) {
         Ok(n) => n,
@@ -114,11 +114,11 @@ fn build<F: Field, EF: ExtensionField<F>, C: Challenger<F>>(
     challenger: &mut C,
 ) -> Result<Answer, NoMemory>
     requires degree { IsDegree (length (tables_of EF.number product)) }
-    requires difficulty { pow_bits ≤ (C.rules challenger.old).max_bits }
+    requires difficulty { pow_bits ≤ (C.party challenger.old).rules.max_bits }
     ensures { Replies result (mode_reply
         (case_over EF.ops (tables_of EF.number product) (arity_of product)
-        (channel (C.rules challenger.old) EF.extension F.ops.size pow_bits)
-        (C.history challenger.old)) BuildOrCheck.Build) }
+        (channel_by (C.party challenger.old) EF.extension F.ops.size pow_bits)
+        (C.party challenger.old).history) BuildOrCheck.Build) }
 {
     let variables = product.num_variables();
     let degree = product.degree();
@@ -153,15 +153,15 @@ fn play<F: Field, EF: ExtensionField<F>, C: Challenger<F>>(
     challenger: &C,
 ) -> Result<Built<F, EF>, GenericDegreeError>
     requires degree { IsDegree (length (tables_of EF.number product)) }
-    requires difficulty { pow_bits ≤ (C.rules challenger.now).max_bits }
+    requires difficulty { pow_bits ≤ (C.party challenger.now).rules.max_bits }
     requires sum { EF.number sum ≡ true_sum
         (case_over EF.ops (tables_of EF.number product) (arity_of product)
-        (channel (C.rules challenger.now) EF.extension F.ops.size pow_bits)
-        (C.history challenger.now)) }
+        (channel_by (C.party challenger.now) EF.extension F.ops.size pow_bits)
+        (C.party challenger.now).history) }
     ensures { LeavesBuilt F.number EF.number
         (case_over EF.ops (tables_of EF.number product) (arity_of product)
-        (channel (C.rules challenger.now) EF.extension F.ops.size pow_bits)
-        (C.history challenger.now)) result }
+        (channel_by (C.party challenger.now) EF.extension F.ops.size pow_bits)
+        (C.party challenger.now).history) result }
 {
     let mut product = product;
     let variables = product.num_variables();
@@ -185,11 +185,11 @@ fn check<F: Field, EF: ExtensionField<F>, C: Challenger<F>>(
     challenger: &mut C,
 ) -> Result<Answer, NoMemory>
     requires degree { IsDegree (length (tables_of EF.number product)) }
-    requires difficulty { pow_bits ≤ (C.rules challenger.old).max_bits }
+    requires difficulty { pow_bits ≤ (C.party challenger.old).rules.max_bits }
     ensures { Replies result (mode_reply
         (case_over EF.ops (tables_of EF.number product) (arity_of product)
-        (channel (C.rules challenger.old) EF.extension F.ops.size pow_bits)
-        (C.history challenger.old))
+        (channel_by (C.party challenger.old) EF.extension F.ops.size pow_bits)
+        (C.party challenger.old).history)
         (BuildOrCheck.Check (given_proof F.number EF.number proof))) }
 {
     let variables = product.num_variables();

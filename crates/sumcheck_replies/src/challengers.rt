@@ -12,8 +12,8 @@ use sumcheck_jobs::Script;
 /// The challenger with an empty history that a script describes.
 pub fn scripted<F: Field>(alloc: Global, script: &Script) -> Result<ScriptedChallenger<F>, NoMemory>
     requires { ScriptFits F.ops.size script.now }
-    ensures history { IfOk result (λ c. ⟦<ScriptedChallenger<F> as Challenger<F>>⟧.history c ≡ []) }
-    ensures rules { IfOk result (λ c. ⟦<ScriptedChallenger<F> as Challenger<F>>⟧.rules c
+    ensures history { IfOk result (λ c. (⟦<ScriptedChallenger<F> as Challenger<F>>⟧.party c).history ≡ []) }
+    ensures rules { IfOk result (λ c. (⟦<ScriptedChallenger<F> as Challenger<F>>⟧.party c).rules
         ≡ scripted_rules script.now.draws script.now.witnesses) }
 {
     let draws = elements(alloc, script.draws.as_slice())?;

@@ -40,7 +40,7 @@ pub trait FieldJobs {
     ) -> Result<Answer, NoMemory>
         requires { asks.fits (sizes_over F.ops EF.ops) job }
         ensures { Replies result (asks.replies (fields_over F.ops EF.ops EF.extension EF.embedding)
-            job (C.rules challenger.old) (C.history challenger.old)) };
+            job (C.party challenger.old).rules (C.party challenger.old).history) };
 }
 
 /// The answer to a job over the fields and under the challenger that it names.

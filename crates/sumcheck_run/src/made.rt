@@ -1,4 +1,5 @@
 //! The job that a recipe makes, and the report on it in short.
+ghost use Rattle.sc_audit.specs.Asked.{asked_by};
 ghost use Rattle.std.specs.Prelude.{◌≡◌, ◌≤◌, [], ◌∷◌, None, length, map};
 ghost use Rattle.std.specs.Prelude.{string_bytes, IfOk};
 ghost use Rattle.sc_definitions.specs.Statements.{claims, equality, successor};
@@ -153,10 +154,10 @@ fn answer_in_short<F: Field, EF: ExtensionField<F>, R: IntoTranscriptField<EF>, 
     job: &mut Job<F, EF>,
     challenger: &mut C,
 ) -> Result<Answer, NoMemory>
-    requires { shape_refusal (asked_of job.old (C.rules challenger.old) (C.history challenger.old))
+    requires { shape_refusal (asked_by job.old (C.party challenger.old))
         ≡ None }
     ensures { Replies result (case_reply (summary_lines rows 2 EF.ops)
-        (asked_truly (asked_of job.old (C.rules challenger.old) (C.history challenger.old)))) }
+        (asked_truly (asked_by job.old (C.party challenger.old)))) }
 {
     match audit_true::<F, EF, R, C>(alloc, job, challenger) {
         Ok(report) => show_in_short(alloc, rows, &report),

@@ -1,7 +1,7 @@
 //! The answer to a job.
+ghost use Rattle.sc_audit.specs.Asked.{asked_by};
 ghost use Rattle.std.specs.Prelude.{◌≡◌, IfOk, OnOk, map, string_bytes};
 ghost use Rattle.sc_transcript.specs.Data.{pair_of};
-ghost use Rattle.sc_jobs.specs.Cases.{asked_of};
 ghost use Rattle.sc_jobs.specs.Figures.{report_in, finding_in};
 ghost use Rattle.sumcheck_jobs.specs.Elements.{sizes_of};
 ghost use Rattle.sumcheck_jobs.specs.Job.{JobFits};
@@ -47,7 +47,7 @@ pub(crate) fn judge_under<
 >(alloc: Global, job: Job, challenger: &mut C) -> Result<Answer, NoMemory>
     requires { JobFits (sizes_over F.ops EF.ops) job }
     ensures { Replies result (judged_under (fields_over F.ops EF.ops EF.extension EF.embedding)
-        job (C.rules challenger.old) (C.history challenger.old)) }
+        job (C.party challenger.old).rules (C.party challenger.old).history) }
 {
     let asked: AuditJob<F, EF> = audit_job(alloc, &job)?;
     drop(job);
@@ -61,7 +61,7 @@ fn answer_of<F: Field, EF: ExtensionField<F>, R: IntoTranscriptField<EF>, C: Cha
     challenger: &mut C,
 ) -> Result<Answer, NoMemory>
     ensures { Replies result (case_reply report_lines
-        (asked_of asked.now (C.rules challenger.old) (C.history challenger.old))) }
+        (asked_by asked.now (C.party challenger.old))) }
 {
     match audit::<F, EF, R, C>(alloc, asked, challenger) {
         Ok(report) => show_report(alloc, &report),

@@ -116,18 +116,16 @@ impl<'a, F: Field, EF: ExtensionField<F>> BaseProduct<'a, F, EF> {
     ) -> Result<(SumcheckProver<F, EF>, Point<EF>), SumcheckError>
         requires some { 0 < folding_factor }
         requires variables { folding_factor ≤ (base_shown self).variables }
-        requires difficulty { pow_bits ≤ (C.rules challenger.old).max_bits }
-        ensures rules { C.rules challenger.new ≡ C.rules challenger.old }
+        requires difficulty { pow_bits ≤ (C.party challenger.old).rules.max_bits }
+        ensures rules { (C.party challenger.new).rules ≡ (C.party challenger.old).rules }
         ensures order { IfOk result
             (λ p. (shown_by p.0).order ≡ (base_shown self.entry).order) }
         ensures whole { IfOk result (λ p. PlaysWhole
-            (base_batch_of self.entry sumcheck_data.old (C.rules challenger.old)
-            (C.history challenger.old) (shape_of folding_factor pow_bits Basis.Evaluation))
-            (standing_of p.0 sumcheck_data.new (C.history challenger.new)) (map EF.number p.1)) }
+            (base_batch_of self.entry sumcheck_data.old (C.party challenger.old) (shape_of folding_factor pow_bits Basis.Evaluation))
+            (standing_of p.0 sumcheck_data.new (C.party challenger.new).history) (map EF.number p.1)) }
         ensures refused { IfErr result (BreaksOffAt
-            (base_batch_of self.entry sumcheck_data.old (C.rules challenger.old)
-            (C.history challenger.old) (shape_of folding_factor pow_bits Basis.Evaluation))
-            (C.history challenger.new) (wire_in F.number EF.number sumcheck_data.new)) }
+            (base_batch_of self.entry sumcheck_data.old (C.party challenger.old) (shape_of folding_factor pow_bits Basis.Evaluation))
+            (C.party challenger.new).history (wire_in F.number EF.number sumcheck_data.new)) }
     {
         let shape = SumcheckShape::new(folding_factor, pow_bits, Basis::Evaluation);
         let mut challenges = with_room(alloc, folding_factor)?;

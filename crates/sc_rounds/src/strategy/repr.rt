@@ -158,16 +158,16 @@ impl<F: Field, EF: ExtensionField<F>, R: IntoTranscriptField<EF>> ReprSumcheckPr
         pow_bits: usize,
     ) -> Result<Point<EF>, SumcheckError>
         requires variables { folding_factor ≤ (image_shown_by self.old).variables }
-        requires difficulty { pow_bits ≤ (C.rules challenger.old).max_bits }
-        ensures rules { C.rules challenger.new ≡ C.rules challenger.old }
+        requires difficulty { pow_bits ≤ (C.party challenger.old).rules.max_bits }
+        ensures rules { (C.party challenger.new).rules ≡ (C.party challenger.old).rules }
         ensures order { (image_shown_by self.new).order ≡ (image_shown_by self.old).order }
         ensures batch { LeavesBatch (map EF.number)
-            (image_batch_of self.old sumcheck_data.old (C.rules challenger.old) (C.history challenger.old) (shape_of folding_factor pow_bits Basis.Evaluation))
-            (image_standing_of self.new sumcheck_data.new (C.history challenger.new)) result }
+            (image_batch_of self.old sumcheck_data.old (C.party challenger.old) (shape_of folding_factor pow_bits Basis.Evaluation))
+            (image_standing_of self.new sumcheck_data.new (C.party challenger.new).history) result }
 
         // The last challenge is held, and the stored tables have all others bound.
         ensures holds { IfOk result (λ rs. HoldsBatch
-            (image_batch_of self.old sumcheck_data.old (C.rules challenger.old) (C.history challenger.old) (shape_of folding_factor pow_bits Basis.Evaluation))
+            (image_batch_of self.old sumcheck_data.old (C.party challenger.old) (shape_of folding_factor pow_bits Basis.Evaluation))
             (map EF.number rs) (image_stored_by self.new)) }
     {
         let shape = SumcheckShape::new(folding_factor, pow_bits, Basis::Evaluation);

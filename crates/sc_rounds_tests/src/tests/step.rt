@@ -147,10 +147,10 @@ fn assert_batch<F: Field, EF: ExtensionField<F>, C: Challenger<F>, A: Abort>(
     constraint: Option<Constraint<F, EF>>,
     batch: &Batch,
 )
-    requires rules { C.rules other_side.old ≡ C.rules one_side.old }
-    requires history { C.history other_side.old ≡ C.history one_side.old }
-    ensures rules { C.rules other_side.new ≡ C.rules one_side.new }
-    ensures history { C.history other_side.new ≡ C.history one_side.new }
+    requires rules { (C.party other_side.old).rules ≡ (C.party one_side.old).rules }
+    requires history { (C.party other_side.old).history ≡ (C.party one_side.old).history }
+    ensures rules { (C.party other_side.new).rules ≡ (C.party one_side.new).rules }
+    ensures history { (C.party other_side.new).history ≡ (C.party one_side.new).history }
 {
     let holds = is_true(alloc, prover, &constraint).expect(rt, "an answer");
     assert!(rt; holds);

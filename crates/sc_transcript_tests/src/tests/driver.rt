@@ -99,7 +99,7 @@ impl SliceShape for Triple {
 
 // What stands before its round.
 fn begin<C: Challenger<F65537>>(challenger: &mut C) -> Result<(), NoMemory>
-    ensures { C.rules challenger.new ≡ C.rules challenger.old }
+    ensures { (C.party challenger.new).rules ≡ (C.party challenger.old).rules }
 {
     challenger.observe(of(40))?;
     challenger.observe(of(41))
@@ -111,9 +111,9 @@ fn sent<C: Challenger<F65537>>(
     shape: Triple,
     values: &[F65537],
 ) -> Result<(F65537, Option<F65537>), RoundError>
-    requires difficulty { shape.pow_bits ≤ (C.rules challenger.old).max_bits }
+    requires difficulty { shape.pow_bits ≤ (C.party challenger.old).rules.max_bits }
     requires three { length values.now ≡ 3 }
-    ensures { C.rules challenger.new ≡ C.rules challenger.old }
+    ensures { (C.party challenger.new).rules ≡ (C.party challenger.old).rules }
 {
     begin(challenger)?;
     let mut transcript: Transcript<'_, C, F65537, F65537, Triple, ProverSide> = Transcript::over(
@@ -138,8 +138,8 @@ fn taken<C: Challenger<F65537>>(
     values: &[F65537],
     witness: Option<F65537>,
 ) -> Result<F65537, RoundError>
-    requires { shape.pow_bits ≤ (C.rules challenger.old).max_bits }
-    ensures { C.rules challenger.new ≡ C.rules challenger.old }
+    requires { shape.pow_bits ≤ (C.party challenger.old).rules.max_bits }
+    ensures { (C.party challenger.new).rules ≡ (C.party challenger.old).rules }
 {
     begin(challenger)?;
     let mut transcript: Transcript<'_, C, F65537, F65537, Triple, VerifierSide> = Transcript::over(
@@ -164,7 +164,7 @@ fn challenger(alloc: Global) -> Result<ScriptedChallenger<F65537>, NoMemory> {
 
 // The shape at 4 bits, or at as many as there can be.
 fn shape(challenger: &ScriptedChallenger<F65537>) -> Triple
-    ensures { result.pow_bits ≤ (⟦<ScriptedChallenger<F65537> as Challenger<F65537>>⟧.rules challenger.now).max_bits }
+    ensures { result.pow_bits ≤ (⟦<ScriptedChallenger<F65537> as Challenger<F65537>>⟧.party challenger.now).rules.max_bits }
 {
     Triple {
         pow_bits: challenger.max_bits().min(4),

@@ -14,8 +14,8 @@ pub returns-in-Some-clause-answer : goal.returns-in-Some-clause-answer
 returns-in-Some-clause-answer g c =
     let B = g.F.Field.number in
     let N = g.EF.Field.number in
-    let R = g.C.Challenger.rules c.args.challenger.now in
-    let H = g.C.Challenger.history c.args.challenger.now in
+    let R = (g.C.Challenger.party c.args.challenger.now).rules in
+    let H = (g.C.Challenger.party c.args.challenger.now).history in
     let job = c.args.job.now in
     let q = asked_of job R H in
     let way = c.in-Some.way in
@@ -40,8 +40,8 @@ pub returns-in-None-clause-answer : goal.returns-in-None-clause-answer
 returns-in-None-clause-answer g c =
     let B = g.F.Field.number in
     let N = g.EF.Field.number in
-    let R = g.C.Challenger.rules c.args.challenger.now in
-    let H = g.C.Challenger.history c.args.challenger.now in
+    let R = (g.C.Challenger.party c.args.challenger.now).rules in
+    let H = (g.C.Challenger.party c.args.challenger.now).history in
     let job = c.args.job.now in
     let q = asked_of job R H in
     let task = build c.in-Build.strategy in
@@ -65,8 +65,8 @@ pub returns-in-Check-clause-answer : goal.returns-in-Check-clause-answer
 returns-in-Check-clause-answer g c =
     let B = g.F.Field.number in
     let N = g.EF.Field.number in
-    let R = g.C.Challenger.rules c.args.challenger.now in
-    let H = g.C.Challenger.history c.args.challenger.now in
+    let R = (g.C.Challenger.party c.args.challenger.now).rules in
+    let H = (g.C.Challenger.party c.args.challenger.now).history in
     let job = c.args.job.now in
     let q = asked_of job R H in
     let proof = option_map (given_in B N) c.in-Check.proof in

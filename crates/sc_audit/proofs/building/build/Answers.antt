@@ -11,7 +11,7 @@ use Rattle.sc_audit.proofs.building.build.Goals as goal
 pub returns-in_err-check_strategy-clause-task : goal.returns-in_err-check_strategy-clause-task
 returns-in_err-check_strategy-clause-task g c =
     let p = problem_in c.args.fitting.now.job.now in
-    let q = asked_to c.args.fitting.now.job.now (build c.args.strategy) (g.C.Challenger.rules c.args.challenger.now) (g.C.Challenger.history c.args.challenger.now) in
+    let q = asked_to c.args.fitting.now.job.now (build c.args.strategy) (g.C.Challenger.party c.args.challenger.now).rules (g.C.Challenger.party c.args.challenger.now).history in
     let rest = false_refusal (capped (false_claim_of g.EF.Field.ops p)) in
     record {
       answers = answers_err g.F.Field.number g.EF.Field.number (task_refusal q) q c.from_residual.result _ _ c.from_residual.ensures.1
@@ -25,7 +25,7 @@ pub returns-in_err-way-clause-task : goal.returns-in_err-way-clause-task
 returns-in_err-way-clause-task g c =
     let p = problem_in c.args.fitting.now.job.now in
     let o = g.EF.Field.ops in
-    let q = asked_to c.args.fitting.now.job.now (build c.args.strategy) (g.C.Challenger.rules c.args.challenger.now) (g.C.Challenger.history c.args.challenger.now) in
+    let q = asked_to c.args.fitting.now.job.now (build c.args.strategy) (g.C.Challenger.party c.args.challenger.now).rules (g.C.Challenger.party c.args.challenger.now).history in
     let first : task_refusal q ≡ false_refusal (capped (false_claim_of o p)) = ap (λ r. or_later r (false_refusal (capped (false_claim_of o p)))) c.in_ok-check_strategy.ensures in
     record {
       answers = answers_err g.F.Field.number g.EF.Field.number (task_refusal q) q c.from_residual-in_err-way.result _ _ c.from_residual-in_err-way.ensures.1
@@ -40,8 +40,8 @@ returns-clause-task g c =
     let job = c.args.fitting.now.job.now in
     let p = problem_in job in
     let o = g.EF.Field.ops in
-    let R = g.C.Challenger.rules c.args.challenger.now in
-    let H = g.C.Challenger.history c.args.challenger.now in
+    let R = (g.C.Challenger.party c.args.challenger.now).rules in
+    let H = (g.C.Challenger.party c.args.challenger.now).history in
     let q = asked_to job (build c.args.strategy) R H in
     let first : task_refusal q ≡ None =
     ap (λ r. or_later r (false_refusal (capped (false_claim_of o p)))) c.in_ok-check_strategy.ensures ∙ ap (λ found. false_refusal (capped found)) c.in_ok-way.ensures.tests in

@@ -15,10 +15,10 @@ pub returns-clause-answers : goal.returns-clause-answers
 returns-clause-answers g c = λ strategy built.
     let job = c.args.fitting.now.job.now in
     let N = g.EF.Field.number in
-    let q = asked_to job (build strategy) (g.C.Challenger.rules c.args.challenger.now) (g.C.Challenger.history c.args.challenger.now) in
+    let q = asked_to job (build strategy) (g.C.Challenger.party c.args.challenger.now).rules (g.C.Challenger.party c.args.challenger.now).history in
     let kept = kept_in g.F.Field.number N c.args.built in
     let start = start_is q _ _ _ (sym g.met.EF.ExtensionField.degree_is) c.num_variables.ensures built.claim in
-    let end = footing (g.C.Challenger.history c.verify_rounds.new.challenger) (N c.verify_rounds.new.claimed_sum) in
+    let end = footing (g.C.Challenger.party c.verify_rounds.new.challenger).history (N c.verify_rounds.new.claimed_sum) in
     let replayed = subst (λ f. IsReplayed (next_claim evaluation g.EF.Field.ops) q.channel f end (given_rounds kept.wire.messages kept.wire.witnesses) (map N c.in_default.field-0)) start c.in_default.ensures.left.1.replays in
     report_built q g.met.EF.Field.is_field.ring refl kept built strategy end (map N c.in_default.field-0) built.grids c.requires.all_true replayed
 
@@ -27,9 +27,9 @@ pub returns-in-Err-clause-answers : goal.returns-in-Err-clause-answers
 returns-in-Err-clause-answers g c = λ strategy built.
     let job = c.args.fitting.now.job.now in
     let N = g.EF.Field.number in
-    let q = asked_to job (build strategy) (g.C.Challenger.rules c.args.challenger.now) (g.C.Challenger.history c.args.challenger.now) in
+    let q = asked_to job (build strategy) (g.C.Challenger.party c.args.challenger.now).rules (g.C.Challenger.party c.args.challenger.now).history in
     let kept = kept_in g.F.Field.number N c.args.built in
     let start = start_is q _ _ _ (sym g.met.EF.ExtensionField.degree_is) c.num_variables.ensures built.claim in
-    let end = footing (g.C.Challenger.history c.verify_rounds.new.challenger) (N c.verify_rounds.new.claimed_sum) in
+    let end = footing (g.C.Challenger.party c.verify_rounds.new.challenger).history (N c.verify_rounds.new.claimed_sum) in
     caused_err _ q _ _ _ c.refusal.ensures
     (replay_broken q g.met.EF.Field.is_field.ring refl kept built strategy _ _ _ end _ c.in-Err.error c.num_variables.ensures refl start (λ untouched. untouched) c.in-Err.ensures.left)

@@ -19,12 +19,12 @@ pub report_on-requires-clause-count : goal.report_on-requires-clause-count
 report_on-requires-clause-count g c =
     let N = g.EF.Field.number in
     let job = c.args.fitting.now.job.now in
-    let q = asked_of job (g.C.Challenger.rules c.args.challenger.now) (g.C.Challenger.history c.args.challenger.now) in
+    let q = asked_of job (g.C.Challenger.party c.args.challenger.now).rules (g.C.Challenger.party c.args.challenger.now).history in
     let given = given_in g.F.Field.number N c.args.proof.now in
     let claim : N c.combine_evals.new.eval ≡ claim_of g.EF.Field.ops (problem_in job) =
     claim-batched g.EF.Field.ops _ _ (claim-alone g.EF.Field.ops g.met.EF.Field.is_field.ring _ _ _ (ap N c.ZERO-claim.ensures ∙ g.met.EF.Field.zero_is) c.combine_evals.ensures) in
     let start = start_is q _ _ _ (sym g.met.EF.ExtensionField.degree_is) c.num_variables.ensures claim in
-    let end = footing (g.C.Challenger.history c.verify_rounds.new.challenger) (N c.verify_rounds.new.claimed_sum) in
+    let end = footing (g.C.Challenger.party c.verify_rounds.new.challenger).history (N c.verify_rounds.new.claimed_sum) in
     let out = map N c.in-Ok.challenges in
     let whole = checked_whole q given end out _ _ c.num_variables.ensures start c.in-Ok.ensures.left in
     sym (length-map c.in-Ok.challenges N) ∙ challenges_checked q given end out whole
@@ -33,12 +33,12 @@ pub report_on-requires-clause-residual : goal.report_on-requires-clause-residual
 report_on-requires-clause-residual g c =
     let N = g.EF.Field.number in
     let job = c.args.fitting.now.job.now in
-    let q = asked_of job (g.C.Challenger.rules c.args.challenger.now) (g.C.Challenger.history c.args.challenger.now) in
+    let q = asked_of job (g.C.Challenger.party c.args.challenger.now).rules (g.C.Challenger.party c.args.challenger.now).history in
     let given = given_in g.F.Field.number N c.args.proof.now in
     let claim : N c.combine_evals.new.eval ≡ claim_of g.EF.Field.ops (problem_in job) =
     claim-batched g.EF.Field.ops _ _ (claim-alone g.EF.Field.ops g.met.EF.Field.is_field.ring _ _ _ (ap N c.ZERO-claim.ensures ∙ g.met.EF.Field.zero_is) c.combine_evals.ensures) in
     let start = start_is q _ _ _ (sym g.met.EF.ExtensionField.degree_is) c.num_variables.ensures claim in
-    let end = footing (g.C.Challenger.history c.verify_rounds.new.challenger) (N c.verify_rounds.new.claimed_sum) in
+    let end = footing (g.C.Challenger.party c.verify_rounds.new.challenger).history (N c.verify_rounds.new.claimed_sum) in
     let out = map N c.in-Ok.challenges in
     let whole = checked_whole q given end out _ _ c.num_variables.ensures start c.in-Ok.ensures.left in
     residual_checked q given end out whole
@@ -48,12 +48,12 @@ pub returns-clause-task : goal.returns-clause-task
 returns-clause-task g c =
     let N = g.EF.Field.number in
     let job = c.args.fitting.now.job.now in
-    let q = asked_of job (g.C.Challenger.rules c.args.challenger.now) (g.C.Challenger.history c.args.challenger.now) in
+    let q = asked_of job (g.C.Challenger.party c.args.challenger.now).rules (g.C.Challenger.party c.args.challenger.now).history in
     let given = given_in g.F.Field.number N c.args.proof.now in
     let claim : N c.combine_evals.new.eval ≡ claim_of g.EF.Field.ops (problem_in job) =
     claim-batched g.EF.Field.ops _ _ (claim-alone g.EF.Field.ops g.met.EF.Field.is_field.ring _ _ _ (ap N c.ZERO-claim.ensures ∙ g.met.EF.Field.zero_is) c.combine_evals.ensures) in
     let start = start_is q _ _ _ (sym g.met.EF.ExtensionField.degree_is) c.num_variables.ensures claim in
-    let end = footing (g.C.Challenger.history c.verify_rounds.new.challenger) (N c.verify_rounds.new.claimed_sum) in
+    let end = footing (g.C.Challenger.party c.verify_rounds.new.challenger).history (N c.verify_rounds.new.claimed_sum) in
     let out = map N c.in-Ok.challenges in
     let whole = checked_whole q given end out _ _ c.num_variables.ensures start c.in-Ok.ensures.left in
     record {
@@ -66,12 +66,12 @@ pub returns-in-Err-clause-task : goal.returns-in-Err-clause-task
 returns-in-Err-clause-task g c =
     let N = g.EF.Field.number in
     let job = c.args.fitting.now.job.now in
-    let q = asked_of job (g.C.Challenger.rules c.args.challenger.now) (g.C.Challenger.history c.args.challenger.now) in
+    let q = asked_of job (g.C.Challenger.party c.args.challenger.now).rules (g.C.Challenger.party c.args.challenger.now).history in
     let given = given_in g.F.Field.number N c.args.proof.now in
     let claim : N c.combine_evals.new.eval ≡ claim_of g.EF.Field.ops (problem_in job) =
     claim-batched g.EF.Field.ops _ _ (claim-alone g.EF.Field.ops g.met.EF.Field.is_field.ring _ _ _ (ap N c.ZERO-claim.ensures ∙ g.met.EF.Field.zero_is) c.combine_evals.ensures) in
     let start = start_is q _ _ _ (sym g.met.EF.ExtensionField.degree_is) c.num_variables.ensures claim in
-    let end = footing (g.C.Challenger.history c.verify_rounds.new.challenger) (N c.verify_rounds.new.claimed_sum) in
+    let end = footing (g.C.Challenger.party c.verify_rounds.new.challenger).history (N c.verify_rounds.new.claimed_sum) in
     record {
       answers = caused_err _ (with_task q (check (Some given))) _ _ _ c.refusal.ensures (proof_refused q given _ _ _ end _ c.in-Err.error c.num_variables.ensures start (λ kept. kept) c.in-Err.ensures.left);
       refused = refused_err _ _ _ _ c.refusal.ensures (counts_refused q given _ _ _ end _ c.in-Err.error c.num_variables.ensures c.in-Err.ensures.left);

@@ -23,7 +23,7 @@ use Rattle.sc_audit.proofs.small_value.play_all.Goals as goal
 pub returns-in_err-challenges : goal.returns-in_err-challenges
 returns-in_err-challenges g c =
     let N = g.EF.Field.number in
-    let H = g.C.Challenger.history in
+    let H = λ (x : g.row.C.Denot). (g.C.Challenger.party x).history in
     let on = wire_in g.F.Field.number N c.args.sumcheck_data.now in
     rounds_broken _ _ c.from_residual.result NoMemory c.from_residual.ensures.1
     (record { after = standing_at (prover_for g.EF.Field.ops (problem_in c.args.fitting.now.job.now)) (H c.args.challenger.now) on; history = refl; wire_is = refl; breaks = inl refl })
@@ -31,12 +31,12 @@ returns-in_err-challenges g c =
 pub returns-in_err-seed : goal.returns-in_err-seed
 returns-in_err-seed g c =
     let N = g.EF.Field.number in
-    let H = g.C.Challenger.history in
+    let H = λ (x : g.row.C.Denot). (g.C.Challenger.party x).history in
     let on = wire_in g.F.Field.number N c.args.sumcheck_data.now in
     rounds_broken _ _ c.from_residual-in_err-seed.result NoMemory c.from_residual-in_err-seed.ensures.1
     (record {
       after = standing_at (prover_for g.EF.Field.ops (problem_in c.args.fitting.now.job.now)) (H c.args.challenger.now) on;
-      history = sym c.in_err-seed.ensures.err;
+      history = sym c.in_err-seed.ensures.history;
       wire_is = refl;
       breaks = inl refl;
     })
@@ -46,8 +46,8 @@ pub returns-in-Ok : goal.returns-in-Ok
 returns-in-Ok g c =
     let o = g.EF.Field.ops in
     let N = g.EF.Field.number in
-    let H = g.C.Challenger.history in
-    let R = g.C.Challenger.rules in
+    let H = λ (x : g.row.C.Denot). (g.C.Challenger.party x).history in
+    let R = λ (x : g.row.C.Denot). (g.C.Challenger.party x).rules in
     let job = c.args.fitting.now.job.now in
     let shown = prover_for o (problem_in job) in
     let on = wire_in g.F.Field.number N c.args.sumcheck_data.now in
@@ -59,7 +59,7 @@ returns-in-Ok g c =
     let begun = c.over-transcript.ensures in
     let setting = same_setting
     (same_channel g.F.Field.ops.size (ap R begun.lent.same ∙ c.in_ok-seed.ensures.rules) (ap (λ (s : BatchShape). s.pow_bits) begun.fresh.shape)) refl in
-    let start = ap (λ h. standing_at shown h on) (ap H begun.lent.same ∙ c.in_ok-seed.ensures.ok) in
+    let start = ap (λ h. standing_at shown h on) (ap H begun.lent.same ∙ c.in_ok-seed.ensures.history) in
     let all = c.in-Ok.ensures.played in
     whole_as (at c.new-shape.result) (ap at shape)
     (ap (λ h. standing_at (shown_of N c.in-Ok.left c.play.new.sum) h (wire_in g.F.Field.number N c.play.new.sumcheck_data))
@@ -75,8 +75,8 @@ pub returns-in-Err : goal.returns-in-Err
 returns-in-Err g c =
     let o = g.EF.Field.ops in
     let N = g.EF.Field.number in
-    let H = g.C.Challenger.history in
-    let R = g.C.Challenger.rules in
+    let H = λ (x : g.row.C.Denot). (g.C.Challenger.party x).history in
+    let R = λ (x : g.row.C.Denot). (g.C.Challenger.party x).rules in
     let job = c.args.fitting.now.job.now in
     let shown = prover_for o (problem_in job) in
     let on = wire_in g.F.Field.number N c.args.sumcheck_data.now in
@@ -88,7 +88,7 @@ returns-in-Err g c =
     let begun = c.over-transcript.ensures in
     let setting = same_setting
     (same_channel g.F.Field.ops.size (ap R begun.lent.same ∙ c.in_ok-seed.ensures.rules) (ap (λ (s : BatchShape). s.pow_bits) begun.fresh.shape)) refl in
-    let start = ap (λ h. standing_at shown h on) (ap H begun.lent.same ∙ c.in_ok-seed.ensures.ok) in
+    let start = ap (λ h. standing_at shown h on) (ap H begun.lent.same ∙ c.in_ok-seed.ensures.history) in
     let stopped = c.in-Err.ensures.played in
     let size = ap (λ (s : BatchShape). s.num_rounds) (c.in-Err.ensures.continues.shape ∙ begun.fresh.shape) in
     breaks_as (at c.new-shape.result) (ap at shape)

@@ -17,12 +17,12 @@ pub returns : goal.returns
 returns g c =
     let N = g.EF.Field.number in
     let job = c.args.fitting.now.job.now in
-    let q = asked_to job (build Plain) (g.C.Challenger.rules c.args.challenger.now) (g.C.Challenger.history c.args.challenger.now) in
+    let q = asked_to job (build Plain) (g.C.Challenger.party c.args.challenger.now).rules (g.C.Challenger.party c.args.challenger.now).history in
     let ring = g.met.EF.Field.is_field.ring in
     let degree = sym g.met.EF.ExtensionField.degree_is in
     let setting = same_setting q ring refl c.in_ok-copied.ensures.rules c.in_ok-copied.ensures.history c.in_ok-base.ensures c.new-rounds.ensures degree c.num_variables-variables.ensures in
     let start = same_start q ring refl c.in_ok-copied.ensures.rules c.in_ok-copied.ensures.history c.in_ok-base.ensures c.new-rounds.ensures degree c.num_variables-variables.ensures in
-    let after = standing_of c.in-Ok.played.0 c.compute_sumcheck_polynomials.new.sumcheck_data (g.C.Challenger.history c.compute_sumcheck_polynomials.new.challenger) in
+    let after = standing_of c.in-Ok.played.0 c.compute_sumcheck_polynomials.new.sumcheck_data (g.C.Challenger.party c.compute_sumcheck_polynomials.new.challenger).history in
     let whole = c.in-Ok.ensures.whole in
     let none_left : after.variables ≡ 0 = omega (arith, whole.whole, c.num_variables-variables.ensures, ap (λ (s : Shown). s.variables) c.in_ok-base.ensures) in
     let kept = c.in_ok-weights.ensures.kept in
@@ -42,7 +42,7 @@ pub returns-in-Err : goal.returns-in-Err
 returns-in-Err g c =
     let N = g.EF.Field.number in
     let job = c.args.fitting.now.job.now in
-    let q = asked_to job (build Plain) (g.C.Challenger.rules c.args.challenger.now) (g.C.Challenger.history c.args.challenger.now) in
+    let q = asked_to job (build Plain) (g.C.Challenger.party c.args.challenger.now).rules (g.C.Challenger.party c.args.challenger.now).history in
     let ring = g.met.EF.Field.is_field.ring in
     let degree = sym g.met.EF.ExtensionField.degree_is in
     let setting = same_setting q ring refl c.in_ok-copied.ensures.rules c.in_ok-copied.ensures.history c.in_ok-base.ensures c.new-rounds.ensures degree c.num_variables-variables.ensures in
@@ -54,4 +54,4 @@ returns-in-Err g c =
 
 -- no variable is
 pub returns-then-variables-eq0 : goal.returns-then-variables-eq0
-returns-then-variables-eq0 g c = c.roundless.ensures (g.C.Challenger.rules c.args.challenger.now) (g.C.Challenger.history c.args.challenger.now)
+returns-then-variables-eq0 g c = c.roundless.ensures (g.C.Challenger.party c.args.challenger.now).rules (g.C.Challenger.party c.args.challenger.now).history

@@ -19,13 +19,13 @@ pub returns : goal.returns
 returns g c =
     let N = g.EF.Field.number in
     let job = c.args.fitting.now.job.now in
-    let q = asked_to job (build Represented) (g.C.Challenger.rules c.args.challenger.now) (g.C.Challenger.history c.args.challenger.now) in
+    let q = asked_to job (build Represented) (g.C.Challenger.party c.args.challenger.now).rules (g.C.Challenger.party c.args.challenger.now).history in
     let ring = g.met.EF.Field.is_field.ring in
     let degree = sym g.met.EF.ExtensionField.degree_is in
     let shows = c.in_ok-prover.ensures.shown ∙ c.in_ok-prover_of.ensures in
     let setting = same_setting q ring refl c.in_ok-copied.ensures.rules c.in_ok-copied.ensures.history shows c.new-rounds.ensures degree c.num_variables.ensures in
     let start = same_start q ring refl c.in_ok-copied.ensures.rules c.in_ok-copied.ensures.history shows c.new-rounds.ensures degree c.num_variables.ensures in
-    let after = image_standing_of c.compute_sumcheck_polynomials.new.self c.compute_sumcheck_polynomials.new.sumcheck_data (g.C.Challenger.history c.compute_sumcheck_polynomials.new.challenger) in
+    let after = image_standing_of c.compute_sumcheck_polynomials.new.self c.compute_sumcheck_polynomials.new.sumcheck_data (g.C.Challenger.party c.compute_sumcheck_polynomials.new.challenger).history in
     built_case q ring refl _ setting start c.num_variables.ensures after c.in-Ok.ensures.batch (c.claimed_sum-claim.ensures ∙ ap (λ (s : Shown). s.claim) shows)
     c.in_ok-eval.ensures.eval c.in_ok-eval.ensures.weight (g.met.EF.Field.number_below _) (g.met.EF.Field.number_below _)
     (ap (map (grid_shown N)) c.empty.ensures)
@@ -35,12 +35,12 @@ pub returns-in-Err : goal.returns-in-Err
 returns-in-Err g c =
     let N = g.EF.Field.number in
     let job = c.args.fitting.now.job.now in
-    let q = asked_to job (build Represented) (g.C.Challenger.rules c.args.challenger.now) (g.C.Challenger.history c.args.challenger.now) in
+    let q = asked_to job (build Represented) (g.C.Challenger.party c.args.challenger.now).rules (g.C.Challenger.party c.args.challenger.now).history in
     let ring = g.met.EF.Field.is_field.ring in
     let degree = sym g.met.EF.ExtensionField.degree_is in
     let shows = c.in_ok-prover.ensures.shown ∙ c.in_ok-prover_of.ensures in
     let setting = same_setting q ring refl c.in_ok-copied.ensures.rules c.in_ok-copied.ensures.history shows c.new-rounds.ensures degree c.num_variables.ensures in
     let start = same_start q ring refl c.in_ok-copied.ensures.rules c.in_ok-copied.ensures.history shows c.new-rounds.ensures degree c.num_variables.ensures in
-    let after = image_standing_of c.compute_sumcheck_polynomials.new.self c.compute_sumcheck_polynomials.new.sumcheck_data (g.C.Challenger.history c.compute_sumcheck_polynomials.new.challenger) in
+    let after = image_standing_of c.compute_sumcheck_polynomials.new.self c.compute_sumcheck_polynomials.new.sumcheck_data (g.C.Challenger.party c.compute_sumcheck_polynomials.new.challenger).history in
     build_refused q ring refl _ setting start c.num_variables.ensures after g.F.Field.number N c.in-Err.error c.refusal.result c.refusal.ensures
     (All-map (λ n. n < g.F.Field.ops.size) g.F.Field.number _ (λ k d low. g.met.F.Field.number_below _)) c.in-Err.ensures.batch

@@ -1,5 +1,4 @@
 use Rattle.std.proofs.Common.{◌≡◌, ◌<◌, ◌+◌, ℕ, List, [], ◌∷◌, ◌++◌, get_or, take, sym, ap, ◌∙◌, append_assoc, length, arith}
-use Rattle.std.proofs.lemmas.Result.{IfOk-from_err}
 use Rattle.std.proofs.lemmas.List.{map-append, take_more}
 use Rattle.sc_definitions.specs.declared.events.Event.TheVariants.{Word}
 use Rattle.sc_definitions.specs.Events.{words}
@@ -13,25 +12,15 @@ one_more parts i n small is =
 -- a part more is a word more
 pub loop-i-preserved : goal.loop-i-preserved
 loop-i-preserved g c =
-    let told = c.observe.ensures in
-    let went = c.unwrap.ensures in
-    let appended = rw went at told.ok in
-    let left = rw went at told.spare in
-    let before = g.C.Challenger.history c.reserve.new.self in
+    let told = rw c.unwrap.ensures at c.observe.ensures in
+    let before = (g.C.Challenger.party c.reserve.new.self).history in
     let parts = g.EF.ExtensionField.extension.parts (g.EF.Field.number c.args.x) in
     let many = g.met.EF.ExtensionField.extends.length_parts (g.EF.Field.number c.args.x) (g.met.EF.Field.number_below c.args.x) in
     record {
       rules = told.rules ∙ c.loop-i.invariant.rules;
-      history = appended ∙ ap (λ h. h ++ Word (g.F.Field.number c.part.result) ∷ []) c.loop-i.invariant.history
+      history = told.history ∙ ap (λ h. h ++ Word (g.F.Field.number c.part.result) ∷ []) c.loop-i.invariant.history
           ∙ append_assoc before (words (take c.loop-i.i parts)) (Word (g.F.Field.number c.part.result) ∷ [])
           ∙ ap (λ l. before ++ l) (one_more parts c.loop-i.i (g.F.Field.number c.part.result) (omega arith) c.part.ensures);
-      room = omega arith;
-      spare = omega arith;
+      room = omega (arith, told.spare);
+      spare = omega (arith, told.spare);
     }
-
--- a refusal tells nothing of an answer
-pub returns-in_err-reserve-clause-ok : goal.returns-in_err-reserve-clause-ok
-returns-in_err-reserve-clause-ok g c = IfOk-from_err c.from_residual.result _ c.from_residual.ensures.0
-
-pub returns-in_err-reserve-clause-spare : goal.returns-in_err-reserve-clause-spare
-returns-in_err-reserve-clause-spare g c = IfOk-from_err c.from_residual.result _ c.from_residual.ensures.0

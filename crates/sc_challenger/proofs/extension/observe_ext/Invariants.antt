@@ -7,8 +7,8 @@ invariant-loop-i g l =
     let c = g.C.Challenger in
     let parts = g.EF.ExtensionField.extension.parts (g.EF.Field.number l.x) in
     record {
-      rules : c.rules l.challenger ≡ c.rules l.initial.challenger;
-      history : c.history l.challenger ≡ c.history l.initial.challenger ++ words (take l.i parts);
-      room : g.EF.ExtensionField.DEGREE ≤ c.spare l.challenger + l.i;
-      spare : c.spare l.initial.challenger ≤ c.spare l.challenger + l.i;
+      rules : (c.party l.challenger).rules ≡ (c.party l.initial.challenger).rules;
+      history : (c.party l.challenger).history ≡ (c.party l.initial.challenger).history ++ words (take l.i parts);
+      room : g.EF.ExtensionField.DEGREE ≤ (c.party l.challenger).spare + l.i;
+      spare : (c.party l.initial.challenger).spare ≤ (c.party l.challenger).spare + l.i;
     }

@@ -13,15 +13,15 @@ use Rattle.sc_degree.proofs.prover.play_batch.Goals as goal
 pub returns-in-Ok-clause-left : goal.returns-in-Ok-clause-left
 returns-in-Ok-clause-left g c =
     let N = g.EF.Field.number in
-    let H = g.C.Challenger.history in
-    let R = g.C.Challenger.rules in
+    let H = λ (x : g.row.C.Denot). (g.C.Challenger.party x).history in
+    let R = λ (x : g.row.C.Denot). (g.C.Challenger.party x).rules in
     let begun = c.over-transcript.ensures in
     let told = c.in-Ok.ensures in
     let q : Play = play_of g.EF.Field.ops (channel (R c.args.challenger.now) g.EF.ExtensionField.extension g.F.Field.ops.size c.args.shape.pow_bits) c.args.shape (N c.args.claimed_sum) (H c.args.challenger.now) in
     let start : Standing = playing g.F.Field.number N (driver_in c.over-transcript.result) (g.P.RoundProver.meaning c.args.prover.now) c.in_ok-played.played in
     let same = same_channel g.F.Field.ops.size (ap R begun.lent.same ∙ c.in_ok-begin.ensures.rules) (ap (λ (s : BatchShape). s.pow_bits) begun.fresh.shape) in (
       told.rounds.0.claimed ∙ c.in_ok-played.ensures.claimed,
-      all_played q start (ap H begun.lent.same ∙ c.in_ok-begin.ensures.ok) same _ _ _ told.rounds.0
+      all_played q start (ap H begun.lent.same ∙ c.in_ok-begin.ensures.history) same _ _ _ told.rounds.0
           (told.rounds.1 ∙ ap (λ (s : BatchShape). s.num_rounds) begun.fresh.shape) (ap (map N) c.new-in-Ok.ensures)
           (ap H (returned (search rules) told.continues.lender begun.lent.lender c.finish.ensures)),
     )
@@ -30,12 +30,12 @@ returns-in-Ok-clause-left g c =
 pub returns-in-Err-clause-left : goal.returns-in-Err-clause-left
 returns-in-Err-clause-left g c =
     let N = g.EF.Field.number in
-    let H = g.C.Challenger.history in
-    let R = g.C.Challenger.rules in
+    let H = λ (x : g.row.C.Denot). (g.C.Challenger.party x).history in
+    let R = λ (x : g.row.C.Denot). (g.C.Challenger.party x).rules in
     let begun = c.over-transcript.ensures in
     let told = c.in-Err.ensures in
     let q : Play = play_of g.EF.Field.ops (channel (R c.args.challenger.now) g.EF.ExtensionField.extension g.F.Field.ops.size c.args.shape.pow_bits) c.args.shape (N c.args.claimed_sum) (H c.args.challenger.now) in
     let start : Standing = playing g.F.Field.number N (driver_in c.over-transcript.result) (g.P.RoundProver.meaning c.args.prover.now) c.in_ok-played.played in
     let same = same_channel g.F.Field.ops.size (ap R begun.lent.same ∙ c.in_ok-begin.ensures.rules) (ap (λ (s : BatchShape). s.pow_bits) begun.fresh.shape) in
-    stopped_at q start (ap H begun.lent.same ∙ c.in_ok-begin.ensures.ok) g.F.Field.number N same (ap (λ (s : BatchShape). s.num_rounds) begun.fresh.shape) _ _ c.in-Err.error
+    stopped_at q start (ap H begun.lent.same ∙ c.in_ok-begin.ensures.history) g.F.Field.number N same (ap (λ (s : BatchShape). s.num_rounds) begun.fresh.shape) _ _ c.in-Err.error
     c.requires.variables told.rounds (ap H (returned (search rules) told.continues.lender begun.lent.lender c.abort.ensures))

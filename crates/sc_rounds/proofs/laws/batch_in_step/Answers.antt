@@ -40,7 +40,7 @@ returns-in_err-drawn g c = record {
 pub returns-in_err-replayed : goal.returns-in_err-replayed
 returns-in_err-replayed g c =
     let N = g.EF.Field.number in
-    let C = channel (g.C.Challenger.rules c.args.verifier_challenger.now) g.EF.ExtensionField.extension g.F.Field.ops.size c.args.pow_bits in
+    let C = channel (g.C.Challenger.party c.args.verifier_challenger.now).rules g.EF.ExtensionField.extension g.F.Field.ops.size c.args.pow_bits in
     let same = ap (λ R. channel R g.EF.ExtensionField.extension g.F.Field.ops.size c.args.pow_bits) c.requires.rules in
     let seed = λ (h : List Event). h ++ words (quadratic_seed g.EF.ExtensionField.DEGREE evaluation c.args.pow_bits c.args.folding_factor) in
     let claim = claim_begun g.EF.Field.ops (stated_to c.args.prover.now c.args.constraint) _ _ _ c.claimed_sum.ensures.number c.with_claim-claim.ensures in
@@ -65,7 +65,7 @@ returns-in_err-replayed g c =
 pub returns : goal.returns
 returns g c =
     let N = g.EF.Field.number in
-    let C = channel (g.C.Challenger.rules c.args.verifier_challenger.now) g.EF.ExtensionField.extension g.F.Field.ops.size c.args.pow_bits in
+    let C = channel (g.C.Challenger.party c.args.verifier_challenger.now).rules g.EF.ExtensionField.extension g.F.Field.ops.size c.args.pow_bits in
     let same = ap (λ R. channel R g.EF.ExtensionField.extension g.F.Field.ops.size c.args.pow_bits) c.requires.rules in
     let seed = λ (h : List Event). h ++ words (quadratic_seed g.EF.ExtensionField.DEGREE evaluation c.args.pow_bits c.args.folding_factor) in
     let claim = claim_begun g.EF.Field.ops (stated_to c.args.prover.now c.args.constraint) _ _ _ c.claimed_sum.ensures.number c.with_claim-claim.ensures in

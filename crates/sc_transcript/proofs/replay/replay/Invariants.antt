@@ -5,8 +5,8 @@ use Rattle.sc_transcript.proofs.replay.replay.Given as goal
 
 abbrev pub invariant-rounds : goal.invariant-rounds
 invariant-rounds g l =
-    let R = g.C.Challenger.rules in
-    let H = g.C.Challenger.history in
+    let R = λ (x : g.row.C.Denot). (g.C.Challenger.party x).rules in
+    let H = λ (x : g.row.C.Denot). (g.C.Challenger.party x).history in
     let N = g.EF.Field.number in
     record {
       rules : R l.challenger ≡ R l.fn.challenger;

@@ -13,15 +13,12 @@ loop-i-init g c = record {
 -- a value more is its parts more
 pub loop-i-preserved : goal.loop-i-preserved
 loop-i-preserved g c =
-    let told = c.observe_ext.ensures in
-    let went = c.unwrap.ensures in
-    let appended = rw went at told.ok in
-    let left = rw went at told.spare in
+    let told = rw c.unwrap.ensures at c.observe_ext.ensures in
     let before = c.loop-i.invariant in
     record {
       rules = told.rules ∙ before.rules;
       history = sent_more g.EF.ExtensionField.extension g.EF.Field.number (g.V.RoundValues.list c.args.values.now) c.loop-i.i _ _ _ _
-          (subst (λ n. c.loop-i.i < n) c.count-i-end.ensures c.loop-i-test.true) c.at.ensures before.history appended;
-      room = omega (arith, before.room, left);
-      spare = omega (arith, before.spare, left);
+          (subst (λ n. c.loop-i.i < n) c.count-i-end.ensures c.loop-i-test.true) c.at.ensures before.history told.history;
+      room = omega (arith, before.room, told.spare);
+      spare = omega (arith, before.spare, told.spare);
     }

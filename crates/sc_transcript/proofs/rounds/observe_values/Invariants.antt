@@ -7,9 +7,9 @@ invariant-loop-i g l =
     let c = g.C.Challenger in
     let parts = g.EF.ExtensionField.DEGREE in
     record {
-      rules : c.rules l.challenger ≡ c.rules l.initial.challenger;
-      history : c.history l.challenger
-          ≡ c.history l.initial.challenger ++ sent g.EF.ExtensionField.extension (map g.EF.Field.number (take l.i (g.V.RoundValues.list l.values)));
-      room : length (g.V.RoundValues.list l.values) * parts ≤ c.spare l.challenger + l.i * parts;
-      spare : c.spare l.initial.challenger ≤ c.spare l.challenger + l.i * parts;
+      rules : (c.party l.challenger).rules ≡ (c.party l.initial.challenger).rules;
+      history : (c.party l.challenger).history
+          ≡ (c.party l.initial.challenger).history ++ sent g.EF.ExtensionField.extension (map g.EF.Field.number (take l.i (g.V.RoundValues.list l.values)));
+      room : length (g.V.RoundValues.list l.values) * parts ≤ (c.party l.challenger).spare + l.i * parts;
+      spare : (c.party l.initial.challenger).spare ≤ (c.party l.challenger).spare + l.i * parts;
     }

@@ -13,8 +13,8 @@ use Rattle.sumcheck_product.proofs.product.answer_to.Goals as goal
 -- the shape is refused
 pub returns-in-Err : goal.returns-in-Err
 returns-in-Err g c =
-    let R = g.C.Challenger.rules c.args.challenger.now in
-    let H = g.C.Challenger.history c.args.challenger.now in
+    let R = (g.C.Challenger.party c.args.challenger.now).rules in
+    let H = (g.C.Challenger.party c.args.challenger.now).history in
     let k : Fields = record { ops = g.EF.Field.ops; base_size = g.F.Field.ops.size; extension = g.EF.ExtensionField.extension; embedding = g.EF.Algebra.embedding } in
     IfOk-weaker c.refuse.result _ _
     (λ a e. e.0 ∙ shaped k c.args.job R H c.max_bits.result (Err c.in-Err.fault) c.max_bits.ensures (sym c.in-Err.is ∙ c.fitting_arity.ensures.shape))
@@ -32,8 +32,8 @@ pub returns-in-None : goal.returns-in-None
 returns-in-None g c =
     let B = g.F.Field.number in
     let N = g.EF.Field.number in
-    let R = g.C.Challenger.rules c.args.challenger.now in
-    let H = g.C.Challenger.history c.args.challenger.now in
+    let R = (g.C.Challenger.party c.args.challenger.now).rules in
+    let H = (g.C.Challenger.party c.args.challenger.now).history in
     let k : Fields = record { ops = g.EF.Field.ops; base_size = g.F.Field.ops.size; extension = g.EF.ExtensionField.extension; embedding = g.EF.Algebra.embedding } in
     let n = c.in-Ok.n in
     let made = c.in_ok-tables.ensures.tables ∙ ap (map (image_table g.EF.Algebra.embedding)) c.as_slice.ensures in
@@ -49,8 +49,8 @@ pub returns-in-Some : goal.returns-in-Some
 returns-in-Some g c =
     let B = g.F.Field.number in
     let N = g.EF.Field.number in
-    let R = g.C.Challenger.rules c.args.challenger.now in
-    let H = g.C.Challenger.history c.args.challenger.now in
+    let R = (g.C.Challenger.party c.args.challenger.now).rules in
+    let H = (g.C.Challenger.party c.args.challenger.now).history in
     let k : Fields = record { ops = g.EF.Field.ops; base_size = g.F.Field.ops.size; extension = g.EF.ExtensionField.extension; embedding = g.EF.Algebra.embedding } in
     let n = c.in-Ok.n in
     let made = c.in_ok-tables.ensures.tables ∙ ap (map (image_table g.EF.Algebra.embedding)) c.as_slice.ensures in

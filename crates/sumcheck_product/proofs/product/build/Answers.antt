@@ -15,11 +15,11 @@ returns-in-Ok-verify g c =
     let B = g.F.Field.number in
     let N = g.EF.Field.number in
     let q : ProductCase = case_over g.EF.Field.ops (tables_of N c.args.product) (arity_of c.args.product)
-    (channel (g.C.Challenger.rules c.args.challenger.now) g.EF.ExtensionField.extension g.F.Field.ops.size c.args.pow_bits) (g.C.Challenger.history c.args.challenger.now) in
+    (channel (g.C.Challenger.party c.args.challenger.now).rules g.EF.ExtensionField.extension g.F.Field.ops.size c.args.pow_bits) (g.C.Challenger.party c.args.challenger.now).history in
     let built = c.in-Ok.built in
     let came = proof_wire B N built.proof in
     let rs = map N c.in-Ok-verify.challenges in
-    let end : Footing = footing (g.C.Challenger.history c.verify.new.challenger) (N c.in-Ok-verify.residual) in
+    let end : Footing = footing (g.C.Challenger.party c.verify.new.challenger).history (N c.in-Ok-verify.residual) in
     let same = replay-is q _ _ (N built.proof.claimed_sum) came c.num_variables-variables.ensures c.degree-degree.ensures in
     let replayed = subst (λ (p : Replay). IsWalked p.walk rs end) same c.in-Ok-verify.ensures.left.1.1 in
     let figures : ProductFigures = record {

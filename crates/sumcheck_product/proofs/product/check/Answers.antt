@@ -21,10 +21,10 @@ end_at-requires-clause-challenges g c =
     let B = g.F.Field.number in
     let N = g.EF.Field.number in
     let q : ProductCase = case_over g.EF.Field.ops (tables_of N c.args.product) (arity_of c.args.product)
-    (channel (g.C.Challenger.rules c.args.challenger.now) g.EF.ExtensionField.extension g.F.Field.ops.size c.args.pow_bits) (g.C.Challenger.history c.args.challenger.now) in
+    (channel (g.C.Challenger.party c.args.challenger.now).rules g.EF.ExtensionField.extension g.F.Field.ops.size c.args.pow_bits) (g.C.Challenger.party c.args.challenger.now).history in
     let p : ProductProof = given_proof B N c.args.proof in
     let rs = map N c.in-Ok.challenges in
-    let end : Footing = footing (g.C.Challenger.history c.verify.new.challenger) (N c.in-Ok.residual) in
+    let end : Footing = footing (g.C.Challenger.party c.verify.new.challenger).history (N c.in-Ok.residual) in
     let same = replay-is q _ _ p.claimed (proof_wire B N c.args.proof) c.num_variables-variables.ensures c.degree-degree.ensures in
     ap length c.as_slice.ensures ∙ sym (length-map c.in-Ok.challenges N)
     ∙ given-count q p rs end (subst IsCounted same c.in-Ok.ensures.left.1.0)
@@ -36,7 +36,7 @@ end_at-requires-clause-messages g c =
     let B = g.F.Field.number in
     let N = g.EF.Field.number in
     let q : ProductCase = case_over g.EF.Field.ops (tables_of N c.args.product) (arity_of c.args.product)
-    (channel (g.C.Challenger.rules c.args.challenger.now) g.EF.ExtensionField.extension g.F.Field.ops.size c.args.pow_bits) (g.C.Challenger.history c.args.challenger.now) in
+    (channel (g.C.Challenger.party c.args.challenger.now).rules g.EF.ExtensionField.extension g.F.Field.ops.size c.args.pow_bits) (g.C.Challenger.party c.args.challenger.now).history in
     let same = replay-is q _ _ (N c.args.proof.claimed_sum) (proof_wire B N c.args.proof) c.num_variables-variables.ensures c.degree-degree.ensures in
     sym (length-map c.args.proof.round_polys.items (λ v. map N v.items)) ∙ (subst IsCounted same c.in-Ok.ensures.left.1.0).as_rounds
 
@@ -46,10 +46,10 @@ end_at-requires-clause-widths g c =
     let B = g.F.Field.number in
     let N = g.EF.Field.number in
     let q : ProductCase = case_over g.EF.Field.ops (tables_of N c.args.product) (arity_of c.args.product)
-    (channel (g.C.Challenger.rules c.args.challenger.now) g.EF.ExtensionField.extension g.F.Field.ops.size c.args.pow_bits) (g.C.Challenger.history c.args.challenger.now) in
+    (channel (g.C.Challenger.party c.args.challenger.now).rules g.EF.ExtensionField.extension g.F.Field.ops.size c.args.pow_bits) (g.C.Challenger.party c.args.challenger.now).history in
     let p : ProductProof = given_proof B N c.args.proof in
     let rs = map N c.in-Ok.challenges in
-    let end : Footing = footing (g.C.Challenger.history c.verify.new.challenger) (N c.in-Ok.residual) in
+    let end : Footing = footing (g.C.Challenger.party c.verify.new.challenger).history (N c.in-Ok.residual) in
     let same = replay-is q _ _ p.claimed (proof_wire B N c.args.proof) c.num_variables-variables.ensures c.degree-degree.ensures in
     wide_items N (length q.tables) c.args.proof.round_polys.items
     (given-wide q p rs end
@@ -61,10 +61,10 @@ returns-in_ok-product-in-Ok g c =
     let B = g.F.Field.number in
     let N = g.EF.Field.number in
     let q : ProductCase = case_over g.EF.Field.ops (tables_of N c.args.product) (arity_of c.args.product)
-    (channel (g.C.Challenger.rules c.args.challenger.now) g.EF.ExtensionField.extension g.F.Field.ops.size c.args.pow_bits) (g.C.Challenger.history c.args.challenger.now) in
+    (channel (g.C.Challenger.party c.args.challenger.now).rules g.EF.ExtensionField.extension g.F.Field.ops.size c.args.pow_bits) (g.C.Challenger.party c.args.challenger.now).history in
     let p : ProductProof = given_proof B N c.args.proof in
     let rs = map N c.in-Ok.challenges in
-    let end : Footing = footing (g.C.Challenger.history c.verify.new.challenger) (N c.in-Ok.residual) in
+    let end : Footing = footing (g.C.Challenger.party c.verify.new.challenger).history (N c.in-Ok.residual) in
     let same = replay-is q _ _ p.claimed (proof_wire B N c.args.proof) c.num_variables-variables.ensures c.degree-degree.ensures in
     let value : N c.in_ok-product-in-Ok.product ≡ values_product q.ops q.tables rs =
     c.in_ok-product-in-Ok.ensures.product ∙ ap (λ xs. values_product q.ops q.tables (map N xs)) c.as_slice.ensures in
@@ -94,9 +94,9 @@ returns-in-Err g c =
     let B = g.F.Field.number in
     let N = g.EF.Field.number in
     let q : ProductCase = case_over g.EF.Field.ops (tables_of N c.args.product) (arity_of c.args.product)
-    (channel (g.C.Challenger.rules c.args.challenger.now) g.EF.ExtensionField.extension g.F.Field.ops.size c.args.pow_bits) (g.C.Challenger.history c.args.challenger.now) in
+    (channel (g.C.Challenger.party c.args.challenger.now).rules g.EF.ExtensionField.extension g.F.Field.ops.size c.args.pow_bits) (g.C.Challenger.party c.args.challenger.now).history in
     let p : ProductProof = given_proof B N c.args.proof in
     let same = replay-is q _ _ p.claimed (proof_wire B N c.args.proof) c.num_variables-variables.ensures c.degree-degree.ensures in
     IfOk-weaker c.refuse_rounds.result _ _
-    (λ a e. e.0 ∙ given-refused q p N c.in-Err.error _ e.1 c.requires.degree.some (subst (λ (t : Replay). LeavesVerify N t q.history (Err c.in-Err.error) (g.C.Challenger.history c.verify.new.challenger)) same c.in-Err.ensures.left))
+    (λ a e. e.0 ∙ given-refused q p N c.in-Err.error _ e.1 c.requires.degree.some (subst (λ (t : Replay). LeavesVerify N t q.history (Err c.in-Err.error) (g.C.Challenger.party c.verify.new.challenger).history) same c.in-Err.ensures.left))
     c.refuse_rounds.ensures

@@ -12,22 +12,22 @@ pub returns-in_err-proof : goal.returns-in_err-proof
 returns-in_err-proof g c =
     let e = g.EF.Field in
     let q : ProductCase = case_over e.ops (tables_of e.number c.args.product) (arity_of c.args.product)
-    (channel (g.C.Challenger.rules c.args.challenger.now) g.EF.ExtensionField.extension g.F.Field.ops.size c.args.pow_bits) (g.C.Challenger.history c.args.challenger.now) in
+    (channel (g.C.Challenger.party c.args.challenger.now).rules g.EF.ExtensionField.extension g.F.Field.ops.size c.args.pow_bits) (g.C.Challenger.party c.args.challenger.now).history in
     let after = prover_of e.ops (tables_of e.number c.prove.new.self) (arity_of c.prove.new.self) in
     let same = play-is q c.in_ok-copied.ensures.rules c.in_ok-copied.ensures.history c.num_variables-variables.ensures c.degree-degree.ensures c.requires.sum in
     passed_on q g.F.Field.number e.number _ c.in_err-proof.field-0.0 c.from_residual-in_err-proof.ensures.1
-    (built-refused q g.F.Field.number e.number after c.in_err-proof.field-0.0 (g.C.Challenger.history c.prove.new.challenger) (subst (λ p. LeavesPlay g.F.Field.number e.number p (prover_for q) after (Err c.in_err-proof.field-0.0) (g.C.Challenger.history c.prove.new.challenger)) same c.in_err-proof.ensures.left))
+    (built-refused q g.F.Field.number e.number after c.in_err-proof.field-0.0 (g.C.Challenger.party c.prove.new.challenger).history (subst (λ p. LeavesPlay g.F.Field.number e.number p (prover_for q) after (Err c.in_err-proof.field-0.0) (g.C.Challenger.party c.prove.new.challenger).history) same c.in_err-proof.ensures.left))
 
 pub returns : goal.returns
 returns g c =
     let e = g.EF.Field in
     let q : ProductCase = case_over e.ops (tables_of e.number c.args.product) (arity_of c.args.product)
-    (channel (g.C.Challenger.rules c.args.challenger.now) g.EF.ExtensionField.extension g.F.Field.ops.size c.args.pow_bits) (g.C.Challenger.history c.args.challenger.now) in
+    (channel (g.C.Challenger.party c.args.challenger.now).rules g.EF.ExtensionField.extension g.F.Field.ops.size c.args.pow_bits) (g.C.Challenger.party c.args.challenger.now).history in
     let after = prover_of e.ops (tables_of e.number c.prove.new.self) (arity_of c.prove.new.self) in
     let same = play-is q c.in_ok-copied.ensures.rules c.in_ok-copied.ensures.history c.num_variables-variables.ensures c.degree-degree.ensures c.requires.sum in
     let came = proof_wire g.F.Field.number e.number c.in_ok-proof.proof in
     built-played q g.met.EF.Field.is_field.ring (tables_of e.number c.prove.new.self) (arity_of c.prove.new.self) came (map e.number c.in_ok-proof.field-0-1)
-    (g.C.Challenger.history c.prove.new.challenger) (e.number c.in_ok-proof.proof.claimed_sum) (e.number c.sum.result)
+    (g.C.Challenger.party c.prove.new.challenger).history (e.number c.in_ok-proof.proof.claimed_sum) (e.number c.sum.result)
     (c.in_ok-proof.ensures.left.0 ∙ c.requires.sum)
     (All-map (λ n. n < g.F.Field.ops.size) g.F.Field.number _ (λ k d low. g.met.F.Field.number_below _)) c.sum.ensures
-    (subst (λ p. IsPlayed p (prover_for q) after came (map e.number c.in_ok-proof.field-0-1) (g.C.Challenger.history c.prove.new.challenger)) same c.in_ok-proof.ensures.left.1)
+    (subst (λ p. IsPlayed p (prover_for q) after came (map e.number c.in_ok-proof.field-0-1) (g.C.Challenger.party c.prove.new.challenger).history) same c.in_ok-proof.ensures.left.1)

@@ -10,8 +10,8 @@ use Rattle.sumcheck_run.proofs.made.answer_in_short.Goals as goal
 
 pub returns-in-Ok : goal.returns-in-Ok
 returns-in-Ok g c =
-    let R = g.C.Challenger.rules c.args.challenger.now in
-    let H = g.C.Challenger.history c.args.challenger.now in
+    let R = (g.C.Challenger.party c.args.challenger.now).rules in
+    let H = (g.C.Challenger.party c.args.challenger.now).history in
     let job = c.audit_true.new.job in
     let call = c.audit_true.ensures in
     let q = asked_of job R H in
@@ -24,8 +24,8 @@ returns-in-Ok g c =
 
 pub returns-in-Err : goal.returns-in-Err
 returns-in-Err g c =
-    let R = g.C.Challenger.rules c.args.challenger.now in
-    let H = g.C.Challenger.history c.args.challenger.now in
+    let R = (g.C.Challenger.party c.args.challenger.now).rules in
+    let H = (g.C.Challenger.party c.args.challenger.now).history in
     let job = c.audit_true.new.job in
     let call = c.audit_true.ensures in
     let q = asked_of job R H in

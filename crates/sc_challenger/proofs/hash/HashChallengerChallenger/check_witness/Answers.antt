@@ -5,12 +5,3 @@ use Rattle.sc_challenger.proofs.hash.HashChallengerChallenger.check_witness.Goal
 -- the state is that behind both events
 pub invariant_of-self-2 : goal.invariant_of-self-2
 invariant_of-self-2 g c = grind (arith, state_more)
-
--- the word, and behind it the test
-pub returns-clause-ok : goal.returns-clause-ok
-returns-clause-ok g c =
-    let second = c.push_reserved-2.ensures.items in
-    let first = c.push_reserved.ensures.items in
-    let before = c.in_ok-reserve.ensures.items in
-    let word = c.index.ensures in
-    rw (second, first, append_assoc, before, word)

@@ -6,8 +6,8 @@ abbrev pub invariant-loop-word : goal.invariant-loop-word
 invariant-loop-word g l =
     let c = g.C.Challenger in
     record {
-      rules : c.rules l.challenger ≡ c.rules l.initial.challenger;
-      history : c.history l.challenger ≡ c.history l.initial.challenger ++ words (take l.word-index l.word-items);
-      room : length l.word-items ≤ c.spare l.challenger + l.word-index;
-      spare : c.spare l.initial.challenger ≤ c.spare l.challenger + l.word-index;
+      rules : (c.party l.challenger).rules ≡ (c.party l.initial.challenger).rules;
+      history : (c.party l.challenger).history ≡ (c.party l.initial.challenger).history ++ words (take l.word-index l.word-items);
+      room : length l.word-items ≤ (c.party l.challenger).spare + l.word-index;
+      spare : (c.party l.initial.challenger).spare ≤ (c.party l.challenger).spare + l.word-index;
     }

@@ -24,12 +24,12 @@ returns-in_err-drawn-clause-left g c =
     let B = g.F.Field.number in
     let N = g.EF.Field.number in
     let proof = c.args.self.now in
-    let h = g.C.Challenger.history c.args.challenger.now in
+    let h = (g.C.Challenger.party c.args.challenger.now).history in
     let shape = generic_shape c.args.num_rounds c.args.degree c.args.pow_bits in
-    let p : Replay = generic_replay g.EF.Field.ops (channel (g.C.Challenger.rules c.args.challenger.now) g.EF.ExtensionField.extension g.F.Field.ops.size c.args.pow_bits) shape
+    let p : Replay = generic_replay g.EF.Field.ops (channel (g.C.Challenger.party c.args.challenger.now).rules g.EF.ExtensionField.extension g.F.Field.ops.size c.args.pow_bits) shape
     (N proof.claimed_sum) (proof_wire B N proof) h in
     let batch : c.batch-batch.result ≡ generic_batch shape = c.batch-batch.ensures ∙ ap generic_batch c.new-shape.ensures in
     let counts : AreCounted (generic_batch shape) (vec_len proof.round_polys) (vec_len proof.pow_witnesses) =
     rw (batch, c.len.ensures, c.len-2.ensures) at c.in_ok-check_counts.ensures.ok in
-    walk_left N p h (pos_of_ne-zero c.if-degree-eq0.false) _ _ _ _ (rw (batch, c.in_ok-begin.ensures.rules, c.in_ok-begin.ensures.ok, c.new-shape.ensures) refl)
+    walk_left N p h (pos_of_ne-zero c.if-degree-eq0.false) _ _ _ _ (rw (batch, c.in_ok-begin.ensures.rules, c.in_ok-begin.ensures.history, c.new-shape.ensures) refl)
     refl (came_counted B N proof (generic_batch shape) counts) (search rules) c.in_err-drawn.ensures.leaves

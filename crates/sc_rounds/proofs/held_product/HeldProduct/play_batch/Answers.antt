@@ -14,8 +14,8 @@ use Rattle.sc_rounds.proofs.held_product.HeldProduct.play_batch.Goals as goal
 pub returns-in-Ok-clause-batch : goal.returns-in-Ok-clause-batch
 returns-in-Ok-clause-batch g c =
     let to = g.EF.FromTable.to_number in
-    let H = g.C.Challenger.history in
-    let R = g.C.Challenger.rules in
+    let H = λ (x : g.row.C.Denot). (g.C.Challenger.party x).history in
+    let R = λ (x : g.row.C.Denot). (g.C.Challenger.party x).rules in
     let W = wire_in g.G.Field.number g.EG.Field.number in
     let begun = c.over-transcript.ensures in
     let t = c.args.self.now in
@@ -27,7 +27,7 @@ returns-in-Ok-clause-batch g c =
           (none_before _ _ _ _ c.in-Ok.ensures.left begun.fresh.played);
       played = played_at
           (same_setting (same_channel g.G.Field.ops.size (ap R begun.lent.same ∙ c.in_ok-seed.ensures.rules) (ap (λ s. s.pow_bits) begun.fresh.shape)) refl)
-          (ap (λ h. standing_at (image_in to c.args.self.now) h (W c.args.sumcheck_data.now)) (ap H begun.lent.same ∙ c.in_ok-seed.ensures.ok))
+          (ap (λ h. standing_at (image_in to c.args.self.now) h (W c.args.sumcheck_data.now)) (ap H begun.lent.same ∙ c.in_ok-seed.ensures.history))
           (ap (λ h. standing_at (image_in to c.play.new.self) h (W c.play.new.sumcheck_data)) (sym (ap H (returned (search rules) c.in-Ok.ensures.continues.lender begun.lent.lender c.finish.ensures))))
           (ap (map g.EG.Field.number) (sym c.new.ensures)) all.1;
     }
@@ -35,8 +35,8 @@ returns-in-Ok-clause-batch g c =
 pub returns-in-Ok-clause-holds : goal.returns-in-Ok-clause-holds
 returns-in-Ok-clause-holds g c =
     let to = g.EF.FromTable.to_number in
-    let H = g.C.Challenger.history in
-    let R = g.C.Challenger.rules in
+    let H = λ (x : g.row.C.Denot). (g.C.Challenger.party x).history in
+    let R = λ (x : g.row.C.Denot). (g.C.Challenger.party x).rules in
     let W = wire_in g.G.Field.number g.EG.Field.number in
     let begun = c.over-transcript.ensures in
     let t = c.args.self.now in
@@ -44,15 +44,15 @@ returns-in-Ok-clause-holds g c =
     let none = played_none _ _ (record { evals = length-map _ to ∙ size.0; weights = length-map _ to ∙ size.1 }) in
     holds_at
     (same_setting (same_channel g.G.Field.ops.size (ap R begun.lent.same ∙ c.in_ok-seed.ensures.rules) (ap (λ s. s.pow_bits) begun.fresh.shape)) refl)
-    (ap (λ h. standing_at (image_in to c.args.self.now) h (W c.args.sumcheck_data.now)) (ap H begun.lent.same ∙ c.in_ok-seed.ensures.ok))
+    (ap (λ h. standing_at (image_in to c.args.self.now) h (W c.args.sumcheck_data.now)) (ap H begun.lent.same ∙ c.in_ok-seed.ensures.history))
     (ap (map g.EG.Field.number) (sym c.new.ensures))
     (held_if_any (ap (map g.EG.Field.number) c.in_ok-challenges.ensures.empty) none c.in-Ok.ensures.holds)
 
 pub returns-in-Err-clause-batch : goal.returns-in-Err-clause-batch
 returns-in-Err-clause-batch g c =
     let to = g.EF.FromTable.to_number in
-    let H = g.C.Challenger.history in
-    let R = g.C.Challenger.rules in
+    let H = λ (x : g.row.C.Denot). (g.C.Challenger.party x).history in
+    let R = λ (x : g.row.C.Denot). (g.C.Challenger.party x).rules in
     let W = wire_in g.G.Field.number g.EG.Field.number in
     let begun = c.over-transcript.ensures in
     let t = c.args.self.now in
@@ -61,7 +61,7 @@ returns-in-Err-clause-batch g c =
     let some = c.in-Err.ensures.rounds _ (as_none _ _ _ (ap (map g.EG.Field.number) c.in_ok-challenges.ensures.empty) none) in
     stops_batch _ c.in-Err.error
     (same_setting (same_channel g.G.Field.ops.size (ap R begun.lent.same ∙ c.in_ok-seed.ensures.rules) (ap (λ s. s.pow_bits) begun.fresh.shape)) refl)
-    (ap (λ h. standing_at (image_in to c.args.self.now) h (W c.args.sumcheck_data.now)) (ap H begun.lent.same ∙ c.in_ok-seed.ensures.ok))
+    (ap (λ h. standing_at (image_in to c.args.self.now) h (W c.args.sumcheck_data.now)) (ap H begun.lent.same ∙ c.in_ok-seed.ensures.history))
     (ap (λ h. standing_at (image_in to c.play.new.self) h (W c.play.new.sumcheck_data)) (sym (ap H (returned (search rules) c.in-Err.ensures.continues.lender begun.lent.lender c.abort.ensures))))
     (none_before _ _ _ _ c.in-Err.ensures.left begun.fresh.played) some.0 (ap (λ (s : BatchShape). s.num_rounds) (c.in-Err.ensures.continues.shape ∙ begun.fresh.shape)) some.1
 
@@ -69,14 +69,14 @@ returns-in-Err-clause-batch g c =
 pub returns-in-Ok-clause-rules : goal.returns-in-Ok-clause-rules
 returns-in-Ok-clause-rules g c =
     let begun = c.over-transcript.ensures in
-    ap g.C.Challenger.rules (returned (search rules) c.in-Ok.ensures.continues.lender begun.lent.lender c.finish.ensures) ∙ c.in-Ok.ensures.continues.rules
-    ∙ ap g.C.Challenger.rules begun.lent.same ∙ c.in_ok-seed.ensures.rules
+    ap (λ (x : g.row.C.Denot). (g.C.Challenger.party x).rules) (returned (search rules) c.in-Ok.ensures.continues.lender begun.lent.lender c.finish.ensures) ∙ c.in-Ok.ensures.continues.rules
+    ∙ ap (λ (x : g.row.C.Denot). (g.C.Challenger.party x).rules) begun.lent.same ∙ c.in_ok-seed.ensures.rules
 
 pub returns-in-Err-clause-rules : goal.returns-in-Err-clause-rules
 returns-in-Err-clause-rules g c =
     let begun = c.over-transcript.ensures in
-    ap g.C.Challenger.rules (returned (search rules) c.in-Err.ensures.continues.lender begun.lent.lender c.abort.ensures) ∙ c.in-Err.ensures.continues.rules
-    ∙ ap g.C.Challenger.rules begun.lent.same ∙ c.in_ok-seed.ensures.rules
+    ap (λ (x : g.row.C.Denot). (g.C.Challenger.party x).rules) (returned (search rules) c.in-Err.ensures.continues.lender begun.lent.lender c.abort.ensures) ∙ c.in-Err.ensures.continues.rules
+    ∙ ap (λ (x : g.row.C.Denot). (g.C.Challenger.party x).rules) begun.lent.same ∙ c.in_ok-seed.ensures.rules
 
 -- without memory for the challenges or the seed nothing has begun
 pub returns-in_err-challenges-clause-batch : goal.returns-in_err-challenges-clause-batch
@@ -86,7 +86,7 @@ pub returns-in_err-seed-clause-batch : goal.returns-in_err-seed-clause-batch
 returns-in_err-seed-clause-batch g c =
     let to = g.EF.FromTable.to_number in
     never_begun _ _ _ c.from_residual-in_err-seed.ensures.1
-    (ap (λ h. standing_at (image_in to c.args.self.now) h (wire_in g.G.Field.number g.EG.Field.number c.args.sumcheck_data.now)) c.in_err-seed.ensures.err)
+    (ap (λ h. standing_at (image_in to c.args.self.now) h (wire_in g.G.Field.number g.EG.Field.number c.args.sumcheck_data.now)) c.in_err-seed.ensures.history)
 
 -- no round was played, and there is no challenge yet
 pub play-requires-clause-variables : goal.play-requires-clause-variables

@@ -16,8 +16,8 @@ pub returns-clause-batch : goal.returns-clause-batch
 returns-clause-batch g c =
     let o = g.EF.Field.ops in
     let N = g.EF.Field.number in
-    let R = g.C.Challenger.rules c.args.challenger.now in
-    let H = g.C.Challenger.history c.args.challenger.now in
+    let R = (g.C.Challenger.party c.args.challenger.now).rules in
+    let H = (g.C.Challenger.party c.args.challenger.now).history in
     let W = wire_in g.F.Field.number N in
     let at : Shown → Shown → SumcheckShape → Batch = λ p q shape.
     batch_at (setting_at (channel R g.EF.ExtensionField.extension g.F.Field.ops.size shape.pow_bits) o p) (standing_at q H (W c.args.sumcheck_data.now)) g.EF.ExtensionField.DEGREE shape in
@@ -27,15 +27,15 @@ returns-clause-batch g c =
     let u = c.play_batch.new.self in
     batch_as c.play_batch.result (map N) _ _ _ _
     (ap (λ q. at taken q c.new-shape.result) (imaged_same taken) ∙ ap (λ p. at p p c.new-shape.result) c.take_in_if_some.ensures ∙ ap (at wanted wanted) c.new-shape.ensures)
-    (ap (λ q. standing_at q (g.C.Challenger.history c.play_batch.new.challenger) (W c.play_batch.new.sumcheck_data)) (imaged_same (held_shown o N u.poly u.held u.sum)))
+    (ap (λ q. standing_at q (g.C.Challenger.party c.play_batch.new.challenger).history (W c.play_batch.new.sumcheck_data)) (imaged_same (held_shown o N u.poly u.held u.sum)))
     c.play_batch.ensures.batch
 
 pub returns-clause-holds : goal.returns-clause-holds
 returns-clause-holds g c =
     let o = g.EF.Field.ops in
     let N = g.EF.Field.number in
-    let R = g.C.Challenger.rules c.args.challenger.now in
-    let H = g.C.Challenger.history c.args.challenger.now in
+    let R = (g.C.Challenger.party c.args.challenger.now).rules in
+    let H = (g.C.Challenger.party c.args.challenger.now).history in
     let W = wire_in g.F.Field.number N in
     let at : Shown → Shown → SumcheckShape → Batch = λ p q shape.
     batch_at (setting_at (channel R g.EF.ExtensionField.extension g.F.Field.ops.size shape.pow_bits) o p) (standing_at q H (W c.args.sumcheck_data.now)) g.EF.ExtensionField.DEGREE shape in

@@ -24,10 +24,10 @@ returns-in_err-drawn-clause-left g c =
     let N = g.EF.Field.number in
     let d = c.args.self.now in
     let shape = shape_of c.args.expected_rounds c.args.pow_bits c.args.basis in
-    let p : Replay = pair_replay g.EF.Field.ops (channel (g.C.Challenger.rules c.args.challenger.now) g.EF.ExtensionField.extension g.F.Field.ops.size c.args.pow_bits)
-    g.EF.ExtensionField.DEGREE shape (wire_in B N d) (footing (g.C.Challenger.history c.args.challenger.now) (N c.args.claimed_sum.now)) in
+    let p : Replay = pair_replay g.EF.Field.ops (channel (g.C.Challenger.party c.args.challenger.now).rules g.EF.ExtensionField.extension g.F.Field.ops.size c.args.pow_bits)
+    g.EF.ExtensionField.DEGREE shape (wire_in B N d) (footing (g.C.Challenger.party c.args.challenger.now).history (N c.args.claimed_sum.now)) in
     let batch : c.batch-batch.result ≡ batch_of shape = c.batch-batch.ensures ∙ ap batch_of c.new-shape.ensures in
     let counts : AreCounted (batch_of shape) (vec_len d.polynomial_evaluations) (vec_len d.pow_witnesses) =
     rw (batch, c.len.ensures, c.len-2.ensures) at c.in_ok-check_counts.ensures.ok in
-    pairs_left _ (map N) p (rw (batch, c.in_ok-seed.ensures.rules, c.in_ok-seed.ensures.ok, c.new-shape.ensures) refl) (λ i r is. pairs_wide N _ _ i r is) _ _ _
+    pairs_left _ (map N) p (rw (batch, c.in_ok-seed.ensures.rules, c.in_ok-seed.ensures.history, c.new-shape.ensures) refl) (λ i r is. pairs_wide N _ _ i r is) _ _ _
     (came_counted B N d (batch_of shape) counts) (search rules) c.in_err-drawn.ensures.leaves

@@ -19,7 +19,7 @@ pub returns-in_err-challenges-clause-refused : goal.returns-in_err-challenges-cl
 returns-in_err-challenges-clause-refused g c =
     let o = g.EF.Field.ops in
     let N = g.EF.Field.number in
-    let H = g.C.Challenger.history in
+    let H = λ (x : g.row.C.Denot). (g.C.Challenger.party x).history in
     let W = wire_in g.F.Field.number N in
     let self = c.args.self in
     err_as c.from_residual.result NoMemory (BreaksOffAt _ (H c.args.challenger.now) (W c.args.sumcheck_data.now)) c.from_residual.ensures.1
@@ -29,13 +29,13 @@ pub returns-in_err-seed-clause-refused : goal.returns-in_err-seed-clause-refused
 returns-in_err-seed-clause-refused g c =
     let o = g.EF.Field.ops in
     let N = g.EF.Field.number in
-    let H = g.C.Challenger.history in
+    let H = λ (x : g.row.C.Denot). (g.C.Challenger.party x).history in
     let W = wire_in g.F.Field.number N in
     let self = c.args.self in
     err_as c.from_residual-in_err-seed.result NoMemory (BreaksOffAt _ (H c.seed.new.challenger) (W c.args.sumcheck_data.now)) c.from_residual-in_err-seed.ensures.1
     (record {
       after = standing_at (base_shown self) (H c.args.challenger.now) (W c.args.sumcheck_data.now);
-      history = sym c.in_err-seed.ensures.err;
+      history = sym c.in_err-seed.ensures.history;
       wire_is = refl;
       breaks = inl refl;
     })
@@ -45,14 +45,14 @@ pub returns-in-Ok-clause-whole : goal.returns-in-Ok-clause-whole
 returns-in-Ok-clause-whole g c =
     let o = g.EF.Field.ops in
     let N = g.EF.Field.number in
-    let H = g.C.Challenger.history in
+    let H = λ (x : g.row.C.Denot). (g.C.Challenger.party x).history in
     let W = wire_in g.F.Field.number N in
     let self = c.args.self in
-    let R = g.C.Challenger.rules in
-    let at : SumcheckShape → Batch = base_batch_of self c.args.sumcheck_data.now (R c.args.challenger.now) (H c.args.challenger.now) in
+    let R = λ (x : g.row.C.Denot). (g.C.Challenger.party x).rules in
+    let at : SumcheckShape → Batch = base_batch_of self c.args.sumcheck_data.now (g.C.Challenger.party c.args.challenger.now) in
     let begun = c.over-transcript.ensures in
     let setting = same_setting (same_channel g.F.Field.ops.size (ap R begun.lent.same ∙ c.in_ok-seed.ensures.rules) (ap (λ (s : BatchShape). s.pow_bits) begun.fresh.shape)) refl in
-    let start = ap (λ h. standing_at (base_shown self) h (W c.args.sumcheck_data.now)) (ap H begun.lent.same ∙ c.in_ok-seed.ensures.ok) in
+    let start = ap (λ h. standing_at (base_shown self) h (W c.args.sumcheck_data.now)) (ap H begun.lent.same ∙ c.in_ok-seed.ensures.history) in
     let all = c.in-Ok.ensures.played in
     whole_as (at c.new-shape.result) (ap at c.new-shape.ensures)
     (ap (λ h. standing_at (shown_in c.in-Ok.rounds) h (W c.play.new.sumcheck_data)) (sym (ap H (returned (search rules) c.in-Ok.ensures.continues.lender begun.lent.lender c.finish.ensures))))
@@ -67,14 +67,14 @@ pub returns-in-Err-clause-refused : goal.returns-in-Err-clause-refused
 returns-in-Err-clause-refused g c =
     let o = g.EF.Field.ops in
     let N = g.EF.Field.number in
-    let H = g.C.Challenger.history in
+    let H = λ (x : g.row.C.Denot). (g.C.Challenger.party x).history in
     let W = wire_in g.F.Field.number N in
     let self = c.args.self in
-    let R = g.C.Challenger.rules in
-    let at : SumcheckShape → Batch = base_batch_of self c.args.sumcheck_data.now (R c.args.challenger.now) (H c.args.challenger.now) in
+    let R = λ (x : g.row.C.Denot). (g.C.Challenger.party x).rules in
+    let at : SumcheckShape → Batch = base_batch_of self c.args.sumcheck_data.now (g.C.Challenger.party c.args.challenger.now) in
     let begun = c.over-transcript.ensures in
     let setting = same_setting (same_channel g.F.Field.ops.size (ap R begun.lent.same ∙ c.in_ok-seed.ensures.rules) (ap (λ (s : BatchShape). s.pow_bits) begun.fresh.shape)) refl in
-    let start = ap (λ h. standing_at (base_shown self) h (W c.args.sumcheck_data.now)) (ap H begun.lent.same ∙ c.in_ok-seed.ensures.ok) in
+    let start = ap (λ h. standing_at (base_shown self) h (W c.args.sumcheck_data.now)) (ap H begun.lent.same ∙ c.in_ok-seed.ensures.history) in
     let stopped = c.in-Err.ensures.stopped in
     let size = ap (λ (s : BatchShape). s.num_rounds) (c.in-Err.ensures.continues.shape ∙ begun.fresh.shape) in
     breaks_as (at c.new-shape.result) (ap at c.new-shape.ensures)
