@@ -29,7 +29,7 @@ def wants(programs):
 
 
 def compare(programs, word, path, repeats, folder):
-    """Runs the command lines with the word behind each, one after the other in each repeat, on the file at `path`, and
+    """Runs the command lines with the word after each, one after the other in each repeat, on the file at `path`, and
     shows the medians of wall time, processor time and peak memory, with their ratio to the last program's. Ends where
     status or output differ."""
     samples = [[] for _ in programs]

@@ -30,7 +30,7 @@ product = times_modulo 31
 pub negative : (x : ℕ) → opposite (residues 31) x ≡ (31 - x % 31) % 31
 negative = opposite_modulo 31
 
--- the power 30 of the number behind n is 1
+-- the power 30 of the number after n is 1
 inverts : ℕ → Bool
 inverts n = eqb (times (residues 31) (suc n) (power (residues 31) (suc n) 29)) 1
 

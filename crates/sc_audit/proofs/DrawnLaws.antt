@@ -18,7 +18,7 @@ use Rattle.sc_transcript.specs.Drivers.{Driver, HasRoundLeft, IsRefused}
 use Rattle.sc_definitions.specs.Shown.{setting_at, standing_at}
 use Rattle.sc_transcript.specs.Batches.{StopsFrom}
 use Rattle.sc_transcript.proofs.BatchLaws.{halts, stops}
-use Rattle.sc_svo.specs.Batches.{Batch, honest_of}
+use Rattle.sc_svo.specs.Batches.{GridBatch, honest_of}
 use Rattle.sc_jobs.specs.BuiltCases.{prover_for}
 use Rattle.sc_audit.specs.SmallRounds.{with_drawn, LeavesDrawn}
 use Rattle.sc_jobs.specs.Taken.{IsBatchOf}
@@ -30,7 +30,7 @@ no_items number (x ∷ xs) none = absurd (omega (arith, none))
 
 -- ---- what is read off a grid
 
-module _ (o : Ops) (ring : IsRing o) (p : Problem) (b : Batch) (of : IsBatchOf o p b) (c : Channel) (h : List Event) (on : Wire) where
+module _ (o : Ops) (ring : IsRing o) (p : Problem) (b : GridBatch) (of : IsBatchOf o p b) (c : Channel) (h : List Event) (on : Wire) where
   -- it is what the problem's own tables tell
   read_honest : (rs : List ℕ) → length rs < length b.grids →
       honest_of o b p.table rs ≡ honest_in (setting_at c o (prover_for o p)) (standing_at (prover_for o p) h on) rs (p.variables - suc (length rs))

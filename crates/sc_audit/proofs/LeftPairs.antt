@@ -22,10 +22,10 @@ use Rattle.sc_rounds.specs.declared.product_polynomial.ProductPolynomial.{Produc
 use Rattle.sc_rounds.specs.Products.{numbers_of, variables_in, order_in, evals_in, weights_in, sum_in}
 use Rattle.sc_rounds.specs.Provers.{shown_of}
 use Rattle.sc_definitions.specs.Shown.{setting_at, standing_at}
-use Rattle.sc_transcript.specs.Batches.{PlaysFrom, StopsFrom, BreaksOffAt, IsStopped, Batch as Rounds}
+use Rattle.sc_transcript.specs.Batches.{PlaysFrom, StopsFrom, BreaksOffAt, IsStopped, Batch}
 use Rattle.sc_rounds.proofs.PairRounds.{pair_rows}
 use Rattle.sc_transcript.proofs.BatchLaws.{same_setting, played_at}
-use Rattle.sc_svo.specs.Batches.{Batch, IsBoundBy}
+use Rattle.sc_svo.specs.Batches.{GridBatch, IsBoundBy}
 use Rattle.sc_jobs.specs.Figures.{false_claim_of}
 use Rattle.sc_jobs.specs.BuiltCases.{prover_for}
 use Rattle.sc_audit.specs.SmallRounds.{with_drawn, LeavesPlayed, LeavesRounds}
@@ -68,10 +68,10 @@ begun_true o ring p h on true_all =
 -- ---- what the small-value rounds leave
 
 -- a bound table by other names
-pub bound_as : {EF : Type 0} (o : Ops) (number : EF → ℕ) (b : Batch) (q : Poly EF) (f g : ℕ → ℕ) (rs qs : List ℕ) → f ≡ g → rs ≡ qs → IsBoundBy o number b f rs q → IsBoundBy o number b g qs q
+pub bound_as : {EF : Type 0} (o : Ops) (number : EF → ℕ) (b : GridBatch) (q : Poly EF) (f g : ℕ → ℕ) (rs qs : List ℕ) → f ≡ g → rs ≡ qs → IsBoundBy o number b f rs q → IsBoundBy o number b g qs q
 bound_as o number b q f g rs qs ef er bound = subst (λ k. IsBoundBy o number b k qs q) ef (subst (λ xs. IsBoundBy o number b f xs q) er bound)
 
-module _ {EF : Type 0} (o : Ops) (number : EF → ℕ) (p : Problem) (b : Batch) (of : IsBatchOf o p b) (rs : List ℕ) where
+module _ {EF : Type 0} (o : Ops) (number : EF → ℕ) (p : Problem) (b : GridBatch) (of : IsBatchOf o p b) (rs : List ℕ) where
   -- a table with the challenges bound, as a list
   bound_numbers : (f g : ℕ → ℕ) (q : Poly EF) (m : ℕ) (xs : List ℕ) → IsBoundBy o number b g rs q → ((k : ℕ) → k < 2 ^ p.variables → g k ≡ f k) → m ≡ variables_of q → length xs ≡ 2 ^ m → rows_of xs ≡ table_of number q →
       entries_of (p.variables - length rs) (bound_by evaluation p.order o rs (p.variables - length rs) (rows_of (entries_of p.variables f))) ≡ xs
@@ -164,13 +164,13 @@ plays_stopped after rs (Ok x) is p = elim is [ ]
 plays_stopped {s} {t} after rs {d} {wire} (Err x) is p = subst (StopsFrom s t d wire) (sym is) p
 
 -- what breaks off is a result that is an error
-pub rounds_broken : {X : Type 0} {b : Rounds} (after : X → Standing) (drawn : X → List ℕ) {h : List Event} {wire : Wire} (r : Result X SumcheckError) (e : SumcheckError) →
+pub rounds_broken : {X : Type 0} {b : Batch} (after : X → Standing) (drawn : X → List ℕ) {h : List Event} {wire : Wire} (r : Result X SumcheckError) (e : SumcheckError) →
     IsErrAnd r (λ x. x ≡ e) → BreaksOffAt b h wire e → LeavesRounds b after drawn h wire r
 rounds_broken after drawn (Ok x) e is p = elim is [ ]
 rounds_broken {b} after drawn {h} {wire} (Err x) e is p = subst (BreaksOffAt b h wire) (sym is) p
 
 -- the batch's grids are the problem's
-pub batch_grids : (o : Ops) (p : Problem) (b : Batch) → IsBatchOf o p b → (rounds : ℕ) → length b.grids ≡ rounds → b.grids ≡ grids_of p.order o p.variables p.table (weights_of o p) rounds
+pub batch_grids : (o : Ops) (p : Problem) (b : GridBatch) → IsBatchOf o p b → (rounds : ℕ) → length b.grids ≡ rounds → b.grids ≡ grids_of p.order o p.variables p.table (weights_of o p) rounds
 batch_grids o p b of rounds count =
     of.grids
     ∙ ap (λ r. grids_of r o b.variables p.table (combined_weight o b.claims) (length b.grids)) of.order

@@ -25,7 +25,7 @@ use Rattle.sc_transcript.specs.Shapes.{shape_of}
 use Rattle.sc_transcript.specs.Drivers.{Driver}
 use Rattle.sc_definitions.specs.Shown.{setting_at, standing_at}
 use Rattle.sc_rounds.specs.HeldProducts.{setting_over, standing_over}
-use Rattle.sc_transcript.specs.Batches.{PlaysFrom, StopsFrom, BreaksOffAt, Batch as Rounds, batch_at, PlaysWhole}
+use Rattle.sc_transcript.specs.Batches.{PlaysFrom, StopsFrom, BreaksOffAt, Batch, batch_at, PlaysWhole}
 use Rattle.sc_svo.specs.Batches.{batch_in}
 use Rattle.sc_jobs.specs.declared.job.Job.{Job}
 use Rattle.sc_jobs.specs.declared.job.Mode.{Mode}
@@ -105,12 +105,12 @@ LeavesPlayed b after rs d wire (Err e) = StopsFrom b.setting b.start d wire e
 
 module _ {F EF : Type 0} {f : FieldOf F} {p : PartialEqOf F} {x : ExtensionOf EF F} {a : AlgebraOf EF F} {e : FieldOf EF} {q : PartialEqOf EF} where
   -- the rounds of a job, where so much is on the wire, a challenger answers by these rules and has this history
-  abbrev pub rounds_for : Job F EF f p x a e q → Wire → Party → Rounds
+  abbrev pub rounds_for : Job F EF f p x a e q → Wire → Party → Batch
   rounds_for job on party =
       batch_at (setting_at (channel_by party x.extension f.ops.size job.pow_bits) e.ops (prover_for e.ops (problem_in job))) (standing_at (prover_for e.ops (problem_in job)) party.history on)
       x.DEGREE (shape_of (constraint_arity job.constraint) job.pow_bits Evaluation)
 
 -- what they leave, by their result: they were played whole, with these challenges, and stand where it says, or they break off
-abbrev pub LeavesRounds : {X : Type 0} → Rounds → (X → Standing) → (X → List ℕ) → List Event → Wire → Result X SumcheckError → Type 0
+abbrev pub LeavesRounds : {X : Type 0} → Batch → (X → Standing) → (X → List ℕ) → List Event → Wire → Result X SumcheckError → Type 0
 LeavesRounds b after challenges h wire (Ok x) = PlaysWhole b (after x) (challenges x)
 LeavesRounds b after challenges h wire (Err e) = BreaksOffAt b h wire e

@@ -6,6 +6,7 @@ ghost use Rattle.sc_jobs.specs.Refusals.{refusal_of, shape_refusal};
 ghost use Rattle.sc_jobs.specs.Figures.{report_in};
 ghost use Rattle.sc_jobs.specs.Audits.{Answers, IsAnswer, IsRefusedBy, HoldsIfBuilt, IsValid, MayMeet};
 ghost use Rattle.sc_jobs.specs.Certified.{CertifiesLuck};
+ghost use Rattle.sc_jobs.specs.Results.{GivesAnswer, answer_to};
 ghost use Rattle.sc_jobs.specs.Stated.{IsRestated, LeavesStated};
 ghost use Rattle.sc_audit.specs.Ways.{IsWayOf};
 
@@ -22,10 +23,10 @@ use std::alloc::Global;
 /// Builds the rounds of a job, or checks those of its proof, and reports on them. There is no condition on the job: what does not fit is refused, in
 /// the order of [`AuditError`].
 ///
-/// The transcript is that of the rounds that the report shows, behind their seed. A build plays on a copy of the challenger, and its rounds are then
+/// The transcript is that of the rounds that the report shows, after their seed. A build plays on a copy of the challenger, and its rounds are then
 /// replayed on the challenger itself, as those of a proof are. A refusal before that leaves the challenger's history as it was, and so does
 /// [`AuditError::NoWitness`]. After [`AuditError::InvalidPowWitness`] the history ends with the test that failed. After [`AuditError::NoMemory`] it is
-/// as it was, or the seed and some of the rounds, from the first on, stand behind it, each of these rounds whole.
+/// as it was, or the seed and some of the rounds, from the first on, stand after it, each of these rounds whole.
 pub fn audit<F: Field, EF: ExtensionField<F>, R: IntoTranscriptField<EF>, C: Challenger<F>>(
     alloc: Global,
     job: &Job<F, EF>,
@@ -50,6 +51,11 @@ pub fn audit<F: Field, EF: ExtensionField<F>, R: IntoTranscriptField<EF>, C: Cha
 
     // A valid job is answered.
     ensures answered { IsValid (asked_by job.now (C.party challenger.old)) → IfErr result MayMeet }
+
+    // All of it is one function of the job, the rules and the history, want of memory aside: so a
+    // round without a witness, or with one that fails, is named exactly where it is the first.
+    ensures given { GivesAnswer F.number EF.number
+        (answer_to (asked_by job.now (C.party challenger.old))) result }
 {
     audit_by::<F, EF, R, C>(alloc, job, None, challenger)
 }
@@ -91,6 +97,8 @@ pub fn audit_true<F: Field, EF: ExtensionField<F>, R: IntoTranscriptField<EF>, C
     ensures answered { IsValid
         (asked_by job.new (C.party challenger.old))
         → IfErr result MayMeet }
+    ensures given { GivesAnswer F.number EF.number
+        (answer_to (asked_by job.new (C.party challenger.old))) result }
 {
     let way = state_truth(alloc, job, challenger.max_bits())?;
     audit_by::<F, EF, R, C>(alloc, job, way, challenger)

@@ -37,8 +37,8 @@ struct Figures {
     holds: bool,
 }
 
-// A job that builds rounds: a table, and claims, which are batched under the challenge 1 with a group of none behind them; a challenger's draws; and
-// what is answered, with the grids of a report, and appended to the history: the words of a seed, each a hexadecimal digit, and events behind them.
+// A job that builds rounds: a table, and claims, which are batched under the challenge 1 with a group of none after them; a challenger's draws; and
+// what is answered, with the grids of a report, and appended to the history: the words of a seed, each a hexadecimal digit, and events after them.
 #[derive(Clone, Copy)]
 struct Case {
     name: &'static str,
@@ -56,10 +56,10 @@ struct Case {
 
 // ---- The bytes of seeds, over a field as its own extension unless another degree is said, and in the basis of values; each digit is a word.
 
-// version 1, and the protocol's name behind its length
+// version 1, and the protocol's name after its length
 const HEAD: &str = "01000000000000001570332d73756d636865636b2d717561647261746963";
 
-// a message of values of one part, fixed, two of them, and its label behind the label's length
+// a message of values of one part, fixed, two of them, and its label after the label's length
 const VALUES: &str = "010000000000000001010000000000000002000000000000000a726f756e645f706f6c79";
 
 // a challenge of one part, one value
@@ -76,7 +76,7 @@ const CHALLENGE_OF_TWO: &str =
 // a label of one byte, the basis
 const BASIS: &str = "000000000000000100";
 
-// the seed of two rounds has its number of steps behind the head
+// the seed of two rounds has its number of steps after the head
 const TWO_ROUNDS: [&str; 7] = [
     HEAD,
     "0000000000000004",

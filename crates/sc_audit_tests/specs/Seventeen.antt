@@ -31,7 +31,7 @@ pub seventeen_two : 2 ≡ plus (residues 17) 1 1
 unfolding plus
 seventeen_two = refl
 
--- the power 16 of the number behind n is 1
+-- the power 16 of the number after n is 1
 inverts : ℕ → Bool
 inverts n = eqb (times (residues 17) (suc n) (power (residues 17) (suc n) 15)) 1
 

@@ -33,7 +33,7 @@ type Pair = (u64, u64);
 // The values of a grid, those at 0 and those at infinity.
 type Lists = (&'static [u64], &'static [u64]);
 
-// A group behind two groups of claims: none, a scalar that selects a value, or a value through the
+// A group after two groups of claims: none, a scalar that selects a value, or a value through the
 // successor map at a selector and a point, in the order of the rounds.
 #[derive(Clone, Copy)]
 enum Last {
@@ -73,9 +73,9 @@ struct Figures {
     finding: Finding,
 }
 
-// A job, whose table is filled up to `rows` rows with zeros and whose claims are two groups, with one behind them; a challenger, by its draws, the
+// A job, whose table is filled up to `rows` rows with zeros and whose claims are two groups, with one after them; a challenger, by its draws, the
 // witnesses that pass and its history; and what is answered, with the grids of a report, and appended to the history: the words of a seed, each a
-// hexadecimal digit, and events behind them.
+// hexadecimal digit, and events after them.
 #[derive(Clone, Copy)]
 struct Case {
     name: &'static str,
@@ -100,10 +100,10 @@ struct Case {
 
 // ---- The bytes of seeds, over a field as its own extension and in the basis of values; each digit is a word.
 
-// version 1, and the protocol's name behind its length
+// version 1, and the protocol's name after its length
 const HEAD: &str = "01000000000000001570332d73756d636865636b2d717561647261746963";
 
-// a message of values of one part, fixed, two of them, and its label behind the label's length
+// a message of values of one part, fixed, two of them, and its label after the label's length
 const VALUES: &str = "010000000000000001010000000000000002000000000000000a726f756e645f706f6c79";
 
 // a witness of one part, fixed, one bit
@@ -116,7 +116,7 @@ const CHALLENGE: &str =
 // a label of one byte, the basis
 const BASIS: &str = "000000000000000100";
 
-// the seeds of one round and of two, without a test and with one, have their number of steps behind the head
+// the seeds of one round and of two, without a test and with one, have their number of steps after the head
 const ONE_ROUND: [&str; 5] = [HEAD, "0000000000000002", VALUES, CHALLENGE, BASIS];
 
 const TWO_ROUNDS: [&str; 7] = [

@@ -6,7 +6,7 @@ use Rattle.sc_definitions.specs.declared.events.Event.{Event}
 use Rattle.sc_definitions.specs.declared.events.Event.TheVariants.{Word, Draw, Test}
 use Rattle.sc_definitions.specs.Events.{Rules}
 
--- the state behind one event more: the digest of the state before it, a byte that tells the kind of the event, and the number that
+-- the state after one event more: the digest of the state before it, a byte that tells the kind of the event, and the number that
 -- the event has, as 8 bytes, the highest first
 abbrev pub next_state : List ℕ → Event → List ℕ
 next_state state (Word x) = sha256 (state ++ 1 ∷ [] ++ to_be_bytes w64 x)
@@ -24,7 +24,7 @@ leading state = from_be_bytes w64
     ∷ slice_index state 4 ∷ slice_index state 5 ∷ slice_index state 6 ∷ slice_index state 7 ∷ [])
 
 -- Over a field of so many elements: the draw at a history is the leading number of its state, modulo the size; a witness passes where
--- the state behind its word begins with as many zero bits as the test has.
+-- the state after its word begins with as many zero bits as the test has.
 abbrev pub hash_rules : ℕ → Rules
 hash_rules size = record {
   draw = λ h. leading (state_of h) % size;

@@ -19,7 +19,7 @@ const MAX_BITS: usize = 16;
 /// word's number or the test's difficulty as 8 bytes, the highest first.
 ///
 /// A draw is the element whose number is the first 8 bytes of the state, the highest first, modulo the size of the field.
-/// A witness passes a test where the state behind its word begins with as many zero bits as the test has, the highest bit
+/// A witness passes a test where the state after its word begins with as many zero bits as the test has, the highest bit
 /// of the first byte being the first. The greatest difficulty is 16 bits.
 #[derive(Drop)]
 pub struct HashChallenger<F: Field> {
@@ -125,7 +125,7 @@ impl<F: Field> Challenger<F> for HashChallenger<F> {
     }
 }
 
-// The state behind one event more.
+// The state after one event more.
 fn state_behind(state: &[u8; 32], event: Event) -> [u8; 32]
     ensures { result ≡ next_state state.now event }
 {

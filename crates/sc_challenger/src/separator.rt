@@ -14,9 +14,9 @@ use std::marker::Model;
 /// What tells a transcript from those of other protocols, shapes and instances: a version of the format, the protocol,
 /// its steps, and a label for what the steps do not show. Its seed is observed before the first step.
 ///
-/// It is written as bytes. The version comes first; the protocol's name behind its length; the number of steps, and the
-/// steps; the label behind its length. A step is a byte for its kind (1 message, 2 challenge, 3 witness), the number of
-/// its parts, a byte that is 0 for one value and 1 for a fixed number of them, that number, and its label's text behind
+/// It is written as bytes. The version comes first; the protocol's name after its length; the number of steps, and the
+/// steps; the label after its length. A step is a byte for its kind (1 message, 2 challenge, 3 witness), the number of
+/// its parts, a byte that is 0 for one value and 1 for a fixed number of them, that number, and its label's text after
 /// its length. A number that is no byte, lengths among them, takes 8 bytes, the highest first.
 #[derive(Debug, Drop)]
 pub struct DomainSeparator {
@@ -148,7 +148,7 @@ fn push_number(bytes: &mut Vec<u8>, number: usize) -> Result<(), NoMemory>
     Ok(())
 }
 
-// Appends a text behind its length.
+// Appends a text after its length.
 #[tactic(auto, unfolding(sc_definitions::specs::Seeds::length_prefixed))]
 fn push_length_prefixed(bytes: &mut Vec<u8>, text: &[u8]) -> Result<(), NoMemory>
     ensures { OnOk result (bytes.new.items ≡ bytes.old.items ++ length_prefixed text.now) }

@@ -103,7 +103,7 @@ static PLAYS: [Play; 4] = [
             Event::Draw,
         ],
     },
-    // the list of each test, and none behind the last
+    // the list of each test, and none after the last
     Play {
         draws: &[],
         good: &[&[5, 9], &[6]],
@@ -257,7 +257,7 @@ fn drawn_of_itself<F: Field, C: Challenger<F>>(challenger: &mut C) -> Result<F, 
     sample_ext(challenger)
 }
 
-// The numbers of what is drawn behind an element, and of what is drawn next.
+// The numbers of what is drawn after an element, and of what is drawn next.
 fn drawn_behind<F: Field, C: Challenger<F>>(
     challenger: &mut C,
     x: F,

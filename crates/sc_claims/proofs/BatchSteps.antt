@@ -12,7 +12,7 @@ use Rattle.sc_definitions.proofs.StatementLaws.{element-powers_sum, batched-none
 one_more : {X : Type 0} (xs : List X) (x : X) → length (xs ++ x ∷ []) ≡ suc (length xs)
 one_more xs x = length-append xs (x ∷ []) ∙ omega arith
 
--- the factor of the statement behind one statement more
+-- the factor of the statement after one statement more
 next-power : (o : Ops) → IsRing o → (c p : ℕ) (ss : List Statement) (s : Statement) (factor factor' : ℕ) → factor ≡ power o c (p + length ss) → factor' ≡ times o factor c →
     factor' ≡ power o c (p + length (ss ++ s ∷ []))
 next-power o ring c p ss s factor factor' so_far is =
@@ -97,7 +97,7 @@ module _ (o : Ops) (ring : IsRing o) (c p : ℕ) (ss : List Statement) (i : ℕ)
       IsWeighted-more o ring n c p (take i ss) (take (i + 1) ss) there.0 old table table' factor factor' (taken-at ss i there.0 there.1) so_far
       (λ b below. added b (subst (λ k. b < 2 ^ k) (sym arity) below) ∙ ap (λ k. plus o (table b) (times o factor k)) (read-at (λ s. weight_of o s.kind b) ss i there.0 there.1)) factor_is
 
--- behind all statements
+-- after all statements
 module _ (o : Ops) (c p : ℕ) (ss : List Statement) (i : ℕ) (past : length ss ≤ i) where
   pub summed-all : (old total factor : ℕ) → IsSummed o c p (take i ss) old total factor → total ≡ plus o old (batched_claim o c p ss)
   summed-all old total factor so_far = so_far.summed ∙ ap (λ l. plus o old (batched_claim o c p l)) (take_all i ss past)

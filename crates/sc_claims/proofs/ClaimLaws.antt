@@ -31,7 +31,7 @@ with_values-length ss [] = refl
 with_values-length [] (v ∷ vs) = refl
 with_values-length (s ∷ ss) (v ∷ vs) = ap suc (with_values-length ss vs)
 
--- the value behind those that were taken
+-- the value after those that were taken
 values-next : (ss : List Statement) (vs : List ℕ) (i v : ℕ) → i < length vs → v ≡ slice_index vs i → with_values ss (take (suc i) vs) ≡ with_value (with_values ss (take i vs)) i v
 values-next ss [] i v low is = absurd (omega (arith, low))
 values-next [] (w ∷ vs) zero v low is = refl

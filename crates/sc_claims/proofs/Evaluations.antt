@@ -19,7 +19,7 @@ eq-arities number n (c ∷ cs) fits =
     All-cons (λ s. arity_of n s.kind ≡ n) (evaluated (point_kind number) number c) (evaluated_all (point_kind number) number cs)
     (length-map c.weights number ∙ fits 0 c (omega arith)) (eq-arities number n cs (All-tail (λ d. length d.weights ≡ n) c cs fits))
 
--- what all of a list have, all of it have as it was or with such as have it behind it
+-- what all of a list have, all of it have as it was or with such as have it after it
 pub all-kept : {X : Type 0} (P : X → Type 0) (added : Bool) (xs more ys : List X) → All P xs → All P more → ys ≡ (if added then xs ++ more else xs) → All P ys
 all-kept P true xs more ys old new is = subst (All P) (sym is) (All-append P xs more old new)
 all-kept P false xs more ys old new is = subst (All P) (sym is) old

@@ -1,4 +1,4 @@
--- What statements claim, less their true values, one behind the other.
+-- What statements claim, less their true values, one after the other.
 use Rattle.std.proofs.Common.{◌≡◌, ℕ, ◌+◌, ◌<◌, ◌≤◌, List, [], ◌∷◌, ◌++◌, length, map, take, slice_index, sym, ◌∙◌, ap}
 use Rattle.std.proofs.lemmas.List.{append-nil, append_assoc, map-append, take_all}
 use Rattle.sc_definitions.specs.Ring.{Ops, minus}

@@ -21,7 +21,7 @@ left [] i s at = absurd at
 left (t ∷ ss) zero s at = ap (λ u. u ∷ ss) at
 left (t ∷ ss) (suc i) s at = left ss i s at
 
--- the statements before the next place, and behind this one
+-- the statements before the next place, and after this one
 pub taken-at : (ss : List Statement) (i : ℕ) (s : Statement) → IsAt ss i s → take (i + 1) ss ≡ take i ss ++ s ∷ []
 taken-at ss i s at = let e : i + 1 ≡ suc i = omega arith in ap (λ k. take k ss) e ∙ taken ss i s at
 
@@ -46,6 +46,6 @@ weights-first o row ss i weight low is =
     let one : Statement → ℕ = λ s. value o (weight_of o s.kind) row in
     ap (map one) (left-at ss i there.0 there.1) ∙ ap (λ w. w ∷ map one (drop (i + 1) ss)) (sym (is ∙ read-at one ss i there.0 there.1))
 
--- what is left behind the first is shorter
+-- what is left after the first is shorter
 pub shorter-left : {B : Type 0} (all rest : List B) (b : B) → all ≡ b ∷ rest → length rest < length all
 shorter-left all rest b first = omega (arith, ap length first)

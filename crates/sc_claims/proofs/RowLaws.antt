@@ -16,7 +16,7 @@ use Rattle.sc_claims.specs.Rows.{IsRow, row_number}
 
 -- ---- the number of a row
 
--- digits behind a number
+-- digits after a number
 number-behind : (n : ℕ) (ds : List ℕ) → number_from_digits_after 2 n ds ≡ n * 2 ^ length ds + row_number ds
 number-behind n [] = let e : n ≡ n * 1 + 0 = omega arith in e
 number-behind n (d ∷ ds) =

@@ -149,7 +149,7 @@ pub(crate) fn all_true<A: Field, EF: Algebra<A>, S: StatementList<EF>>(
 
 /// Adds the claimed values to the sum, that of the first statement times `first`, which is a power of
 /// the challenge, and that of each next one times the challenge once more. The answer is the factor of
-/// a statement behind the last: a factor and no number of its power, since powers over groups may pass
+/// a statement after the last: a factor and no number of its power, since powers over groups may pass
 /// any type.
 pub fn add_values<EF: Field, S: StatementList<EF>>(
     statements: &S,

@@ -80,7 +80,7 @@ module _ (o : Ops) (ring : IsRing o) (p : Problem) (basis : p.basis ≡ evaluati
     claimed : next ≡ next_claim p.basis o claim (sends y) (number x)
     claimed = next_is ∙ ap (λ b. next_claim b o claim (sends y) (number x)) (sym basis)
 
-    -- the true claim behind the round
+    -- the true claim after the round
     after : next_truth ≡ true_claim_of o p (before ++ number x ∷ []) m
     after =
         let message = message_of p.basis p.order o (2 ^ m) f w in

@@ -173,9 +173,9 @@ module _ (o : Ops) (ring : IsRing o) where
       ∙ identity o ring (grid_value order o low ds m b ∷ grid_value order o high ds m b ∷ r ∷ [])
       ((unit ⊖ R) ⊗ A ⊕ R ⊗ B) (A ⊕ (B ⊖ A) ⊗ R) tt tt refl
 
-  -- ---- digits behind others
+  -- ---- digits after others
 
-  -- the value at digits and at more behind them is the value, at those behind, of the table of the values at the first
+  -- the value at digits and at more after them is the value, at those after, of the table of the values at the first
   pub grid_value-append : (order : Order) (f : ℕ → ℕ) (ds es : List Digit) (m b : ℕ) →
       grid_value order o f (ds ++ es) m b ≡ grid_value order o (grid_value order o f ds (length es + m)) es m b
   unfolding grid_value Agree

@@ -316,7 +316,7 @@ module _ (o : Ops) (field : IsField o) where
       through-at o field ys x (omega (arith, low, many)) (omega (arith, most, many))
       ∙ ap (element o) (filled-at d claim cs sum x low) ∙ element-poly_at o field.ring cs x))
 
-  -- the honest values of a round and the true claim before it lead to the true claim behind it
+  -- the honest values of a round and the true claim before it lead to the true claim after it
   pub honest_next : (fs : List (ℕ → ℕ)) (rs : List ℕ) (m r : ℕ) → 1 ≤ length fs → length fs < o.size →
       next_through o (product_claim o fs rs (suc m)) (honest_values o fs rs m) r ≡ product_claim o fs (rs ++ r ∷ []) m
   unfolding honest_values

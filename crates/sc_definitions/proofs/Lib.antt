@@ -47,3 +47,5 @@ pub mod MappedRounds
 pub mod FindLaws
 pub mod PairMoves
 pub mod ImagedRounds
+pub mod LeastLaws
+pub mod WitnessLaws

@@ -10,7 +10,7 @@ use Rattle.sc_definitions.specs.Polynomials.{poly_at, poly_minus, AllZero}
 use Rattle.sc_definitions.specs.Roots.{root_count}
 use Rattle.sc_definitions.specs.Statements.{Statement, true_value, IsTrueOf, AllTrueOf, powers_sum, claimed_values, true_values, weights_at, batched_weight, batched_claim}
 use Rattle.sc_definitions.specs.Problem.{Problem, weights_of, claim_of, residual_of, eval_of, weight_value_of}
-use Rattle.sc_definitions.specs.Lucky.{IsCertificate, behind_zeros, excess, batch_polynomial, true_claim_of, round_excess, product_excess, Course, course_of, product_course, Turn, first_turn, IsTurn, Luck, in_batch, luck_in, luck_of, IsRoundLuck, IsCertified}
+use Rattle.sc_definitions.specs.Lucky.{IsCertificate, after_zeros, excess, batch_polynomial, true_claim_of, round_excess, product_excess, Course, course_of, product_course, Turn, first_turn, IsTurn, Luck, in_batch, luck_in, luck_of, IsRoundLuck, IsCertified}
 use Rattle.sc_definitions.specs.Interpolation.{through, sent_through, next_through}
 use Rattle.sc_definitions.specs.Products.{product_claim, product_round}
 use Rattle.sc_definitions.proofs.RingLaws.{element-plus, element-small, plus-opposite, plus-element_left, plus-element_right}
@@ -44,7 +44,7 @@ module _ (o : Ops) (ring : IsRing o) where
 
   -- ---- the batching challenge
 
-  -- coefficients behind zeros, at c, are their sum times powers of c
+  -- coefficients after zeros, at c, are their sum times powers of c
   powers-shift : (c p : ℕ) (xs : List ℕ) → times o c (powers_sum o c p xs) ≡ powers_sum o c (suc p) xs
   unfolding powers_sum power Agree
   powers-shift c p [] = identity o ring (c ∷ []) (atom 0 ⊗ nought) nought tt tt refl
@@ -53,7 +53,7 @@ module _ (o : Ops) (ring : IsRing o) where
       identity o ring (c ∷ x ∷ power o c p ∷ powers_sum o c (suc p) xs ∷ []) (C ⊗ (P ⊗ X ⊕ S)) ((C ⊗ P) ⊗ X ⊕ C ⊗ S) tt tt refl
       ∙ ap (plus o (times o (power o c (suc p)) x)) (powers-shift c (suc p) xs)
 
-  poly_at-zeros : (n : ℕ) (xs : List ℕ) (c : ℕ) → poly_at o (behind_zeros n xs) c ≡ powers_sum o c n xs
+  poly_at-zeros : (n : ℕ) (xs : List ℕ) (c : ℕ) → poly_at o (after_zeros n xs) c ≡ powers_sum o c n xs
   unfolding poly_at powers_sum power Agree
   poly_at-zeros zero [] c = refl
   poly_at-zeros zero (x ∷ xs) c =
@@ -85,7 +85,7 @@ module _ (o : Ops) (ring : IsRing o) where
       (sym (inner-powers_sum o ring n f c i ss) ∙ sym (true_claim-inner o ring p.basis p.order f (λ b. powers_sum o c i (weights_at o ss b)) [] n))
 
   -- where no statement exceeds its true value, all are true
-  zeros-last : (n : ℕ) (xs : List ℕ) → AllZero o (behind_zeros n xs) → AllZero o xs
+  zeros-last : (n : ℕ) (xs : List ℕ) → AllZero o (after_zeros n xs) → AllZero o xs
   zeros-last zero xs h = h
   zeros-last (suc n) xs h = zeros-last n xs h.1
 
@@ -199,7 +199,7 @@ module _ (o : Ops) (field : IsField o) (p : Problem) where
       certifies o field p.batching (batch_polynomial o p) (batch-some o field.ring p low some) (batch-at o field.ring p ∙ minus-same o field.ring _ _ right)
 
 module _ (o : Ops) (field : IsField o) (p : Problem) (offered : IsOffered p.basis p.order) where
-  -- the round before whose challenge a claim is false and behind which it is true certifies that the challenge was lucky
+  -- the round before whose challenge a claim is false and after which it is true certifies that the challenge was lucky
   round_certifies : (claim : ℕ) (message : List ℕ) (rs : List ℕ) (m r : ℕ) → length message ≡ 2 → element o claim ≢ true_claim_of o p rs (suc m) →
       next_claim p.basis o claim message r ≡ true_claim_of o p (rs ++ r ∷ []) m →
       IsCertificate o r (round_excess o p claim message rs m) (root_count o (round_excess o p claim message rs m)) × (length (round_excess o p claim message rs m) ≡ 3)
@@ -350,7 +350,7 @@ module _ (o : Ops) (field : IsField o) (fs : List (ℕ → ℕ)) (some : 1 ≤ l
 
 -- ---- the first lucky challenge
 
-length-zeros : (n : ℕ) (xs : List ℕ) → length (behind_zeros n xs) ≡ n + length xs
+length-zeros : (n : ℕ) (xs : List ℕ) → length (after_zeros n xs) ≡ n + length xs
 length-zeros zero xs = omega arith
 length-zeros (suc n) xs = ap suc (length-zeros n xs) ∙ omega arith
 

@@ -52,7 +52,7 @@ next_partial-rows order o part f zs l m a whole =
 module _ (o : Ops) (ring : IsRing o) where
   -- ---- first tables
 
-  -- the part Carry sums to the entries with row 0 behind, each times the last row's weight
+  -- the part Carry sums to the entries with row 0 after, each times the last row's weight
   pub summed_behind-carry : (order : Order) (l m : ℕ) (ys : List ℕ) (f : ℕ → ℕ) (a : ℕ) → length ys ≡ m →
       summed_behind order o l m (part_weight o Carry ys) f a ≡ times o (f (joined_row order l m a 0)) (weight o ys (2 ^ m - 1))
   unfolding part_weight
@@ -66,7 +66,7 @@ module _ (o : Ops) (ring : IsRing o) where
       ∙ element-times o ring W (row 0) ∙ times_comm o ring W (row 0)
       ∙ ap (λ n. times o (row 0) (weight o ys (2 ^ n - 1))) size
 
-  -- the part Omega sums to the entries with the last row behind, each times its weight
+  -- the part Omega sums to the entries with the last row after, each times its weight
   pub summed_behind-omega : (order : Order) (l m : ℕ) (ys : List ℕ) (f : ℕ → ℕ) (a : ℕ) → length ys ≡ m →
       summed_behind order o l m (part_weight o Omega ys) f a ≡ times o (f (joined_row order l m a (2 ^ m - 1))) (weight o ys (2 ^ m - 1))
   unfolding part_weight

@@ -54,14 +54,14 @@ joined_row-all : (order : Order) (l a : ℕ) → joined_row order l 0 a 0 ≡ a
 joined_row-all prefix l a = let power : 2 ^ 0 ≡ 1 = refl in omega arith
 joined_row-all suffix l a = omega arith
 
--- with row c behind, the part where the next variable is 0 is that part of the table of the rows in front of c
+-- with row c after, the part where the next variable is 0 is that part of the table of the rows in front of c
 pub joined-low : (order : Order) (f : ℕ → ℕ) (l m a c : ℕ) →
     low_entry order f (joined_row order l m a c) ≡ low_entry order (λ k. f (joined_row order (suc l) m k c)) a
 unfolding low_entry
 joined-low prefix f l m a c = refl
 joined-low suffix f l m a c = let e : 2 * (c * 2 ^ l + a) ≡ c * 2 ^ suc l + 2 * a = omega (arith, times-pow_suc c l) in ap f e
 
--- with row c behind, the part where the next variable is 1 is that part of the table of the rows in front of c
+-- with row c after, the part where the next variable is 1 is that part of the table of the rows in front of c
 pub joined-high : (order : Order) (f : ℕ → ℕ) (l m a c : ℕ) →
     high_entry order (2 ^ (l + m)) f (joined_row order l m a c) ≡ high_entry order (2 ^ (l + 0)) (λ k. f (joined_row order (suc l) m k c)) a
 unfolding high_entry
@@ -78,7 +78,7 @@ unfolding summed_first summed_last
 summed_behind-rows prefix o l m w f a = refl
 summed_behind-rows suffix o l m w f a = refl
 
--- the value at digits with row c behind is that of the table of the rows in front of c
+-- the value at digits with row c after is that of the table of the rows in front of c
 pub grid_value-behind : (order : Order) (o : Ops) (f : ℕ → ℕ) (ds : List Digit) (m c : ℕ) →
     grid_value order o f ds m c ≡ grid_value order o (λ a. f (joined_row order (length ds) m a c)) ds 0 0
 unfolding grid_value
@@ -117,7 +117,7 @@ module _ (o : Ops) (ring : IsRing o) where
       ∙ weight-append o ring (take k zs) (drop k zs) c a (rw first lc) (rw second la)
       ∙ times_comm o ring (weight o (take k zs) c) (weight o (drop k zs) a)
 
-  -- the value at digits of weights that are products, with row c behind: that of the weights in front, times the weight of c
+  -- the value at digits of weights that are products, with row c after: that of the weights in front, times the weight of c
   pub grid_value-product : (order : Order) (w u v : ℕ → ℕ) (ds : List Digit) (m c : ℕ) →
       ((a : ℕ) → a < 2 ^ length ds → w (joined_row order (length ds) m a c) ≡ times o (u a) (v c)) →
       grid_value order o w ds m c ≡ times o (grid_value order o u ds 0 0) (v c)
@@ -127,7 +127,7 @@ module _ (o : Ops) (ring : IsRing o) where
       ∙ grid_value-same order o _ (λ a. times o (u a) (v c)) ds 0 0 (λ a low. is a (rw (sym none) low)) (omega arith)
       ∙ grid_value-times o ring order (v c) u ds 0 0
 
-  -- the value at digits of a table summed over the others is the sum of its values at the digits, each times the weight of the row behind
+  -- the value at digits of a table summed over the others is the sum of its values at the digits, each times the weight of the row after
   pub grid_value-summed : (order : Order) (f v : ℕ → ℕ) (ds : List Digit) (m : ℕ) →
       grid_value order o (summed_behind order o (length ds) m v f) ds 0 0 ≡ inner o m (grid_value order o f ds m) v
   unfolding inner

@@ -37,7 +37,7 @@ count-most (suc n) k f h =
 -- ---- the lists that let a claim through, by the challenges that are still to come
 
 module _ (o : Ops) (p : Problem) (s : List Held) where
-  -- the claim behind one challenge more
+  -- the claim after one challenge more
   next_against : List ℕ → ℕ → ℕ → ℕ
   next_against rs claim x = next_claim p.basis o claim (answer s rs) x
 

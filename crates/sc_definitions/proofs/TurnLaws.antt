@@ -17,7 +17,7 @@ use Rattle.sc_definitions.proofs.RoundLaws.{honest_pair-message, true_claim-inne
 -- ---- one round of a course
 
 module _ (k : Course) where
-  -- the claim turns true behind this round
+  -- the claim turns true after this round
   pub turn-here : (i claim : ℕ) (message : List ℕ) (messages : List (List ℕ)) (before : List ℕ) (r : ℕ) (rs : List ℕ) →
       k.next claim message r ≡ k.true_after (before ++ r ∷ []) (length messages) →
       first_turn k i claim (message ∷ messages) before (r ∷ rs) ≡ Some (record { round = i; polynomial = k.excess claim message before (length messages) })

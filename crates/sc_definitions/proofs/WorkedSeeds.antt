@@ -24,7 +24,7 @@ one_round-words :
 unfolding quadratic_seed seed_words nibbles separator_bytes step_bytes length_bytes length_prefixed eight_bytes protocol_name label_text
 one_round-words = (refl, refl, refl, refl, refl, refl)
 
--- No rounds have no seed; each further round adds 36 + 41 bytes. A difficulty of 16 bits adds a step of 35 bytes behind a round's message,
+-- No rounds have no seed; each further round adds 36 + 41 bytes. A difficulty of 16 bits adds a step of 35 bytes after a round's message,
 -- which is a witness, before the challenge, whose elements have two parts here. The label of the projective basis is the byte 1.
 other_rounds :
     (quadratic_seed 1 evaluation 0 0 ≡ [])

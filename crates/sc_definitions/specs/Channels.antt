@@ -46,7 +46,7 @@ pub record WitnessFails (c : Channel) (h : List Event) (round : Round) (h' : Lis
 -- ---- rounds that are built
 
 -- Played from h on, after the challenges rs and with n variables left, each sends what `honest` gives for the challenges
--- before it and the number of variables behind it, and its witness is the first.
+-- before it and the number of variables after it, and its witness is the first.
 abbrev pub IsBuilt : (List ℕ → ℕ → List ℕ) → Channel → List Event → List ℕ → ℕ → List Round → Type 0
 IsBuilt honest c h rs n [] = Unit {0}
 IsBuilt honest c h rs zero (r ∷ rounds) = ⊥
@@ -70,7 +70,7 @@ abbrev pub witnesses_of : ℕ → List Round → List ℕ
 witnesses_of zero rounds = []
 witnesses_of (suc bits) rounds = map (λ r. r.witness) rounds
 
--- the wire with rounds put behind it, at a difficulty
+-- the wire with rounds put after it, at a difficulty
 abbrev pub with_rounds : ℕ → Wire → List Round → Wire
 with_rounds bits w rounds = record { messages = w.messages ++ messages_of rounds; witnesses = w.witnesses ++ witnesses_of bits rounds }
 

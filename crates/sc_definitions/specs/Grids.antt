@@ -43,7 +43,7 @@ grid_value order o f (infinity ∷ ds) m b =
 unfoldable pub grid_entry : Order → Ops → (ℕ → ℕ) → (ℕ → ℕ) → List Digit → ℕ → ℕ
 grid_entry order o f w ds m = inner o m (grid_value order o f ds m) (grid_value order o w ds m)
 
--- A round's list with its own variable at a digit, j variables before it and m behind it: place k belongs to the digits of k to the base 3,
+-- A round's list with its own variable at a digit, j variables before it and m after it: place k belongs to the digits of k to the base 3,
 -- of which the first variable has the lowest.
 unfoldable pub grid_list : Order → Ops → (ℕ → ℕ) → (ℕ → ℕ) → Digit → ℕ → ℕ → List ℕ
 grid_list order o f w d j m = map (λ k. grid_entry order o f w (ternary j k ++ d ∷ []) m) (range_with_len 0 (3 ^ j))

@@ -19,6 +19,8 @@ pub mod Strategies
 pub mod Seeds
 pub mod Replays
 pub mod Channels
+pub mod Least
+pub mod Witnesses
 pub mod Standings
 pub mod Grids
 pub mod Partials

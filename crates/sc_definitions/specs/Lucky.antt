@@ -20,10 +20,10 @@ pub record IsCertificate (o : Ops) (r : ℕ) (cs : List ℕ) (roots : ℕ) : Typ
 
 -- ---- the batching challenge
 
--- so many zeros before others
-abbrev pub behind_zeros : ℕ → List ℕ → List ℕ
-behind_zeros zero xs = xs
-behind_zeros (suc n) xs = 0 ∷ behind_zeros n xs
+-- a list after so many zeros
+abbrev pub after_zeros : ℕ → List ℕ → List ℕ
+after_zeros zero xs = xs
+after_zeros (suc n) xs = 0 ∷ after_zeros n xs
 
 -- how much more than its true value a statement claims
 unfoldable pub excess : Ops → ℕ → (ℕ → ℕ) → Statement → ℕ
@@ -31,7 +31,7 @@ excess o n f s = s.claimed -⟨ o ⟩ true_value o n f s.kind
 
 -- the polynomial that the batching challenge is put into: each statement's excess at its power
 unfoldable pub batch_polynomial : Ops → Problem → List ℕ
-batch_polynomial o p = behind_zeros p.initial (map (excess o p.variables p.table) p.statements)
+batch_polynomial o p = after_zeros p.initial (map (excess o p.variables p.table) p.statements)
 
 -- ---- the challenges of rounds
 
@@ -39,16 +39,16 @@ batch_polynomial o p = behind_zeros p.initial (map (excess o p.variables p.table
 abbrev pub true_claim_of : Ops → Problem → List ℕ → ℕ → ℕ
 true_claim_of o p rs m = true_claim p.basis p.order o p.table (weights_of o p) rs m
 
--- what a message sends under a claim, after the challenges rs and with m variables behind the round's, less the true polynomial
+-- what a message sends under a claim, after the challenges rs and with m variables after the round's, less the true polynomial
 unfoldable pub round_excess : Ops → Problem → ℕ → List ℕ → List ℕ → ℕ → List ℕ
 round_excess o p claim message rs m =
     poly_minus o (sent_polynomial p.basis o claim message) (slow_round p.basis p.order o p.table (weights_of o p) rs m)
 
--- what values send under a claim of the product of tables, after the challenges rs and with m variables behind the round's, less the true polynomial
+-- what values send under a claim of the product of tables, after the challenges rs and with m variables after the round's, less the true polynomial
 unfoldable pub product_excess : Ops → List (ℕ → ℕ) → ℕ → List ℕ → List ℕ → ℕ → List ℕ
 product_excess o fs claim values rs m = poly_minus o (sent_through o claim values) (product_round o fs rs m)
 
--- How the claims of rounds go: the claim behind a message and its challenge, the true one after challenges with so many variables left, and what a
+-- How the claims of rounds go: the claim after a message and its challenge, the true one after challenges with so many variables left, and what a
 -- message sends under a claim less the true polynomial.
 pub record Course : Type 0 where
   pub next : ℕ → List ℕ → ℕ → ℕ
@@ -67,7 +67,7 @@ pub record Turn : Type 0 where
   pub round : ℕ
   pub polynomial : List ℕ
 
--- The first round, of messages that are numbered from i on and played after the challenges `before`, behind which the claim is the true one.
+-- The first round, of messages that are numbered from i on and played after the challenges `before`, after which the claim is the true one.
 unfoldable pub first_turn : Course → ℕ → ℕ → List (List ℕ) → List ℕ → List ℕ → Option Turn
 first_turn k i claim [] before rs = None
 first_turn k i claim (message ∷ messages) before [] = None
@@ -110,7 +110,7 @@ pub record IsRoundLuck (o : Ops) (rs : List ℕ) (round : ℕ) (polynomial : Lis
   pub certificate : IsCertificate o challenge polynomial roots
   pub three : length polynomial ≡ 3
 
--- It is certified: by a polynomial of one coefficient for each statement behind as many as the initial power says, or by that of a round.
+-- It is certified: by a polynomial of one coefficient for each statement after as many as the initial power says, or by that of a round.
 abbrev pub IsCertified : Ops → Problem → List ℕ → Luck → Type 0
 IsCertified o p rs (in_batch polynomial roots) = IsCertificate o p.batching polynomial roots × (length polynomial ≡ p.initial + length p.statements)
 IsCertified o p rs (in_round round polynomial roots) = IsRoundLuck o rs round polynomial roots

@@ -23,7 +23,7 @@ weights_of o p b = batched_weight o p.batching p.initial p.statements b
 unfoldable pub claim_of : Ops → Problem → ℕ
 claim_of o p = batched_claim o p.batching p.initial p.statements
 
--- what an honest round sends after the challenges rs, with m variables behind it
+-- what an honest round sends after the challenges rs, with m variables after it
 unfoldable pub honest_of : Ops → Problem → List ℕ → ℕ → List ℕ
 honest_of o p rs m = honest_pair p.basis p.order o p.table (weights_of o p) rs m
 

@@ -14,7 +14,7 @@ values_product o (f ∷ fs) zs = value o f zs *⟨ o ⟩ values_product o fs zs
 unfoldable pub product_claim : Ops → List (ℕ → ℕ) → List ℕ → ℕ → ℕ
 product_claim o fs rs m = sum_below o (2 ^ m) (λ b. values_product o fs (rs ++ digits m b))
 
--- ---- the round polynomial after the challenges rs, with m variables behind the round's
+-- ---- the round polynomial after the challenges rs, with m variables after the round's
 
 -- a table's line at row b of the m variables: its value where the round's variable is 0, and how much more it is at 1
 unfoldable pub line_of : Ops → (ℕ → ℕ) → List ℕ → ℕ → ℕ → List ℕ

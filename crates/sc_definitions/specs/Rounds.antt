@@ -14,7 +14,7 @@ placed_entry projective order o f rs m b = sum_below o (2 ^ length rs) (λ a. f 
 unfoldable pub true_claim : Basis → Order → Ops → (ℕ → ℕ) → (ℕ → ℕ) → List ℕ → ℕ → ℕ
 true_claim basis order o f w rs m = inner o m (placed_entry basis order o f rs m) (placed_entry basis order o w rs m)
 
--- ---- The slow round polynomial after the challenges rs, with m variables behind the round's. Its value at x is the
+-- ---- The slow round polynomial after the challenges rs, with m variables after the round's. Its value at x is the
 -- true claim at one challenge more, `true_claim basis order o f w (rs ++ x ∷ []) m`.
 
 -- a table's line at row b of the m variables: how much more it is at 1 than at 0

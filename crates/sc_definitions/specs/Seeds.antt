@@ -49,7 +49,7 @@ protocol_name Hvzk = codes "p3-sumcheck-hvzk"
 unfoldable pub eight_bytes : ℕ → List ℕ
 eight_bytes n = to_be_bytes w64 n
 
--- a text behind its length
+-- a text after its length
 unfoldable pub length_prefixed : List ℕ → List ℕ
 length_prefixed text = eight_bytes (length text) ++ text
 
@@ -64,12 +64,12 @@ unfoldable pub length_bytes : Length → List ℕ
 length_bytes Scalar = 0 ∷ eight_bytes 1
 length_bytes (Fixed n) = 1 ∷ eight_bytes n
 
--- the bytes of a step: its kind, the parts of a value, its length, and its label's text behind the text's length
+-- the bytes of a step: its kind, the parts of a value, its length, and its label's text after the text's length
 unfoldable pub step_bytes : Interaction → List ℕ
 step_bytes s = kind_byte s.kind ∷ [] ++ eight_bytes s.parts ++ length_bytes s.length ++ length_prefixed (label_text s.label)
 
--- the bytes of a separator: the version, the protocol's name behind its length, how many steps there are, the steps, and the
--- label behind its length
+-- the bytes of a separator: the version, the protocol's name after its length, how many steps there are, the steps, and the
+-- label after its length
 unfoldable pub separator_bytes : Separator → List ℕ
 separator_bytes s =
     s.version ∷ [] ++ length_prefixed (protocol_name s.protocol) ++ eight_bytes (length s.steps) ++ flat_map step_bytes s.steps ++ length_prefixed s.label

@@ -45,7 +45,7 @@ half_rows (suc m) = 2 ^ m
 abbrev pub message_in : Setting → Standing → List ℕ
 message_in s t = message_of s.basis s.order s.ops (half_rows t.variables) (rows_of t.evals) (rows_of t.weights)
 
--- what an honest round sends after the challenges rs, with m variables behind it
+-- what an honest round sends after the challenges rs, with m variables after it
 abbrev pub honest_in : Setting → Standing → List ℕ → ℕ → List ℕ
 honest_in s t = honest_pair s.basis s.order s.ops (rows_of t.evals) (rows_of t.weights)
 

@@ -34,7 +34,7 @@ before_draw E bits r = sent E r.values ++ witness_events bits r.witness
 unfoldable pub round_events : Extension → ℕ → Round → List Event
 round_events E bits r = before_draw E bits r ++ replicate E.degree Draw
 
--- what rounds append, behind the seed
+-- what rounds append, after the seed
 abbrev pub rounds_events : Extension → ℕ → List Round → List Event
 rounds_events E bits rounds = flat_map (round_events E bits) rounds
 
@@ -59,7 +59,7 @@ HasFirstWitness R E (suc b) h r = IsFirstWitness R (h ++ sent E r.values) (suc b
 
 -- The rounds that an honest prover sends where there is no difficulty: played from h on, after the challenges rs
 -- and with n variables left, each sends what `honest` gives for the challenges before it and the number of
--- variables behind it.
+-- variables after it.
 abbrev pub built_rounds : (List ℕ → ℕ → List ℕ) → Rules → Extension → List Event → List ℕ → ℕ → List Round
 built_rounds honest R E h rs zero = []
 built_rounds honest R E h rs (suc n) =

@@ -77,7 +77,7 @@ sent-coefficients number o field low claim (v ∷ vs) xs some few size same =
 
 -- ---- the loops
 
--- a value more is put behind others
+-- a value more is put after others
 pub pushed : {X : Type 0} (number : X → ℕ) (old new : List X) (x : X) (v : ℕ) (rest whole : List ℕ) → new ≡ old ++ x ∷ [] → number x ≡ v →
     map number old ++ v ∷ rest ≡ whole → map number new ++ rest ≡ whole
 pushed number old new x v rest whole more is before =

@@ -16,9 +16,9 @@ use Rattle.sc_degree.specs.declared.error.GenericDegreeError.{GenericDegreeError
 use Rattle.sc_degree.specs.declared.error.GenericDegreeError.TheVariants.{NoWitness, NoMemory}
 use Rattle.sc_degree.specs.declared.played.Played.{Played}
 use Rattle.sc_degree.specs.declared.proof.GenericDegreeProof.{GenericDegreeProof}
-use Rattle.sc_degree.specs.Provers.{Prover, IsFolded, honest_in, Play, begun, behind, PlaysRounds, IsPlayed, LeavesPlay}
+use Rattle.sc_degree.specs.Provers.{Prover, IsFolded, sent_after, Play, begun, history_after, PlaysRounds, EndsPlay, LeavesPlay}
 use Rattle.sc_degree.specs.Causes.{generic_cause}
-use Rattle.sc_degree.specs.Plays.{Standing, playing, IsFreshStanding, next_values, PlaysOne, HasPlayed, StopsAfter}
+use Rattle.sc_degree.specs.Plays.{Progress, playing, HasNoRound, next_values, PlaysOne, Progresses, StopsAfter}
 
 -- ---- challenges that are folded in
 
@@ -37,7 +37,7 @@ folded-more rs r p s t many one = record {
 
 -- ---- rounds
 
-pub played-none : (o : Ops) (c : Channel) (s : Standing) → IsFreshStanding s → HasPlayed o c s s
+pub played-none : (o : Ops) (c : Channel) (s : Progress) → HasNoRound s → Progresses o c s s
 played-none o c s fresh = record {
   rounds = [];
   built = tt;
@@ -48,19 +48,19 @@ played-none o c s fresh = record {
   claimed = refl;
 }
 
-module _ (o : Ops) (c : Channel) (start s : Standing) (so_far : HasPlayed o c start s) where
+module _ (o : Ops) (c : Channel) (start s : Progress) (so_far : Progresses o c start s) where
   -- as many challenges as rounds
   pub drawn-length : length s.drawn ≡ length so_far.rounds
   drawn-length = ap length so_far.are_drawn ∙ length-challenges c.rules c.extension c.bits start.history so_far.rounds
 
-  -- what is sent next is what is sent behind these challenges
+  -- what is sent next is what is sent after these challenges
   pub next-is : 0 < s.prover.variables → next_values o s.prover ≡ node_values o start.prover.degree (start.prover.polynomial s.drawn)
   next-is some =
       ap (λ d. node_values o d (s.prover.polynomial [])) so_far.folded.degree
       ∙ ap (node_values o start.prover.degree) (so_far.folded.polynomial [] some ∙ ap start.prover.polynomial (append-nil s.drawn))
 
   -- one round more
-  pub played-more : (t : Standing) → PlaysOne o c s t → HasPlayed o c start t
+  pub played-more : (t : Progress) → PlaysOne o c s t → Progresses o c start t
   played-more t one =
       let R = c.rules in
       let E = c.extension in
@@ -72,7 +72,7 @@ module _ (o : Ops) (c : Channel) (start s : Standing) (so_far : HasPlayed o c st
       let some : 0 < s.prover.variables = omega (arith, one.folded.variables) in
       let witnessed : HasFirstWitness R E bits (h ++ before) last = subst (λ x. HasFirstWitness R E bits x last) so_far.history one.sent.witness in
       let left : p.variables ≡ length so_far.rounds + suc t.prover.variables = omega (arith, drawn-length, so_far.folded.variables, one.folded.variables) in
-      let values : last.values ≡ honest_in o p ([] ++ challenges R E bits h so_far.rounds) t.prover.variables =
+      let values : last.values ≡ sent_after o p ([] ++ challenges R E bits h so_far.rounds) t.prover.variables =
       one.values ∙ next-is some ∙ ap (λ rs. node_values o p.degree (p.polynomial rs)) so_far.are_drawn in
       let all_drawn : t.drawn ≡ challenges R E bits h (so_far.rounds ++ last ∷ []) =
       one.drawn ∙ ap (λ rs. rs ++ one.r ∷ []) so_far.are_drawn
@@ -82,7 +82,7 @@ module _ (o : Ops) (c : Channel) (start s : Standing) (so_far : HasPlayed o c st
       flat_map-append (round_events E bits) so_far.rounds (last ∷ []) ∙ ap (λ x. before ++ x) (append-nil (round_events E bits last)) in
       record {
         rounds = so_far.rounds ++ last ∷ [];
-        built = IsBuilt-append (honest_in o p) c h [] p.variables so_far.rounds last t.prover.variables so_far.built left values witnessed;
+        built = IsBuilt-append (sent_after o p) c h [] p.variables so_far.rounds last t.prover.variables so_far.built left values witnessed;
         are_drawn = all_drawn;
         folded = subst (λ rs. IsFolded rs p t.prover) (sym one.drawn) (folded-more s.drawn one.r p s.prover t.prover so_far.folded one.folded);
         history = one.sent.history ∙ ap (λ x. x ++ round_events E bits last) so_far.history ∙ append_assoc h before (round_events E bits last)
@@ -92,7 +92,7 @@ module _ (o : Ops) (c : Channel) (start s : Standing) (so_far : HasPlayed o c st
       }
 
 -- the same over a channel by another name
-pub more_at : {o : Ops} {c c₁ : Channel} {start s t : Standing} → c₁ ≡ c → HasPlayed o c start s → PlaysOne o c₁ s t → HasPlayed o c start t
+pub more_at : {o : Ops} {c c₁ : Channel} {start s t : Progress} → c₁ ≡ c → Progresses o c start s → PlaysOne o c₁ s t → Progresses o c start t
 more_at {o} {c} {start} {s} {t} same so_far one = played-more o c start s so_far t (subst (λ ch. PlaysOne o ch s t) same one)
 
 -- ---- what a loop over the rounds needs
@@ -110,8 +110,8 @@ pub some_left : {played total left : ℕ} → played < total → total ≤ left 
 some_left low enough = omega arith
 
 -- the next round is refused
-pub stops_after : {F EF K : Type 0} (base : F → ℕ) (number : EF → ℕ) (o : Ops) {c c₁ : Channel} {total : ℕ} {start after : Standing} (d : Driver K) (p : Prover) (played : Played F EF) (e : GenericDegreeError) →
-    c₁ ≡ c → ((w : F) → base w < c.base_size) → HasPlayed o c start (playing base number d p played) → length (map number played.challenges.items) ≡ d.played → d.played < total →
+pub stops_after : {F EF K : Type 0} (base : F → ℕ) (number : EF → ℕ) (o : Ops) {c c₁ : Channel} {total : ℕ} {start after : Progress} (d : Driver K) (p : Prover) (played : Played F EF) (e : GenericDegreeError) →
+    c₁ ≡ c → ((w : F) → base w < c.base_size) → Progresses o c start (playing base number d p played) → length (map number played.challenges.items) ≡ d.played → d.played < total →
     (after.prover ≡ p) × IsRefused c₁ d.played d.history (next_values o p) after.history (generic_cause c₁.bits e) → StopsAfter o c total start after e
 stops_after base number o {c} {c₁} {total} {after} d p played e same low so_far count few left = record {
   last = playing base number d p played;
@@ -125,31 +125,31 @@ stops_after base number o {c} {c₁} {total} {after} d p played e same low so_fa
 
 -- ---- by the result
 
-module _ (q : Play) (start : Standing) (begins : start.history ≡ begun q) where
-  plays_rounds : (s : Standing) (after : Prover) (b : HasPlayed q.ops q.channel start s) → after ≡ s.prover → PlaysRounds q start.prover after b.rounds s.drawn
+module _ (q : Play) (start : Progress) (begins : start.history ≡ begun q) where
+  plays_rounds : (s : Progress) (after : Prover) (b : Progresses q.ops q.channel start s) → after ≡ s.prover → PlaysRounds q start.prover after b.rounds s.drawn
   plays_rounds s after b kept = record {
-    built = subst (λ h. IsBuilt (honest_in q.ops start.prover) q.channel h [] start.prover.variables b.rounds) begins b.built;
+    built = subst (λ h. IsBuilt (sent_after q.ops start.prover) q.channel h [] start.prover.variables b.rounds) begins b.built;
     drawn = b.are_drawn ∙ ap (λ h. challenges q.channel.rules q.channel.extension q.channel.bits h b.rounds) begins;
     folded = subst (IsFolded s.drawn start.prover) (sym kept) b.folded;
   }
 
-  ends_behind : (s : Standing) (b : HasPlayed q.ops q.channel start s) → s.history ≡ behind q b.rounds
-  ends_behind s b = b.history ∙ ap (λ h. h ++ rounds_events q.channel.extension q.channel.bits b.rounds) begins
+  ends_after : (s : Progress) (b : Progresses q.ops q.channel start s) → s.history ≡ history_after q b.rounds
+  ends_after s b = b.history ∙ ap (λ h. h ++ rounds_events q.channel.extension q.channel.bits b.rounds) begins
 
   -- in the channel by another name
-  pub all_played : {c : Channel} → c ≡ q.channel → (s : Standing) (rs : List ℕ) (h' : List Event) → HasPlayed q.ops c start s → length s.drawn ≡ q.shape.num_rounds →
-      rs ≡ s.drawn → h' ≡ s.history → IsPlayed q start.prover s.prover s.wire rs h'
+  pub all_played : {c : Channel} → c ≡ q.channel → (s : Progress) (rs : List ℕ) (h' : List Event) → Progresses q.ops c start s → length s.drawn ≡ q.shape.num_rounds →
+      rs ≡ s.drawn → h' ≡ s.history → EndsPlay q start.prover s.prover s.wire rs h'
   all_played same s rs h' so_far count is left =
-      let b = subst (λ ch. HasPlayed q.ops ch start s) same so_far in
+      let b = subst (λ ch. Progresses q.ops ch start s) same so_far in
       record {
         rounds = b.rounds;
         plays = subst (PlaysRounds q start.prover s.prover b.rounds) (sym is) (plays_rounds s s.prover b refl);
         count = sym (drawn-length q.ops q.channel start s b) ∙ count;
-        history = left ∙ ends_behind s b;
+        history = left ∙ ends_after s b;
         wire = b.wire;
       }
 
-  stopped : {F EF : Type 0} (base : F → ℕ) (number : EF → ℕ) (after : Standing) (h' : List Event) (e : GenericDegreeError) → q.shape.num_rounds ≤ start.prover.variables →
+  stopped : {F EF : Type 0} (base : F → ℕ) (number : EF → ℕ) (after : Progress) (h' : List Event) (e : GenericDegreeError) → q.shape.num_rounds ≤ start.prover.variables →
       StopsAfter q.ops q.channel q.shape.num_rounds start after e → h' ≡ after.history → LeavesPlay base number q start.prover after.prover (Err e) h'
   stopped base number after h' NoMemory enough b left =
       let last = b.last in
@@ -160,7 +160,7 @@ module _ (q : Play) (start : Standing) (begins : start.history ≡ begun q) wher
         rs = last.drawn;
         plays = plays_rounds last after.prover b.so_far b.kept;
         few = omega (arith, l, few);
-        history = left ∙ b.why ∙ ends_behind last b.so_far;
+        history = left ∙ b.why ∙ ends_after last b.so_far;
       })
   stopped base number after h' (NoWitness i) enough b left =
       let last = b.last in
@@ -168,8 +168,8 @@ module _ (q : Play) (start : Standing) (begins : start.history ≡ begun q) wher
       let l = drawn-length q.ops q.channel start last b.so_far in
       let few = b.few in
       let some : 0 < last.prover.variables = omega (arith, few, b.so_far.folded.variables, enough) in
-      let none = subst (λ h. NoWitnessFound q.channel h (next_values q.ops last.prover) after.history) (ends_behind last b.so_far) b.why.1 in
-      let none' = subst (λ v. NoWitnessFound q.channel (behind q b.so_far.rounds) v after.history) (next-is q.ops q.channel start last b.so_far some) none in
+      let none = subst (λ h. NoWitnessFound q.channel h (next_values q.ops last.prover) after.history) (ends_after last b.so_far) b.why.1 in
+      let none' = subst (λ v. NoWitnessFound q.channel (history_after q b.so_far.rounds) v after.history) (next-is q.ops q.channel start last b.so_far some) none in
       record {
         rounds = b.so_far.rounds;
         rs = last.drawn;
@@ -177,11 +177,11 @@ module _ (q : Play) (start : Standing) (begins : start.history ≡ begun q) wher
         count = sym l ∙ sym b.why.0;
         low = subst (λ (w : Wire). All (λ x. x < q.channel.base_size) w.witnesses) b.so_far.wire b.low;
         some = subst (λ k. k < q.shape.num_rounds) (sym b.why.0) few;
-        none = subst (NoWitnessFound q.channel (behind q b.so_far.rounds) (node_values q.ops p.degree (p.polynomial last.drawn))) (sym left) none';
+        none = subst (NoWitnessFound q.channel (history_after q b.so_far.rounds) (node_values q.ops p.degree (p.polynomial last.drawn))) (sym left) none';
       }
   stopped base number after h' e enough b left = absurd b.why
 
-  pub stopped_at : {F EF : Type 0} (base : F → ℕ) (number : EF → ℕ) {c : Channel} {n : ℕ} → c ≡ q.channel → n ≡ q.shape.num_rounds → (after : Standing) (h' : List Event) (e : GenericDegreeError) →
+  pub stopped_at : {F EF : Type 0} (base : F → ℕ) (number : EF → ℕ) {c : Channel} {n : ℕ} → c ≡ q.channel → n ≡ q.shape.num_rounds → (after : Progress) (h' : List Event) (e : GenericDegreeError) →
       q.shape.num_rounds ≤ start.prover.variables → StopsAfter q.ops c n start after e → h' ≡ after.history → LeavesPlay base number q start.prover after.prover (Err e) h'
   stopped_at base number {c} {n} same size after h' e enough b left =
       stopped base number after h' e enough (subst (λ k. StopsAfter q.ops q.channel k start after e) size (subst (λ ch. StopsAfter q.ops ch n start after e) same b)) left

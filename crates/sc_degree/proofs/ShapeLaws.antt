@@ -9,7 +9,7 @@ use Rattle.sc_transcript.proofs.SeedLaws.{nibbles-same, eight-same, bits-same, c
 use Rattle.sc_degree.specs.declared.transcript.GenericDegreeShape.{GenericDegreeShape}
 use Rattle.sc_degree.specs.Shapes.{generic_seed}
 
--- the bytes of rounds, and of the empty label behind them
+-- the bytes of rounds, and of the empty label after them
 abbrev rounds_bytes : ℕ → ℕ → ℕ → ℕ → List ℕ
 rounds_bytes parts degree bits n = flat_map step_bytes (rounds_steps parts degree bits n) ++ length_prefixed []
 
@@ -20,7 +20,7 @@ unfolding degree_seed seed_words separator_bytes step_bytes length_bytes length_
 rounds-same parts degree degree' bits bits' n n' e =
     ap (drop 80) (nibbles-same (separator_bytes (degree_separator parts degree bits n)) (separator_bytes (degree_separator parts degree' bits' n')) e)
 
--- the bytes of rounds tell their degree, which stands behind 10 bytes
+-- the bytes of rounds tell their degree, which stands after 10 bytes
 degree-same : (parts degree degree' bits bits' n n' : ℕ) → degree < 2 ^ 64 → degree' < 2 ^ 64 →
     rounds_bytes parts degree bits (suc n) ≡ rounds_bytes parts degree' bits' (suc n') → degree ≡ degree'
 unfolding step_bytes length_bytes eight_bytes

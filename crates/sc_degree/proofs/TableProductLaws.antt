@@ -28,7 +28,7 @@ both-halves (suc m) size some is = omega (arith, is, two_halves m)
 module _ (o : Ops) (ring : IsRing o) where
   -- ---- the sums of lines
 
-  -- a value behind one more coordinate
+  -- a value after one more coordinate
   value-line_at : (f : ℕ → ℕ) (x m b : ℕ) → b < 2 ^ m → value o f (x ∷ digits m b) ≡ line_at o (f b) (f (2 ^ m + b)) x
   unfolding bound line_at
   value-line_at f x m b low =

@@ -171,7 +171,7 @@ module _ (o : Ops) (field : IsField o) (fs gs : List (ℕ → ℕ)) (n m : ℕ) 
       ∙ ap (λ d. first_turn (product_course o fs) i claim d before (drop i (map number rs))) (drop-next sends ms i y in_messages y_is)
       ∙ ap (λ d. first_turn (product_course o fs) i claim (sends y ∷ late) before d) (drop-next number rs i x in_challenges x_is)
 
-  -- the tables as they are now send what the first ones send behind these challenges
+  -- the tables as they are now send what the first ones send after these challenges
   sent-here : honest ≡ honest_values o fs before m
   unfolding honest_values
   sent-here =
@@ -183,7 +183,7 @@ module _ (o : Ops) (field : IsField o) (fs gs : List (ℕ → ℕ)) (n m : ℕ) 
       (ap (product_round o gs []) now ∙ found.folded.polynomial [] (omega arith)
       ∙ ap (λ t. product_round o fs t (n - suc (length t))) (append-nil before) ∙ ap (product_round o fs before) one_less)
 
-  -- the true claim behind the round
+  -- the true claim after the round
   after : next_truth ≡ product_claim o fs (before ++ number x ∷ []) m
   after =
       truth_is

@@ -12,11 +12,11 @@ use Rattle.sc_degree.specs.declared.played.Played.{Played}
 use Rattle.sc_transcript.specs.Drivers.{Driver, IsRefused}
 use Rattle.sc_degree.specs.Causes.{generic_cause}
 use Rattle.sc_degree.specs.Proofs.{proof_wire}
-use Rattle.sc_degree.specs.Provers.{Prover, IsFolded, honest_in}
+use Rattle.sc_degree.specs.Provers.{Prover, IsFolded, sent_after}
 
 -- Where a play stands: what plays, how many rounds were played, the history, what is on the wire, the claimed sum that is kept with it, and the challenges so
 -- far.
-pub record Standing : Type 0 where
+pub record Progress : Type 0 where
   pub prover : Prover
   pub played : ℕ
   pub history : List Event
@@ -25,7 +25,7 @@ pub record Standing : Type 0 where
   pub drawn : List ℕ
 
 -- where one stands that has this driver, with what it has played
-abbrev pub playing : {F EF K : Type 0} → (F → ℕ) → (EF → ℕ) → Driver K → Prover → Played F EF → Standing
+abbrev pub playing : {F EF K : Type 0} → (F → ℕ) → (EF → ℕ) → Driver K → Prover → Played F EF → Progress
 playing base number d prover played = record {
   prover = prover;
   played = d.played;
@@ -36,7 +36,7 @@ playing base number d prover played = record {
 }
 
 -- no round was played
-pub record IsFreshStanding (s : Standing) : Type 0 where
+pub record HasNoRound (s : Progress) : Type 0 where
   pub played : s.played ≡ 0
   pub wire : s.wire ≡ empty_wire
   pub drawn : s.drawn ≡ []
@@ -63,7 +63,7 @@ abbrev pub next_values : Ops → Prover → List ℕ
 next_values o p = node_values o p.degree (p.polynomial [])
 
 -- One round more was played, with what the prover sends, and put on the wire; its challenge is folded in.
-pub record PlaysOne (o : Ops) (c : Channel) (before after : Standing) : Type 0 where
+pub record PlaysOne (o : Ops) (c : Channel) (before after : Progress) : Type 0 where
   pub round : Round
   pub r : ℕ
   pub values : round.values ≡ next_values o before.prover
@@ -75,15 +75,15 @@ pub record PlaysOne (o : Ops) (c : Channel) (before after : Standing) : Type 0 w
   pub drawn : after.drawn ≡ before.drawn ++ r ∷ []
 
 -- what the next round leaves, by its result; a refused one leaves the prover as it was
-abbrev pub LeavesRound : {X : Type 0} → Ops → Channel → Standing → Standing → Result X GenericDegreeError → Type 0
+abbrev pub LeavesRound : {X : Type 0} → Ops → Channel → Progress → Progress → Result X GenericDegreeError → Type 0
 LeavesRound o c before after (Ok x) = PlaysOne o c before after
 LeavesRound o c before after (Err e) =
     (after.prover ≡ before.prover) × IsRefused c before.played before.history (next_values o before.prover) after.history (generic_cause c.bits e)
 
 -- Rounds were played of a prover that nothing was folded into.
-pub record HasPlayed (o : Ops) (c : Channel) (start now : Standing) : Type 0 where
+pub record Progresses (o : Ops) (c : Channel) (start now : Progress) : Type 0 where
   pub rounds : List Round
-  pub built : IsBuilt (honest_in o start.prover) c start.history [] start.prover.variables rounds
+  pub built : IsBuilt (sent_after o start.prover) c start.history [] start.prover.variables rounds
   pub are_drawn : now.drawn ≡ challenges c.rules c.extension c.bits start.history rounds
   pub folded : IsFolded now.drawn start.prover now.prover
   pub history : now.history ≡ start.history ++ rounds_events c.extension c.bits rounds
@@ -91,15 +91,15 @@ pub record HasPlayed (o : Ops) (c : Channel) (start now : Standing) : Type 0 whe
   pub claimed : now.claimed ≡ start.claimed
 
 -- Some were, fewer than `total`, with witnesses that are numbers of elements, and the next one is refused.
-pub record StopsAfter (o : Ops) (c : Channel) (total : ℕ) (start after : Standing) (e : GenericDegreeError) : Type 0 where
-  pub last : Standing
-  pub so_far : HasPlayed o c start last
+pub record StopsAfter (o : Ops) (c : Channel) (total : ℕ) (start after : Progress) (e : GenericDegreeError) : Type 0 where
+  pub last : Progress
+  pub so_far : Progresses o c start last
   pub few : length last.drawn < total
   pub low : All (λ w. w < c.base_size) last.wire.witnesses
   pub kept : after.prover ≡ last.prover
   pub why : IsRefused c (length last.drawn) last.history (next_values o last.prover) after.history (generic_cause c.bits e)
 
 -- what rounds leave, by the result: `total` of them were played, or the next one is refused
-abbrev pub LeavesRounds : {X : Type 0} → Ops → Channel → ℕ → Standing → Standing → Result X GenericDegreeError → Type 0
-LeavesRounds o c total start now (Ok x) = HasPlayed o c start now × (length now.drawn ≡ total)
-LeavesRounds o c total start now (Err e) = StopsAfter o c total start now e
+abbrev pub LeavesProgress : {X : Type 0} → Ops → Channel → ℕ → Progress → Progress → Result X GenericDegreeError → Type 0
+LeavesProgress o c total start now (Ok x) = Progresses o c start now × (length now.drawn ≡ total)
+LeavesProgress o c total start now (Err e) = StopsAfter o c total start now e

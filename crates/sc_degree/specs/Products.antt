@@ -20,5 +20,5 @@ abbrev pub tables_of : {A : Type 0} → (A → ℕ) → TableProduct A → List 
 tables_of number p = map (table_of number) p.tables.items
 
 -- how many variables each of the tables has
-abbrev pub arity_of : {A : Type 0} → TableProduct A → ℕ
-arity_of p = p.variables
+abbrev pub product_arity : {A : Type 0} → TableProduct A → ℕ
+product_arity p = p.variables

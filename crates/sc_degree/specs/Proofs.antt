@@ -19,7 +19,7 @@ proof_wire base number p = record {
   witnesses = map base p.pow_witnesses.items;
 }
 
--- the replay, in a shape, of a claimed sum and of what came on a wire, over a ring and a channel, from a history on: it begins behind the seed and the
+-- the replay, in a shape, of a claimed sum and of what came on a wire, over a ring and a channel, from a history on: it begins after the seed and the
 -- claimed sum, and each round leaves the value of its polynomial at the challenge
 abbrev pub generic_replay : Ops → Channel → GenericDegreeShape → ℕ → Wire → List Event → Replay
 generic_replay o c shape claimed came h =

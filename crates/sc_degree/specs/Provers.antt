@@ -27,9 +27,9 @@ pub record IsFolded (rs : List ℕ) (before after : Prover) : Type 0 where
   pub polynomial : (qs : List ℕ) → length qs < after.variables → after.polynomial qs ≡ before.polynomial (rs ++ qs)
   pub claim : (qs : List ℕ) → length qs ≤ after.variables → after.claim qs ≡ before.claim (rs ++ qs)
 
--- what it sends after the challenges rs, with m variables behind the round's: the values of its polynomial at the nodes of its degree
-abbrev pub honest_in : Ops → Prover → List ℕ → ℕ → List ℕ
-honest_in o p rs m = node_values o p.degree (p.polynomial rs)
+-- what it sends after the challenges rs, with m variables after the round's: the values of its polynomial at the nodes of its degree
+abbrev pub sent_after : Ops → Prover → List ℕ → ℕ → List ℕ
+sent_after o p rs m = node_values o p.degree (p.polynomial rs)
 
 -- A play that is asked for: the ring, the channel, the shape, the claimed sum, and the history before it.
 pub record Play : Type 0 where
@@ -43,35 +43,35 @@ pub record Play : Type 0 where
 abbrev pub play_of : Ops → Channel → GenericDegreeShape → ℕ → List Event → Play
 play_of o c shape claimed h = record { ops = o; channel = c; shape = shape; claimed = claimed; history = h }
 
--- the history before its first round: behind the seed and the claimed sum
+-- the history before its first round: after the seed and the claimed sum
 abbrev pub begun : Play → List Event
 begun q = q.history ++ prelude_of q.channel.extension q.shape q.claimed
 
 -- Some rounds were built of a prover, which these challenges were then folded in: each sends its values at the nodes, with the first witness that passes.
 pub record PlaysRounds (q : Play) (before after : Prover) (rounds : List Round) (rs : List ℕ) : Type 0 where
-  pub built : IsBuilt (honest_in q.ops before) q.channel (begun q) [] before.variables rounds
+  pub built : IsBuilt (sent_after q.ops before) q.channel (begun q) [] before.variables rounds
   pub drawn : rs ≡ challenges q.channel.rules q.channel.extension q.channel.bits (begun q) rounds
   pub folded : IsFolded rs before after
 
--- the history behind rounds of the play
-abbrev pub behind : Play → List Round → List Event
-behind q rounds = begun q ++ rounds_events q.channel.extension q.channel.bits rounds
+-- the history after rounds of the play
+abbrev pub history_after : Play → List Round → List Event
+history_after q rounds = begun q ++ rounds_events q.channel.extension q.channel.bits rounds
 
 -- All rounds were played, and put on the wire.
-pub record IsPlayed (q : Play) (before after : Prover) (came : Wire) (rs : List ℕ) (h' : List Event) : Type 0 where
+pub record EndsPlay (q : Play) (before after : Prover) (came : Wire) (rs : List ℕ) (h' : List Event) : Type 0 where
   pub rounds : List Round
   pub plays : PlaysRounds q before after rounds rs
   pub count : length rounds ≡ q.shape.num_rounds
-  pub history : h' ≡ behind q rounds
+  pub history : h' ≡ history_after q rounds
   pub wire : came ≡ with_rounds q.channel.bits empty_wire rounds
 
 -- Some were, from the first on, and nothing of another one.
-pub record IsPlayedInPart (q : Play) (before after : Prover) (h' : List Event) : Type 0 where
+pub record BreaksPlay (q : Play) (before after : Prover) (h' : List Event) : Type 0 where
   pub rounds : List Round
   pub rs : List ℕ
   pub plays : PlaysRounds q before after rounds rs
   pub few : length rounds ≤ q.shape.num_rounds
-  pub history : h' ≡ behind q rounds
+  pub history : h' ≡ history_after q rounds
 
 -- The rounds before round i were, with witnesses that are numbers of elements, and no witness was found for what that one sends.
 pub record StopsAt (q : Play) (before after : Prover) (i : ℕ) (h' : List Event) : Type 0 where
@@ -81,12 +81,12 @@ pub record StopsAt (q : Play) (before after : Prover) (i : ℕ) (h' : List Event
   pub count : length rounds ≡ i
   pub low : All (λ w. w < q.channel.base_size) (witnesses_of q.channel.bits rounds)
   pub some : i < q.shape.num_rounds
-  pub none : NoWitnessFound q.channel (behind q rounds) (node_values q.ops before.degree (before.polynomial rs)) h'
+  pub none : NoWitnessFound q.channel (history_after q rounds) (node_values q.ops before.degree (before.polynomial rs)) h'
 
 -- What a play leaves of the prover and of the history, by its result: the proof, of the claimed sum, and the challenges; or why there is none.
 abbrev pub LeavesPlay : {F EF : Type 0} → (F → ℕ) → (EF → ℕ) → Play → Prover → Prover → Result (GenericDegreeProof F EF × List EF) GenericDegreeError → List Event → Type 0
 LeavesPlay base number q before after (Ok x) h' =
-    (number x.0.claimed_sum ≡ q.claimed) × IsPlayed q before after (proof_wire base number x.0) (map number x.1) h'
+    (number x.0.claimed_sum ≡ q.claimed) × EndsPlay q before after (proof_wire base number x.0) (map number x.1) h'
 LeavesPlay base number q before after (Err (NoWitness i)) h' = StopsAt q before after i h'
-LeavesPlay base number q before after (Err NoMemory) h' = ((after ≡ before) × (h' ≡ q.history)) ⊎ IsPlayedInPart q before after h'
+LeavesPlay base number q before after (Err NoMemory) h' = ((after ≡ before) × (h' ≡ q.history)) ⊎ BreaksPlay q before after h'
 LeavesPlay base number q before after (Err e) h' = ⊥

@@ -4,5 +4,5 @@ use Rattle.sc_definitions.specs.Lucky.{Turn}
 use Rattle.sc_degree.specs.declared.turns.FoundTurn.{FoundTurn}
 
 -- a turn that was found, by the numbers of its coefficients
-abbrev pub turn_in : {EF : Type 0} → (EF → ℕ) → FoundTurn EF → Turn
-turn_in number t = record { round = t.round; polynomial = map number t.polynomial }
+abbrev pub product_turn : {EF : Type 0} → (EF → ℕ) → FoundTurn EF → Turn
+product_turn number t = record { round = t.round; polynomial = map number t.polynomial }

@@ -46,7 +46,7 @@ impl<F: Field, EF: ExtensionField<F>> Played<F, EF> {
         Ok(Played { proof, challenges })
     }
 
-    // Puts a round of a batch behind the others: its values, its witness, and its challenge.
+    // Puts a round of a batch after the others: its values, its witness, and its challenge.
     pub(crate) fn push(
         &mut self,
         shape: GenericDegreeShape,

@@ -49,9 +49,9 @@ impl<F: Field, EF: ExtensionField<F>> GenericDegreeProof<F, EF> {
     /// witness a round at a positive difficulty and none without one; they come before any event,
     /// and leave the history as it was. `PolyEvalCountMismatch` names the first round that sends
     /// more or fewer values than the degree, unless the witness of a round before it fails: the
-    /// history ends behind the rounds before it. `InvalidPowWitness` names the first round whose
+    /// history ends after the rounds before it. `InvalidPowWitness` names the first round whose
     /// witness fails: the history ends with its test. After `NoMemory` the history is as it was, or
-    /// ends behind the seed, the claimed sum and some of the rounds.
+    /// ends after the seed, the claimed sum and some of the rounds.
     pub fn verify<C: Challenger<F>>(
         &self,
         alloc: Global,

@@ -6,7 +6,7 @@ ghost use Rattle.sc_transcript.specs.Drivers.{channel_of, Continues, HasRoundLef
 ghost use Rattle.sc_transcript.specs.Transcripts.{driver_in};
 ghost use Rattle.sc_degree.specs.Shapes.{generic_shape};
 ghost use Rattle.sc_degree.specs.Provers.{Prover, IsFolded, play_of, LeavesPlay};
-ghost use Rattle.sc_degree.specs.Plays.{IsReady, IsFreshStanding, playing, LeavesRound, LeavesRounds};
+ghost use Rattle.sc_degree.specs.Plays.{IsReady, HasNoRound, playing, LeavesRound, LeavesProgress};
 
 use crate::error::GenericDegreeError;
 use crate::played::Played;
@@ -21,7 +21,7 @@ use std::alloc::Global;
 /// What plays rounds of any degree: a polynomial of several variables, each of at most that degree,
 /// whose sum over all rows is claimed. Each round binds the first variable that is left.
 pub trait RoundProver<EF: Field> {
-    // The degree, how many variables are left, and the polynomial of the round behind each list of
+    // The degree, how many variables are left, and the polynomial of the round after each list of
     // challenges.
     ghost meaning: { Self → Prover };
 
@@ -56,7 +56,7 @@ pub trait RoundProver<EF: Field> {
     /// `NoWitness` names the round in which the difficulty is positive and no element of the base
     /// field passes; the history then ends with that round's values, and the prover has folded in
     /// the challenges of the rounds before it. After `NoMemory` history and prover are as they
-    /// were, or are those behind the seed, the claimed sum and some of the rounds.
+    /// were, or are those after the seed, the claimed sum and some of the rounds.
     final fn prove<F: Field, C: Challenger<F>>(
         &mut self,
         alloc: Global,
@@ -126,10 +126,10 @@ fn play<F: Field, EF: ExtensionField<F>, C: Challenger<F>, P: RoundProver<EF>>(
     played: &mut Played<F, EF>,
 ) -> Result<(), GenericDegreeError>
     requires ready { IsReady EF.ops.size (driver_in transcript.old) (P.meaning prover.old) played.old }
-    requires fresh { IsFreshStanding (playing F.number EF.number (driver_in transcript.old) (P.meaning prover.old) played.old) }
+    requires fresh { HasNoRound (playing F.number EF.number (driver_in transcript.old) (P.meaning prover.old) played.old) }
     ensures continues { Continues (driver_in transcript.old) (driver_in transcript.new) }
     ensures all { OnOk result (IsDone (driver_in transcript.new)) }
-    ensures rounds { LeavesRounds EF.ops (channel_of EF.extension (driver_in transcript.old))
+    ensures rounds { LeavesProgress EF.ops (channel_of EF.extension (driver_in transcript.old))
         (driver_in transcript.old).shape.num_rounds
         (playing F.number EF.number (driver_in transcript.old) (P.meaning prover.old) played.old)
         (playing F.number EF.number (driver_in transcript.new) (P.meaning prover.new) played.new)

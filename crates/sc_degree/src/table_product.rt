@@ -35,14 +35,14 @@ pub struct TableProduct<A> {
 }
 
 impl<EF: Field> TableProduct<EF> {
-    ghost use Rattle.sc_degree.specs.Products.{tables_of, arity_of};
+    ghost use Rattle.sc_degree.specs.Products.{tables_of, product_arity};
 
     /// The product of these tables, one or more, of as many variables each.
     pub fn new(tables: Vec<Poly<EF>>) -> Self
         requires some { 0 < vec_len tables }
         requires same { HaveArity (first_arity tables.items) tables.items }
         ensures tables { tables_of EF.number result ≡ map (table_of EF.number) tables.items }
-        ensures arity { arity_of result ≡ first_arity tables.items }
+        ensures arity { product_arity result ≡ first_arity tables.items }
     {
         let variables = tables[0].num_variables();
         TableProduct { tables, variables }
@@ -51,7 +51,7 @@ impl<EF: Field> TableProduct<EF> {
     /// The sum over all rows of the product of the tables.
     pub fn sum(&self) -> EF
         ensures { EF.number result ≡ product_claim EF.ops (tables_of EF.number self.now) []
-            (arity_of self.now) }
+            (product_arity self.now) }
     {
         EF::blocks_fit();
         let mut products = [EF::ZERO; BLOCK];
@@ -79,9 +79,9 @@ impl<EF: Field> TableProduct<EF> {
 }
 
 impl<EF: Field> RoundProver<EF> for TableProduct<EF> {
-    ghost use Rattle.sc_degree.specs.Products.{prover_of, tables_of, arity_of};
+    ghost use Rattle.sc_degree.specs.Products.{prover_of, tables_of, product_arity};
 
-    ghost meaning = { λ p. prover_of EF.ops (tables_of EF.number p) (arity_of p) };
+    ghost meaning = { λ p. prover_of EF.ops (tables_of EF.number p) (product_arity p) };
 
     fn degree(&self) -> usize {
         self.tables.len()

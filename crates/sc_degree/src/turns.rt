@@ -5,9 +5,9 @@ ghost use Rattle.sc_definitions.specs.Lucky.{first_turn, product_course};
 ghost use Rattle.sc_definitions.specs.Polynomials.{poly_minus};
 ghost use Rattle.sc_definitions.specs.Products.{product_claim, values_product};
 ghost use Rattle.sc_degree.specs.Interpolators.{degree_of};
-ghost use Rattle.sc_degree.specs.Products.{arity_of, prover_of, tables_of};
+ghost use Rattle.sc_degree.specs.Products.{product_arity, prover_of, tables_of};
 ghost use Rattle.sc_degree.specs.Provers.{IsFolded};
-ghost use Rattle.sc_degree.specs.Turns.{turn_in};
+ghost use Rattle.sc_degree.specs.Turns.{product_turn};
 
 use crate::coefficients::difference;
 use crate::prover::RoundProver;
@@ -26,7 +26,7 @@ pub struct FoundTurn<EF> {
 }
 
 /// Of rounds that were played on a product of tables, as many as these have variables, under a
-/// claim: the first one behind which the claim is the true one, if there is one. The tables are
+/// claim: the first one after which the claim is the true one, if there is one. The tables are
 /// bound at all challenges in their places.
 ///
 /// Each round sends as many values as there are tables, and the nodes up to that number are
@@ -38,16 +38,16 @@ pub fn find_turn<EF: Field>(
     messages: &[Vec<EF>],
     challenges: &[EF],
 ) -> Result<Option<FoundTurn<EF>>, NoMemory>
-    requires messages { length messages.now ≡ arity_of product.old }
-    requires challenges { length challenges.now ≡ arity_of product.old }
+    requires messages { length messages.now ≡ product_arity product.old }
+    requires challenges { length challenges.now ≡ product_arity product.old }
     requires widths { All (λ m. length m.items ≡ length (tables_of EF.number product.old))
         messages.now }
     requires few { length (tables_of EF.number product.old) < EF.ops.size }
-    ensures found { IfOk result (λ found. option_map (turn_in EF.number) found
+    ensures found { IfOk result (λ found. option_map (product_turn EF.number) found
         ≡ first_turn (product_course EF.ops (tables_of EF.number product.old)) 0
         (EF.number claim) (map (λ m. map EF.number m.items) messages.now) []
         (map EF.number challenges.now)) }
-    ensures arity { OnOk result (arity_of product.new ≡ 0) }
+    ensures arity { OnOk result (product_arity product.new ≡ 0) }
     ensures bound { OnOk result (product_claim EF.ops (tables_of EF.number product.new) [] 0
         ≡ values_product EF.ops (tables_of EF.number product.old)
         (map EF.number challenges.now)) }
@@ -78,10 +78,10 @@ pub fn find_turn<EF: Field>(
 
 // Binds the first variables of the tables at these challenges, of which there are at most as many.
 fn fold_all<EF: Field>(product: &mut TableProduct<EF>, challenges: &[EF])
-    requires { length challenges.now ≤ arity_of product.old }
+    requires { length challenges.now ≤ product_arity product.old }
     ensures { IsFolded (map EF.number challenges.now)
-        (prover_of EF.ops (tables_of EF.number product.old) (arity_of product.old))
-        (prover_of EF.ops (tables_of EF.number product.new) (arity_of product.new)) }
+        (prover_of EF.ops (tables_of EF.number product.old) (product_arity product.old))
+        (prover_of EF.ops (tables_of EF.number product.new) (product_arity product.new)) }
 {
     for r in challenges {
         product.fold(*r);

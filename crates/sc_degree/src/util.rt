@@ -103,7 +103,7 @@ impl<EF: Field> RoundPolyInterpolator<EF> {
     }
 
     /// A round's values with further ones up to a length: those of the polynomial that they send
-    /// under a sum constraint, at the nodes behind the degree. `NoMemory` where there is no memory
+    /// under a sum constraint, at the nodes after the degree. `NoMemory` where there is no memory
     /// for them.
     pub fn extend_evals(
         &self,

@@ -5,7 +5,7 @@ use Rattle.sc_definitions.specs.Polynomials.{poly_at}
 use Rattle.sc_definitions.specs.Roots.{count_below, root_count}
 use Rattle.sc_definitions.proofs.RingLaws.{plus_comm, times_comm}
 
--- the value of the coefficients behind one place is told by the value of those behind the next
+-- the value of the coefficients after one place is told by the value of those after the next
 pub value-before : {X : Type 0} (o : Ops) (number : X → ℕ) (cs : List X) (k x : ℕ) (c : X) → k < length cs → c ≡ get_or cs k c →
     poly_at o (drop k (map number cs)) x ≡ plus o (number c) (times o x (poly_at o (drop (suc k) (map number cs)) x))
 unfolding poly_at
@@ -72,7 +72,7 @@ pub counted-all : (o : Ops) (cs : List ℕ) (n v : ℕ) → v ≡ count_below n 
 unfolding root_count
 counted-all o cs n v is all = is ∙ ap (λ k. count_below k (λ x. poly_at o cs x == 0)) all
 
--- the last element is reached behind the fours
+-- the last element is reached after the fours
 pub all-tried : (n size end i : ℕ) → n ≡ size → end ≡ size → end ≤ i → (4 * (n / 4) ≤ end → i ≤ end) → i ≡ size
 all-tried n size end i first second past short =
     let fours : 4 * (n / 4) ≤ end = omega (arith, first, second) in

@@ -53,6 +53,8 @@ impl Form for Below {
     }
 
     /// It takes no memory.
+    // Called for each entry of a table, where a call of its own takes a twentieth of all time.
+    #[inline(always)]
     fn take(&self, _alloc: Global, value: Value) -> Result<u64, Misread>
         ensures ok { IfOk result (λ n. below_form self.now.bound (view value) ≡ Some n) }
         ensures not_of_form { IsErrOf result Misread.NotOfForm

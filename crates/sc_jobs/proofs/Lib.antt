@@ -1,5 +1,6 @@
 pub mod AgreeingBuilds
 pub mod CauseLaws
+pub mod ResultLaws
 pub mod Certified
 pub mod CheckedReports
 pub mod ClaimLaws

@@ -1,5 +1,6 @@
 -- Problems and jobs whose statements claim their true values.
 use Rattle.std.proofs.Common.{◌≡◌, ℕ, suc, min, List, [], ◌∷◌, length, Option, None, Result, Ok, Err, refl, sym, ◌∙◌, ap}
+use Rattle.std.specs.Prelude.{vec_len}
 use Rattle.std.specs.declared.cmp.PartialEq.{Ghosts as PartialEqOf}
 use Rattle.sc_definitions.specs.declared.events.Event.{Event}
 use Rattle.sc_definitions.specs.Ring.{Ops}
@@ -17,16 +18,17 @@ use Rattle.sc_table.specs.declared.strategy.Strategy.TheVariants.{Plain, Represe
 use Rattle.sc_statements.specs.Constraints.{constraint_arity, constraint_challenge, constraint_power}
 use Rattle.sc_claims.specs.Claimed.{all_stated_truly}
 use Rattle.sc_claims.proofs.FalseSteps.{first_false-none}
-use Rattle.sc_svo.specs.Batches.{Batch}
+use Rattle.sc_svo.specs.Batches.{GridBatch}
 use Rattle.sc_svo.specs.Grids.{most_rounds}
+use Rattle.sc_verdicts.specs.Arities.{arity_of}
 use Rattle.sc_verdicts.specs.declared.error.AuditError.{AuditError}
 use Rattle.sc_verdicts.specs.declared.error.AuditError.TheVariants.{NoMemory}
 use Rattle.sc_jobs.specs.declared.job.Job.{Job}
 use Rattle.sc_jobs.specs.Cases.{problem_in, task_in, asked_of}
 use Rattle.sc_jobs.specs.Figures.{false_claim_of}
-use Rattle.sc_jobs.specs.Refusals.{or_later, shape_refusal, unfit, first_unfit, variables_refusal, strategy_refusal}
+use Rattle.sc_jobs.specs.Refusals.{or_later, shape_by, shape_refusal, unfit, first_unfit, variables_refusal, strategy_refusal}
 use Rattle.sc_jobs.specs.Taken.{IsBatchOf}
-use Rattle.sc_jobs.specs.Stated.{truly_stated, stated_unless, asked_truly, kinds_of, IsRestated, LeavesStated}
+use Rattle.sc_jobs.specs.Stated.{truly_stated, stated_unless, asked_truly, kinds_of, IsRestated, LeavesStated, shape_of}
 
 -- ---- statements
 
@@ -63,7 +65,7 @@ module _ (o : Ops) (p : Problem) where
   strategy-stated (SmallValue variables) = ap (or_later (variables_refusal (min p.variables most_rounds) variables)) (unfit-stated o p.variables p.table 0 p.statements)
 
   -- a batch of it is one of it still
-  pub batch-stated : (b : Batch) → IsBatchOf o p b → IsBatchOf o (truly_stated o p) b
+  pub batch-stated : (b : GridBatch) → IsBatchOf o p b → IsBatchOf o (truly_stated o p) b
   unfolding weights_of batched_weight
   batch-stated b is = record {
     order = is.order;
@@ -93,6 +95,14 @@ module _ {F EF : Type 0} {f : FieldOf F} {p : PartialEqOf F} {x : ExtensionOf EF
       channel = channel R x.extension f.ops.size (kept.difficulty i);
       history = h;
     }
+
+    -- the shape is refused as it was
+    pub restated-shape : (R : Rules) (h : List Event) (max_bits : ℕ) → IsRestated old now → vec_len old.table ≡ length old.table.items → max_bits ≡ R.max_bits →
+        shape_refusal (asked_of now R h) ≡ shape_of old max_bits
+    restated-shape R h max_bits kept rows most =
+        (λ i. shape_by (arity_of (length (kept.table i).items)) R.max_bits (length (kept.table i).items) (kept.difficulty i) (kept.arity i))
+        ∙ sym (ap (λ n. shape_by (arity_of n) R.max_bits n old.pow_bits (constraint_arity old.constraint)) rows)
+        ∙ sym (ap (λ m. shape_by (arity_of (vec_len old.table)) m (vec_len old.table) old.pow_bits (constraint_arity old.constraint)) most)
 
     -- the same of what an audit leaves
     pub asked-stated : {X : Type 0} (R : Rules) (h : List Event) (r : Result X AuditError) → IsRestated old now → shape_refusal (asked_of old R h) ≡ None → (r ≡ Err NoMemory → ⊥) →

@@ -118,7 +118,7 @@ pub record IsPassed {G : Type 0} (statements_of : G → List Statement) (groups 
   pub found : first_unfit 0 (flat_map statements_of groups) ≡ first_unfit (length (flat_map statements_of (take i groups))) (flat_map statements_of (drop i groups))
 
 module _ {G : Type 0} (statements_of : G → List Statement) (groups all : List G) (i : ℕ) where
-  -- those of the group at a place, and of the groups behind it
+  -- those of the group at a place, and of the groups after it
   split : (passed : ℕ) (x : G) (r : Option AuditError) → IsPassed statements_of groups i passed → i < length groups → x ≡ get_or groups i x → r ≡ first_unfit passed (statements_of x) →
       first_unfit 0 (flat_map statements_of groups)
       ≡ or_later r (first_unfit (length (flat_map statements_of (take i groups)) + length (statements_of x)) (flat_map statements_of (drop (i + 1) groups)))

@@ -37,7 +37,7 @@ pub record Case : Type 0 where
   pub problem : Problem
   pub task : Task
 
--- What is asked: a case, over the ring of its challenges, with rounds that go over a channel behind a history. The difficulty is the channel's.
+-- What is asked: a case, over the ring of its challenges, with rounds that go over a channel after a history. The difficulty is the channel's.
 pub record Asked : Type 0 where
   pub case : Case
   pub ops : Ops
@@ -48,7 +48,7 @@ pub record Asked : Type 0 where
 abbrev pub with_task : Asked → Task → Asked
 with_task q task = record q { case = record q.case { task = task } }
 
--- where the first round stands: behind the seed, which is empty for no rounds, and under the batched claim
+-- where the first round stands: after the seed, which is empty for no rounds, and under the batched claim
 abbrev pub start_of : Asked → Footing
 start_of q =
     footing (q.history ++ words (quadratic_seed q.channel.extension.degree q.case.problem.basis q.channel.bits q.case.problem.variables)) (claim_of q.ops q.case.problem)

@@ -4,6 +4,7 @@ pub mod Refusals
 pub mod Figures
 pub mod Certified
 pub mod Audits
+pub mod Results
 pub mod Checked
 pub mod Laws
 pub mod Fitting

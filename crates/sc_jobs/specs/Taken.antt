@@ -7,7 +7,7 @@ use Rattle.sc_definitions.specs.Combined.{Scaled, combined_weight, scaled_from}
 use Rattle.sc_definitions.specs.Problem.{Problem, weights_of}
 use Rattle.sc_statements.specs.FalseClaims.{capped}
 use Rattle.sc_svo.specs.Claims.{claims_in}
-use Rattle.sc_svo.specs.Batches.{Batch, IsTableOf}
+use Rattle.sc_svo.specs.Batches.{GridBatch, IsTableOf}
 use Rattle.sc_verdicts.specs.declared.error.AuditError.{AuditError}
 use Rattle.sc_verdicts.specs.declared.error.AuditError.TheVariants.{NoMemory}
 use Rattle.sc_jobs.specs.declared.claims.Claimed.{Claimed}
@@ -52,12 +52,12 @@ pub record Appends (o : Ops) (challenge p : ℕ) (ss : List Statement) (old now 
 abbrev pub AppendsBy : Ops → ℕ → ℕ → List Statement → Listed → Listed → Type 0
 AppendsBy o challenge first ss old now = (p : ℕ) → first ≡ power o challenge p → Appends o challenge p ss old now
 
--- the factor of a claim behind them
+-- the factor of a claim after them
 abbrev pub IsNextFactor : Ops → ℕ → ℕ → List Statement → ℕ → Type 0
 IsNextFactor o challenge first ss next = (p : ℕ) → first ≡ power o challenge p → next ≡ power o challenge (p + length ss)
 
 -- A batch is on a problem's table, of no more rounds than it has variables, and its claims' weights are the batched ones at each of its rows.
-pub record IsBatchOf (o : Ops) (p : Problem) (b : Batch) : Type 0 where
+pub record IsBatchOf (o : Ops) (p : Problem) (b : GridBatch) : Type 0 where
   pub order : b.order ≡ p.order
   pub variables : b.variables ≡ p.variables
   pub weights : (row : ℕ) → row < 2 ^ p.variables → combined_weight o b.claims row ≡ weights_of o p row

@@ -73,7 +73,7 @@ pub fn claims_of<F: Field, EF: ExtensionField<F>>(
 }
 
 // Appends the claims of a group, the first times `first`, and each next one times the challenge
-// once more. The answer is the factor of a claim behind the last.
+// once more. The answer is the factor of a claim after the last.
 fn push_group<F: Field, EF: ExtensionField<F>>(
     alloc: Global,
     claimed: &mut Claimed<EF>,

@@ -11,7 +11,7 @@ pub enum Verdict<EF> {
     /// The residual is not the product of the two values: the rounds are refused.
     Refuted,
     /// The residual is right, and a statement is false, but the batched claim is true. The polynomial is claimed less true value of each statement,
-    /// behind as many zeros as the initial power says, the constant first. It is not zero, but vanishes at the batching challenge; `vanishing` is the
+    /// after as many zeros as the initial power says, the constant first. It is not zero, but vanishes at the batching challenge; `vanishing` is the
     /// number of all elements at which it vanishes, which is less than that of its coefficients.
     LuckyBatch {
         poly: Row<EF>,

@@ -200,7 +200,7 @@ module _ {EF : Type 0} (o : Ops) (ring : IsRing o) (number : EF → ℕ) (f : �
         sum = read ∙ closed_by order p has ∙ next_partial-none o ring order f zs;
       }
 
-  -- the tables of one round more stand behind those that keep fewer variables
+  -- the tables of one round more stand after those that keep fewer variables
   pub next-leaves_more : (order : Order) (kept rest : List ℕ) (z : ℕ) (p : NextPartials EF) (old less new : List (NextPartials EF)) (x : EF) → LastOf order kept z rest →
       AreNextPartials order o number f zs kept p → NextLeaves o number (opened order f zs) (length rest) old less x → new ≡ less ++ p ∷ [] →
       NextLeaves o number (opened order f zs) (length kept) old new x
@@ -218,7 +218,7 @@ module _ {EF : Type 0} (o : Ops) (ring : IsRing o) (number : EF → ℕ) (f : �
         sum = before.sum;
       }
 
--- a value and the tables of rounds that stand behind none
+-- a value and the tables of rounds that stand after none
 pub next-sums_are : {EF : Type 0} (order : Order) (o : Ops) (number : EF → ℕ) (f : ℕ → ℕ) (zs : List ℕ) (l m : ℕ) (none rounds : List (NextPartials EF)) (x : EF) (r : EF × NextSvoPartials EF) →
     none ≡ [] → l ≡ m → NextLeaves o number (opened order f zs) l none rounds x → r.0 ≡ x → next_tables_in r.1 ≡ rounds → next_sums_in number r ≡ next_sums_of order o f zs m
 unfolding next_sums_of
@@ -255,7 +255,7 @@ half-count n rows some is =
     let whole : rows ≡ 2 ^ (n - 1) + 2 ^ (n - 1) = is ∙ ap (λ k. 2 ^ k) (sym more) ∙ two_halves (n - 1) in
     omega (arith, whole)
 
--- the table that was written one value behind the other
+-- the table that was written one value after the other
 pub pushed-has : {EF : Type 0} (number : EF → ℕ) (n : ℕ) (f : ℕ → ℕ) (count : ℕ) (xs : List EF) (p : Poly EF) → HasPushed number f count xs → count ≡ 2 ^ n →
     length xs ≡ 2 ^ variables_of p → table_of number p ≡ entries number xs → HasRows number n f p
 pushed-has number n f count xs p pushed many size table = record {

@@ -87,7 +87,7 @@ module _ {EF : Type 0} (o : Ops) (ring : IsRing o) (number : EF → ℕ) (f : �
         sum = read ∙ is.rows 0 (subst (λ n. 0 < 2 ^ n) (sym size) (omega arith)) ∙ ap (λ n. partial order o f zs n 0) size ∙ partial-none o ring order f zs;
       }
 
-  -- one table more stands behind those that keep fewer variables
+  -- one table more stands after those that keep fewer variables
   pub leaves-more : (order : Order) (kept rest : List ℕ) (z : ℕ) (p : EqPartials EF) (old less new : List (EqPartials EF)) (x : EF) → LastOf order kept z rest →
       IsPartial order o number f zs kept p.table → Leaves o number (opened order f zs) (length rest) old less x → new ≡ less ++ p ∷ [] →
       Leaves o number (opened order f zs) (length kept) old new x
@@ -131,7 +131,7 @@ pub slice-numbers : {X : Type 0} (number : X → ℕ) (xs : List X) (n : ℕ) (f
 unfolding entries rows_of
 slice-numbers number xs n f size is = entries-is n (map number xs) f (length-map xs number ∙ size) (λ b low. ap (λ t. t b) is)
 
--- a value and partial tables that stand behind none
+-- a value and partial tables that stand after none
 pub sums-are : {EF : Type 0} (order : Order) (o : Ops) (number : EF → ℕ) (f : ℕ → ℕ) (zs : List ℕ) (l m : ℕ) (none rounds : List (EqPartials EF)) (x : EF) (r : EF × EqSvoPartials EF) →
     none ≡ [] → l ≡ m → Leaves o number (opened order f zs) l none rounds x → r.0 ≡ x → tables_in r.1 ≡ rounds → partial_sums_in number r ≡ partial_sums_of order o f zs m
 unfolding partial_sums_of

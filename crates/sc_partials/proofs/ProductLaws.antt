@@ -127,7 +127,7 @@ module _ {EF : Type 0} (number : EF → ℕ) (o : Ops) where
     behind = is.behind;
   }
 
-  -- the values of one table were gained, and those of another right behind
+  -- the values of one table were gained, and those of another right after
   pub gains-more : (from n m next : ℕ) (table other : ℕ → ℕ) (old mid new : List EF) → next ≡ from + n → ((k : ℕ) → k < m → other k ≡ table (n + k)) →
       Gains number o from n table old mid → Gains number o next m other mid new → Gains number o from (n + m) table old new
   gains-more from n m next table other old mid new at same first second = record {

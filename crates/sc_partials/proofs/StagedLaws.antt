@@ -55,7 +55,7 @@ module _ {X : Type 0} (number : X → ℕ) (o : Ops) (low high old zeros ones ne
       ap (entries number new) at ∙ last.rows k small
   three (suc (suc (suc d))) k digit small = absurd (omega (arith, digit))
 
--- the values at 0, those at 1 and the differences stand behind a list
+-- the values at 0, those at 1 and the differences stand after a list
 pub digits-pushed : {X : Type 0} (number : X → ℕ) (o : Ops) (low high old zeros ones new : List X) → length low ≡ length high →
     zeros ≡ old ++ low → ones ≡ zeros ++ high → HasDifferences number o low high ones (length low) new → HasDigits number o low high old new
 digits-pushed number o low high old zeros ones new same first second last =

@@ -70,7 +70,7 @@ pub record AreNextPartials {EF : Type 0} (order : Order) (o : Ops) (number : EF 
   pub whole : zs ≡ joined order kept others
   pub tables : HaveRows number (length kept) (λ part. next_partial order o part f zs (length kept)) p
 
--- The tables of the first l rounds stand behind a list, and the value is answered.
+-- The tables of the first l rounds stand after a list, and the value is answered.
 pub record NextLeaves {EF : Type 0} (o : Ops) (number : EF → ℕ) (g : Opening) (l : ℕ) (old new : List (NextPartials EF)) (value_is : EF) : Type 0 where
   pub rounds : next_rounds_in number new ≡ next_rounds_in number old ++ next_partials_of g.order o g.table g.point l
   pub sum : number value_is ≡ inner o (length g.point) g.table (successor_weight o g.point)

@@ -59,7 +59,7 @@ pub record Opening : Type 0 where
 abbrev pub opened : Order → (ℕ → ℕ) → List ℕ → Opening
 opened order f zs = record { order = order; table = f; point = zs }
 
--- The partial tables of the first l rounds stand behind a list, and the value is answered.
+-- The partial tables of the first l rounds stand after a list, and the value is answered.
 pub record Leaves {EF : Type 0} (o : Ops) (number : EF → ℕ) (g : Opening) (l : ℕ) (old new : List (EqPartials EF)) (value_is : EF) : Type 0 where
   pub rounds : rounds_in number new ≡ rounds_in number old ++ partials_of g.order o g.table g.point l
   pub sum : number value_is ≡ value o g.table g.point

@@ -11,13 +11,13 @@ at_digit o one low high = high
 at_digit o infinity low high = high -⟨ o ⟩ low
 
 module _ {X : Type 0} (number : X → ℕ) (o : Ops) where
-  -- The first n differences, of high less low, stand behind a list.
+  -- The first n differences, of high less low, stand after a list.
   pub record HasDifferences (low high old : List X) (n : ℕ) (new : List X) : Type 0 where
     pub size : length new ≡ length old + n
     pub before : (i : ℕ) → i < length old → entries number new i ≡ entries number old i
     pub rows : (k : ℕ) → k < n → entries number new (length old + k) ≡ entries number high k -⟨ o ⟩ entries number low k
 
-  -- The values at the three digits stand behind a list, by those at 0 and those at 1.
+  -- The values at the three digits stand after a list, by those at 0 and those at 1.
   pub record HasDigits (low high old new : List X) : Type 0 where
     pub size : length new ≡ length old + 3 * length low
     pub before : (i : ℕ) → i < length old → entries number new i ≡ entries number old i

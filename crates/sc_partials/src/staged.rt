@@ -11,7 +11,7 @@ use sc_table::VariableOrder;
 use std::alloc::Global;
 
 // The values of a table at the digits 0, 1 and infinity of the `before` variables that are bound
-// first, of which the first one has the lowest digit, and at 0 and 1 of the one behind them, which
+// first, of which the first one has the lowest digit, and at 0 and 1 of the one after them, which
 // comes last: 2 * 3^before values.
 pub(crate) fn staged<EF: Field>(
     alloc: Global,
@@ -34,7 +34,7 @@ pub(crate) fn staged<EF: Field>(
 }
 
 // The values at the digits of one variable more, where so many places stand for the digits of those
-// before it, and so many rows for the variables behind it.
+// before it, and so many rows for the variables after it.
 fn with_digit<EF: Field>(
     alloc: Global,
     order: VariableOrder,

@@ -128,7 +128,7 @@ base_agrees o number w {left} {right} rows is first second test = (
   λ a. test ∙ eq-eqb left right (first ∙ is ∙ sym a.sum_is ∙ sym second),
 )
 
--- ---- the first round, and those behind it
+-- ---- the first round, and those after it
 
 module _ {K : Type 0} (s : Setting) (ring : IsRing s.ops) (offered : IsOffered s.basis s.order) (t v : Standing) (sized : IsSized t) (d d' : Driver K) (none : d.played ≡ 0) (some : HasRoundLeft d)
     (same : d'.shape ≡ d.shape) where
@@ -165,7 +165,7 @@ module _ {K : Type 0} (s : Setting) (ring : IsRing s.ops) (offered : IsOffered s
           stopped = record { rs = r ∷ []; played = first_played };
         }
 
-    -- the rounds behind it, in the same setting by another name
+    -- the rounds after it, in the same setting by another name
     module _ (s' : Setting) (is : s' ≡ s) (v' u u' : Standing) (here : v ≡ v') (d2 : Driver K) (left : u.variables + d2.played ≡ v.variables + d'.played) where
       pub first_before : (rs : List ℕ) → rs ≡ r ∷ [] → IsPlayed s' t v' rs
       first_before rs one = played_at (sym is) refl here (sym one) first_played

@@ -82,7 +82,7 @@ true_bound o ring s r left true_claim =
 pub left_before : {X : Type 0} (n : ℕ) (held : Option X) → held ≡ None → 0 < left_of n held → 0 < n
 left_before n held none left = subst (λ h. 0 < left_of n h) none left
 
--- two are, where one is left behind a held one
+-- two are, where one is left after a held one
 pub two_left : {X : Type 0} (n : ℕ) (held : Option X) (r : X) → held ≡ Some r → 0 < left_of n held → 1 < n
 two_left n held r is left = let more : 0 < n - 1 = subst (λ h. 0 < left_of n h) is left in omega (arith, more)
 

@@ -18,7 +18,7 @@ use Rattle.sc_transcript.specs.Transcripts.{driver_in}
 use Rattle.sc_transcript.specs.Data.{wire_in}
 use Rattle.sc_rounds.specs.declared.held_product.HeldProduct.{HeldProduct}
 use Rattle.sc_rounds.specs.declared.product_polynomial.ProductPolynomial.{ProductPolynomial}
-use Rattle.sc_transcript.specs.Batches.{Batch, batch_at, Course}
+use Rattle.sc_transcript.specs.Batches.{Batch, batch_at, UnderWay}
 use Rattle.sc_rounds.specs.Provers.{held_shown, stored_of}
 use Rattle.sc_definitions.specs.Shown.{Shown, Stored, imaged, setting_at, standing_at}
 
@@ -56,7 +56,7 @@ module _ {C F EG S P : Type 0} {c : ChallengerOf C F} {f : FieldOf F} {q : Parti
   standing_over sent s t d = standing_at s (driver_in t).history (wire_in f.number sent d)
 
   -- the rounds that are under way there, with the challenges of those before
-  abbrev pub course_over : Extension → Ops → (EG → ℕ) → Shown → Transcript C F EG S P c f q r → SumcheckData F EG → List EG → Course
+  abbrev pub course_over : Extension → Ops → (EG → ℕ) → Shown → Transcript C F EG S P c f q r → SumcheckData F EG → List EG → UnderWay
   course_over E o sent s t d rs = record { setting = setting_over E o s t; now = standing_over sent s t d; drawn = map sent rs }
 
 -- A round has drawn r: its tables are kept as they were before it, and r is held.

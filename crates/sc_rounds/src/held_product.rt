@@ -1,4 +1,4 @@
-//! A pair of tables under a true claim, on which rounds are played one behind the other.
+//! A pair of tables under a true claim, on which rounds are played one after the other.
 ghost use Rattle.sc_challenger.specs.Parties.{channel_by};
 ghost use Rattle.std.specs.Prelude.{
   ◌≡◌,
@@ -52,7 +52,7 @@ impl<F: Field, EF: ExtensionField<F>> HeldProduct<F, EF> {
     ghost use Rattle.sc_transcript.specs.Transcripts.{driver_in};
     ghost use Rattle.sc_transcript.specs.Batches.{
       Moves,
-      Counts,
+      CountsOne,
       LeavesBatch,
       HoldsBatch,
       GoesOn,
@@ -198,7 +198,7 @@ impl<F: Field, EF: ExtensionField<F>> HeldProduct<F, EF> {
         requires left { HasRoundLeft (driver_in transcript.old) }
         ensures continues { Continues (driver_in transcript.old) (driver_in transcript.new) }
         ensures order { (shown_in self.new).order ≡ (shown_in self.old).order }
-        ensures counts { Counts (driver_in transcript.old) (driver_in transcript.new) result }
+        ensures counts { CountsOne (driver_in transcript.old) (driver_in transcript.new) result }
         ensures round { Moves EG.number
             (setting_over EG.extension EG.ops (shown_in self.old) transcript.old)
             (standing_over EG.number

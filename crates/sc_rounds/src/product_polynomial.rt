@@ -39,7 +39,7 @@ impl<F: Field, EF: ExtensionField<F>> ProductPolynomial<F, EF> {
       BindsPair,
     };
     ghost use Rattle.sc_rounds.specs.Standings.{setting_on, standing_on};
-    ghost use Rattle.sc_transcript.specs.Batches.{Moves, MovesHonestly, Counts, TakesItsRoom};
+    ghost use Rattle.sc_transcript.specs.Batches.{Moves, MovesHonestly, CountsOne, TakesItsRoom};
 
     /// The pair of these tables, which have as many variables.
     pub fn new_unpacked(order: VariableOrder, evals: Poly<EF>, weights: Poly<EF>) -> Self
@@ -185,7 +185,7 @@ impl<F: Field, EF: ExtensionField<F>> ProductPolynomial<F, EF> {
         ensures continues { Continues (driver_in transcript.old) (driver_in transcript.new) }
         ensures order { order_in self.new ≡ order_in self.old }
         ensures sum { EF.number sum.new ≡ sum_in EF.ops EF.number self.new }
-        ensures counts { Counts (driver_in transcript.old) (driver_in transcript.new) result }
+        ensures counts { CountsOne (driver_in transcript.old) (driver_in transcript.new) result }
 
         // The message that is sent is the honest pair of the tables before, and the value of a bound table is theirs with the challenge placed.
         ensures round { MovesHonestly EF.number (setting_on EF.extension EF.ops self.old transcript.old)
@@ -213,7 +213,7 @@ impl<F: Field, EF: ExtensionField<F>> ProductPolynomial<F, EF> {
         ensures continues { Continues (driver_in transcript.old) (driver_in transcript.new) }
         ensures order { order_in self.new ≡ order_in self.old }
         ensures sum { EF.number sum.new ≡ sum_in EF.ops EF.number self.new }
-        ensures counts { Counts (driver_in transcript.old) (driver_in transcript.new) result }
+        ensures counts { CountsOne (driver_in transcript.old) (driver_in transcript.new) result }
         ensures round { Moves EG.number (setting_on EG.extension EG.ops self.old transcript.old)
             (standing_on (λ x. EF.to_number (EF.number x)) EG.number self.old sum.old transcript.old sumcheck_data.old)
             (standing_on (λ x. EF.to_number (EF.number x)) EG.number self.new sum.new transcript.new sumcheck_data.new) (driver_in transcript.old).played result }

@@ -20,7 +20,7 @@ pub struct FoundTurn<EF> {
 }
 
 /// Of rounds that were played on a pair of tables, as many as they have variables, under a claim:
-/// the first one behind which the claim is the true one, if there is one. The tables are bound in
+/// the first one after which the claim is the true one, if there is one. The tables are bound in
 /// their places.
 pub fn find_turn<F: Field, EF: ExtensionField<F>>(
     alloc: Global,

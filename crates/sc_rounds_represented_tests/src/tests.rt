@@ -56,7 +56,7 @@ struct Standing {
 }
 
 // Two batches of one round each: the order, the point of the weights, the messages, and the challenge of each batch and what the table and the weights
-// are behind it, each as its image, and the claim.
+// are after it, each as its image, and the claim.
 struct Batches {
     order: VariableOrder,
     coords: [u64; 2],

@@ -22,7 +22,7 @@ module _ (o : Ops) (n : ℕ) (f : ℕ → ℕ) where
       others none ∙ ap (λ k. first_false_claim o n f k rest) more
   behind-step i ss rest c false others none = cc
 
-  -- behind statements that are true
+  -- after statements that are true
   pub first_false-behind : (i : ℕ) (ss rest : List Statement) → first_false_claim o n f i ss ≡ None → first_false_claim o n f i (ss ++ rest) ≡ first_false_claim o n f (i + length ss) rest
   unfolding first_false_claim
   first_false-behind i [] rest none = let same : i ≡ i + 0 = omega arith in ap (λ k. first_false_claim o n f k rest) same

@@ -12,7 +12,7 @@ use Rattle.sc_claims.specs.Batches.{gathered, AddsBatch}
 use Rattle.sc_claims.proofs.BatchSteps.{IsSummed, AddsBatch-none}
 
 module _ (o : Ops) (ring : IsRing o) where
-  -- the powers go on behind the first list
+  -- the powers go on after the first list
   pub powers_sum-concat : (c p : ℕ) (xs ys : List ℕ) → powers_sum o c p (xs ++ ys) ≡ plus o (powers_sum o c p xs) (powers_sum o c (p + length xs) ys)
   unfolding powers_sum
   powers_sum-concat c p [] ys =
@@ -98,7 +98,7 @@ module _ {G : Type 0} (statements_of : G → List Statement) (o : Ops) (ring : I
       let q = p + length (flat_map statements_of (take i groups)) in
       IsSummed-group o ring c p _ (statements_of x) _ old total total' factor factor' (groups-more statements_of groups i x low at) so_far (added q so_far.next) (next q so_far.next)
 
--- the table and the sum have the batch of the first i groups, and the factor is that of the statement behind them
+-- the table and the sum have the batch of the first i groups, and the factor is that of the statement after them
 pub record IsCombined {G : Type 0} (statements_of : G → List Statement) (o : Ops) (n c p : ℕ) (groups : List G) (i : ℕ) (old table : ℕ → ℕ) (old_sum total factor : ℕ) : Type 0 where
   pub added : AddsBatch o n c p (flat_map statements_of (take i groups)) (gathered old old_sum) (gathered table total)
   pub next : factor ≡ power o c (p + length (flat_map statements_of (take i groups)))

@@ -4,7 +4,7 @@ ghost use Rattle.std.specs.Prelude.{◌≡◌, ℕ, ◌+◌, ◌^◌, ◌<◌, �
 ghost use Rattle.sc_definitions.specs.Ring.{power, ◌+⟨◌⟩◌};
 ghost use Rattle.sc_definitions.specs.Tables.{entries, value};
 ghost use Rattle.sc_definitions.specs.Statements.{first_false_claim, batched_weight, batched_claim};
-ghost use Rattle.sc_definitions.specs.Lucky.{behind_zeros, excess};
+ghost use Rattle.sc_definitions.specs.Lucky.{after_zeros, excess};
 ghost use Rattle.sc_field.specs.Powers.{base_of, start_of};
 ghost use Rattle.sc_table.specs.Polys.{most_table_variables, variables_of, table_of};
 ghost use Rattle.sc_statements.specs.Groups.{group_arity, group_statements};
@@ -226,7 +226,7 @@ impl<F: Field, EF: ExtensionField<F>> Constraint<F, EF> {
     /// many variables as the statements say.
     pub fn batch_polynomial(&self, alloc: Global, rows: &[F]) -> Result<Row<EF>, NoMemory>
         requires { length rows.now ≡ 2 ^ constraint_arity self.now }
-        ensures { IfOk result (λ v. map EF.number v ≡ behind_zeros (constraint_power self.now)
+        ensures { IfOk result (λ v. map EF.number v ≡ after_zeros (constraint_power self.now)
             (map (excess EF.ops (constraint_arity self.now)
             (λ b. EF.embedding (entries F.number rows.now b)))
             (constraint_statements (λ x. EF.embedding (F.number x)) EF.number self.now))) }

@@ -126,7 +126,7 @@ impl<F: Field, EF: ExtensionField<F>> Statements<F, EF> {
     }
 
     // Adds the claimed values to the sum, the first times `first`, and each next one times the challenge
-    // once more. The answer is the factor of a statement behind the last.
+    // once more. The answer is the factor of a statement after the last.
     pub(crate) fn add_values(&self, sum: &mut EF, challenge: EF, first: EF) -> EF
         ensures added { (p : ℕ) → EF.number first ≡ power EF.ops (EF.number challenge) p →
             EF.number sum.new ≡ EF.number sum.old +⟨ EF.ops ⟩ batched_claim EF.ops (EF.number challenge) p (group_statements (λ x. EF.embedding (F.number x)) EF.number self.now) }

@@ -160,7 +160,7 @@ static RIGHT: [([u64; 2], u64); 2] = [([0, 1], 2), ([2, 3], 8)];
 
 static WRONG: [([u64; 2], u64); 2] = [([0, 1], 2), ([2, 3], 9)];
 
-// One claim, and two that are put behind it.
+// One claim, and two that are put after it.
 static FIRST: [([u64; 2], u64); 1] = [([0, 1], 2)];
 
 static FURTHER: [([u64; 2], u64); 2] = [([2, 3], 8), ([1, 1], 4)];
@@ -239,7 +239,7 @@ fn take(
     }
 }
 
-// Asserts that each step gives its sum and its weights; the answer is the sum behind the last.
+// Asserts that each step gives its sum and its weights; the answer is the sum after the last.
 fn sum_of_steps<R: Abort + AllocGlobal>(
     rt: &R,
     statement: &EqStatement<F65537>,

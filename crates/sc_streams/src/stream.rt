@@ -27,7 +27,7 @@ pub trait Source {
     /// How many reads gave no byte, at most. It bounds reads as `given` does.
     ghost dry: { Self → ℕ } = { λ _. 0 };
 
-    /// How many reads came while the count of faults stood above a given one, at most. It bounds reads as `given` does, here those behind a fault.
+    /// How many reads came while the count of faults stood above a given one, at most. It bounds reads as `given` does, here those after a fault.
     ghost late: { Self → ℕ → ℕ } = { λ _ _. 0 };
 
     /// Moves the first bytes that are left to the front of the piece, and says how many: at most the
@@ -51,7 +51,7 @@ pub trait Sink {
     ghost faults: { Self → ℕ };
 
     /// How many writes came while the count of faults stood above a given one, at most: a sink that keeps no such count has 0. Code over any sink
-    /// cannot tell which it is, so a bound on the count bounds the writes of that code behind a fault.
+    /// cannot tell which it is, so a bound on the count bounds the writes of that code after a fault.
     ghost late: { Self → ℕ → ℕ } = { λ _ _. 0 };
 
     /// Takes the first bytes of the piece, and says how many: at most its length, and at least one of a

@@ -28,7 +28,7 @@ use Rattle.sc_svo.proofs.ClaimLaws.{grid_entry-times}
 module _ (o : Ops) (ring : IsRing o) where
   -- ---- weights that are added up
 
-  -- one kind more behind the others
+  -- one kind more after the others
   pub combined-append : (cs : List Scaled) (c : Scaled) → combined_weight o (cs ++ c ∷ []) ≡ (λ b. plus o (times o c.coefficient (weight_of o c.kind b)) (combined_weight o cs b))
   unfolding combined_weight Agree
   combined-append [] c = refl

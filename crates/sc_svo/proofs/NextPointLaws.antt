@@ -77,7 +77,7 @@ given-rows o ring number f zs near p is = record { variables = is.variables; row
 
 -- ---- rows
 
--- a row of those that are kept, with a row behind it, is a row of the table
+-- a row of those that are kept, with a row after it, is a row of the table
 pub row-within : (l m kept behind rows a r : ℕ) → kept ≡ 2 ^ l → behind ≡ 2 ^ m → rows ≡ 2 ^ (l + m) → a < kept → r < behind → r + a * behind < rows
 row-within l m kept behind rows a r kept_is behind_is whole low small =
     let fits = mul-le (suc a) behind kept behind low (omega arith) in
@@ -90,7 +90,7 @@ kept-within l m kept rows kept_is whole =
     let fits = mul-le 1 (2 ^ l) (2 ^ m) (2 ^ l) (pow_pos m) (omega arith) in
     omega (arith, fits, kept_is, whole ∙ ap (λ n. 2 ^ n) (omega arith) ∙ pow-add 2 m l)
 
--- the last rows of a table are those with the last row behind them, in suffix order
+-- the last rows of a table are those with the last row after them, in suffix order
 pub last-at : (l m kept rows a : ℕ) → kept ≡ 2 ^ l → rows ≡ 2 ^ (l + m) → rows - kept + a * 1 ≡ (2 ^ m - 1) * 2 ^ l + a
 last-at l m kept rows a kept_is whole =
     let more : suc (2 ^ m - 1) ≡ 2 ^ m = omega (arith, pow_pos m) in

@@ -219,7 +219,7 @@ fn add_at<EF: Field>(rows: &mut [EF], row: usize, gain: EF)
     rows[row] = rows[row].add(gain);
 }
 
-// So many rows of a table, from one on and each so many behind the one before it, times a factor.
+// So many rows of a table, from one on and each so many after the one before it, times a factor.
 // Their number is a power of two.
 fn every<F: Field, EF: ExtensionField<F>>(
     alloc: Global,

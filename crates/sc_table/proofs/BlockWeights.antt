@@ -14,7 +14,7 @@ use Rattle.sc_field.specs.Products.{products}
 use Rattle.sc_table.specs.Blocks.{block_weight}
 use Rattle.sc_table.proofs.EntryLaws.{entry-take, entry-drop}
 
--- ---- the coordinates behind the first, and the rows of each half
+-- ---- the coordinates after the first, and the rows of each half
 
 pub split-first : {X : Type 0} (zs : List X) (z : X) → 1 ≤ length zs → z ≡ get_or zs 0 z → zs ≡ z ∷ take (length zs - 1) (drop 1 zs)
 split-first [] z some at = absurd (omega (arith, some))
@@ -61,7 +61,7 @@ module _ {E : Type 0} (number : E → ℕ) (z outer inner weights : List E) (lon
       ap (λ l. map number l ++ map number inner) front ∙ ap (λ l. map number (take (length z - 8) z) ++ map number l) back
       ∙ sym (map-append number (take (length z - 8) z) (drop (length z - 8) z)) ∙ ap (map number) (take-append-drop (length z - 8) z)
 
--- The same where coordinates stand behind the point: with them, its last ones are 8.
+-- The same where coordinates stand after the point: with them, its last ones are 8.
 module _ {E : Type 0} (number : E → ℕ) (z back outer inner weights : List E) (few : length back ≤ 8) (long : 8 ≤ length z + length back)
     (front_is : outer ≡ take (length z - (8 - length back)) z) (inner_is : inner ≡ drop (length z - (8 - length back)) z) (rows : length weights ≡ 256) where
   before_inner : length outer ≡ length z - (8 - length back)

@@ -8,7 +8,7 @@ use Rattle.sc_definitions.specs.Rounds.{true_claim, honest_pair, next_claim}
 use Rattle.sc_definitions.proofs.RoundLaws.{honest_pair-message, true_claim-next}
 
 module _ (basis : Basis) (order : Order) (offered : IsOffered basis order) (o : Ops) (ring : IsRing o) (f w : ℕ → ℕ) (m : ℕ) where
-  -- before any challenge, m variables being left behind the round's
+  -- before any challenge, m variables being left after the round's
   pub honest_pair-first : honest_pair basis order o f w [] m ≡ message_of basis order o (2 ^ m) f w
   unfolding bound_by
   honest_pair-first = honest_pair-message o ring basis order offered f w [] m

@@ -11,7 +11,7 @@ use Rattle.sc_definitions.proofs.RingLaws.{times_comm, times_assoc}
 use Rattle.sc_definitions.proofs.Identity.{atom, unit, ◌⊗◌, ◌⊖◌, Agree, identity}
 use Rattle.sc_table.proofs.EntryLaws.{entry-append_left, entry-append_last}
 
--- ---- a list with multiples behind it
+-- ---- a list with multiples after it
 
 -- Behind the old items stand multiples of n of them, from the given one on.
 pub record HasMultiples {X : Type 0} (number : X → ℕ) (o : Ops) (from factor n : ℕ) (old new : List X) : Type 0 where
@@ -41,7 +41,7 @@ module _ {X : Type 0} (number : X → ℕ) (o : Ops) (from factor : ℕ) (old : 
 
 -- ---- one challenge more
 
--- the weights with a digit more, of the three digits one list behind the other
+-- the weights with a digit more, of the three digits one list after the other
 pub digits-added : (o : Ops) → IsRing o → {X : Type 0} (number : X → ℕ) (old mid new : List X) (third r slope : ℕ) → third ≡ length old →
     length mid ≡ length old + length old → slope ≡ minus o r 1 →
     ((b : ℕ) → b < length old → entries number mid b ≡ minus o (entries number old b) (times o (entries number old b) r)) →

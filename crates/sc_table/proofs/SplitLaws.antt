@@ -93,7 +93,7 @@ row-within size rows row a whole low =
     let fits : suc a * row ≤ rows * row = mul-le (suc a) row rows row low (omega arith) in
     omega (arith, fits, whole)
 
--- The rows behind the first one have gained weights, so all rows have gained the weights moved up.
+-- The rows after the first one have gained weights, so all rows have gained the weights moved up.
 pub gained-shifted : {X : Type 0} (number : X → ℕ) (o : Ops) → IsRing o → ((x : X) → number x < o.size) → (factor n : ℕ) (w : ℕ → ℕ) (old new : List X) →
     HasWritten number (λ b. plus o (entries number old b) (times o factor (w (b - 1)))) 1 n old new →
     (b : ℕ) → b < 1 + n → entries number new b ≡ plus o (entries number old b) (times o factor (shifted 0 w b))
@@ -198,7 +198,7 @@ module _ (n m size : ℕ) (whole : size ≡ 2 ^ (n + m)) where
   pub size-again : (v : ℕ) → size / 2 ^ n ≡ 2 ^ v → size ≡ 2 ^ (n + v)
   size-again v left = whole ∙ ap (λ k. 2 ^ (n + k)) (pow-same m v (sym rows-left ∙ left))
 
-  -- the rows behind the first ones
+  -- the rows after the first ones
   pub rows-behind : (up : ℕ) → up ≤ 2 ^ n → size - up * 2 ^ m ≡ (2 ^ n - up) * 2 ^ m
   rows-behind up within =
       let t = 2 ^ n - up in

@@ -12,7 +12,7 @@ use Rattle.sc_definitions.proofs.TableLaws.{two_halves, weight-low, weight-high}
 use Rattle.sc_table.proofs.EntryLaws.{entry-set_same, entry-set_other, entry-append_left, entry-append_last}
 
 -- The first i of the old entries are split: what z leaves of each stands in its place, and what z takes
--- stands behind the old ones. The others are as they were.
+-- stands after the old ones. The others are as they were.
 pub record IsSplitSoFar {X : Type 0} (number : X → ℕ) (o : Ops) (z i : ℕ) (old new : List X) : Type 0 where
   pub size : length new ≡ length old + i
   pub low : (b : ℕ) → b < i → entries number new b ≡ minus o (entries number old b) (times o (entries number old b) z)

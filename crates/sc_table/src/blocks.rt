@@ -39,7 +39,7 @@ pub fn joined_block_weights<E: Field>(front: &[E], back: &[E]) -> [E; 256]
     block_weights(&z)
 }
 
-// Writes the items of two lists, one behind the other.
+// Writes the items of two lists, one after the other.
 fn write_joined<E: Copy>(items: &mut [E], front: &[E], back: &[E])
     requires { length items.old ≡ length front.now + length back.now }
     ensures { items.new ≡ front.now ++ back.now }

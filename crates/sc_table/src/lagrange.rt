@@ -68,7 +68,7 @@ pub fn lagrange_weights_01inf_multi<F: Field>(alloc: Global, rs: &[F]) -> Result
 }
 
 // The weights with one more challenge, whose digit is higher than the others: those of its digit 0,
-// of its digit 1 and of its digit 2, one list behind the other. There is room for all.
+// of its digit 1 and of its digit 2, one list after the other. There is room for all.
 fn push_digits<F: Field>(weights: &mut Vec<F>, r: F)
     requires { 3 * vec_len weights.old ≤ vec_capacity weights.old }
     ensures room { vec_capacity weights.new ≡ vec_capacity weights.old }
@@ -83,7 +83,7 @@ fn push_digits<F: Field>(weights: &mut Vec<F>, r: F)
     push_multiples(weights, third, r.sub(F::ONE));
 }
 
-// The items with multiples behind them, of those from the given one on. There is room for these.
+// The items with multiples after them, of those from the given one on. There is room for these.
 fn push_multiples<F: Field>(items: &mut Vec<F>, from: usize, factor: F)
     requires from { from ≤ vec_len items.old }
     requires room { vec_len items.old + (vec_len items.old - from) ≤ vec_capacity items.old }

@@ -52,7 +52,7 @@ impl<A: Field> Poly<A> {
     /// The table of `scale` times the equality weights of the point `z`, of at most 40 coordinates.
     ///
     /// It takes time linear in the table's length: each coordinate, the last one first, doubles the
-    /// table that the coordinates behind it make. Memory is taken once, for the whole table, and
+    /// table that the coordinates after it make. Memory is taken once, for the whole table, and
     /// `NoMemory` says that there is not as much.
     pub fn new_from_point(alloc: Global, z: &[A], scale: A) -> Result<Self, NoMemory>
         requires { length z.now ≤ most_table_variables }

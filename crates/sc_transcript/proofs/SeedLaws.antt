@@ -34,7 +34,7 @@ pub eight-same : (a b : ℕ) → a < 2 ^ 64 → b < 2 ^ 64 → eight_bytes a ≡
 unfolding eight_bytes
 eight-same a b small_a small_b e = sym (from_be_bytes-to_be_bytes_8 a small_a) ∙ ap (from_be_bytes w64) e ∙ from_be_bytes-to_be_bytes_8 b small_b
 
--- the bytes of the steps, and of the label behind them
+-- the bytes of the steps, and of the label after them
 abbrev pub tail_of : List Interaction → List ℕ → List ℕ
 tail_of steps label = flat_map step_bytes steps ++ length_prefixed label
 
@@ -45,11 +45,11 @@ unfolding seed_words separator_bytes length_prefixed eight_bytes protocol_name
 tail-same steps steps' label label' e =
     ap (drop 38) (nibbles-same (separator_bytes (separator 1 Quadratic steps label)) (separator_bytes (separator 1 Quadratic steps' label')) e)
 
--- the steps behind the first message of some rounds
+-- the steps after the first message of some rounds
 abbrev pub behind_message : ℕ → ℕ → ℕ → ℕ → List Interaction
 behind_message degree width bits n = (pow_steps bits ++ step Challenge degree Scalar RoundChallenge ∷ []) ++ rounds_steps degree width bits n
 
--- the bytes behind it tell the difficulty: the first of them whether it is positive, and further ones which it is
+-- the bytes after it tell the difficulty: the first of them whether it is positive, and further ones which it is
 pub difficulty-same : (degree width bits bits' n n' : ℕ) (i i' : List ℕ) → bits < 2 ^ 64 → bits' < 2 ^ 64 →
     flat_map step_bytes (behind_message degree width bits n) ++ i ≡ flat_map step_bytes (behind_message degree width bits' n') ++ i' → bits ≡ bits'
 unfolding step_bytes length_bytes length_prefixed eight_bytes label_text
@@ -80,7 +80,7 @@ rounds_long : (degree width bits n : ℕ) (i : List ℕ) → length i < length (
 unfolding step_bytes
 rounds_long degree width bits n i = omega (arith, length-append (flat_map step_bytes (rounds_steps degree width bits (suc n))) i)
 
--- of one difficulty the bytes tell the number of rounds, and what stands behind them, where that has the same length
+-- of one difficulty the bytes tell the number of rounds, and what stands after them, where that has the same length
 pub count-same : (degree width bits n n' : ℕ) (i i' : List ℕ) → length i ≡ length i' →
     flat_map step_bytes (rounds_steps degree width bits n) ++ i ≡ flat_map step_bytes (rounds_steps degree width bits n') ++ i' → (n ≡ n') × (i ≡ i')
 count-same degree width bits zero zero i i' l e = (refl, e)

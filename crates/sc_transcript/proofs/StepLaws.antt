@@ -9,7 +9,7 @@ steps_end degree width bits (suc n) =
     let one = round_steps degree width bits in
     ap (λ t. one ++ t) (steps_end degree width bits n) ∙ sym (append_assoc one (rounds_steps degree width bits n) one)
 
--- one round more comes behind the others
+-- one round more comes after the others
 pub steps_more : (degree width bits n : ℕ) → rounds_steps degree width bits n ++ round_steps degree width bits ≡ rounds_steps degree width bits (n + 1)
 steps_more degree width bits n =
     let next : suc n ≡ n + 1 = omega arith in

@@ -39,9 +39,9 @@ MovesHonestly number s before after i (Ok r) = IsRound s before after (number r)
 MovesHonestly number s before after i (Err e) = IsHalted s before after i e
 
 -- one round more was played where there is an answer, and none where there is not
-abbrev pub Counts : {X E K : Type 0} → Driver K → Driver K → Result X E → Type 0
-Counts before after (Ok x) = after.played ≡ before.played + 1
-Counts before after (Err e) = after.played ≡ before.played
+abbrev pub CountsOne : {X E K : Type 0} → Driver K → Driver K → Result X E → Type 0
+CountsOne before after (Ok x) = after.played ≡ before.played + 1
+CountsOne before after (Err e) = after.played ≡ before.played
 
 -- a round takes no more of the room of its driver, over an extension of a degree, and of its data than its own; a refused one takes none of the data's
 abbrev pub TakesItsRoom : {X E K : Type 0} → ℕ → Driver K → Driver K → ℕ → ℕ → Result X E → Type 0
@@ -50,7 +50,7 @@ TakesItsRoom degree before after spare spare' (Err e) = spare ≤ spare'
 
 -- ---- a batch that is asked of a pair or a prover
 
--- What stays, where it stands before the seed, where the first round begins, which is behind the seed, and how many rounds are asked for.
+-- What stays, where it stands before the seed, where the first round begins, which is after the seed, and how many rounds are asked for.
 pub record Batch : Type 0 where
   pub setting : Setting
   pub taken : Standing
@@ -117,7 +117,7 @@ pub record BreaksOffAt (b : Batch) (h : List Event) (wire : Wire) (e : SumcheckE
 -- ---- rounds under way
 
 -- Rounds under way: what stays, where they stand, and the challenges that they have drawn.
-pub record Course : Type 0 where
+pub record UnderWay : Type 0 where
   pub setting : Setting
   pub now : Standing
   pub drawn : List ℕ
@@ -127,11 +127,11 @@ abbrev pub HoldsBatch : Batch → List ℕ → Stored → Type 0
 HoldsBatch b rs stored = HoldsIfAny b.setting b.start rs stored
 
 -- What rounds leave together with those before them, from wherever these began.
-abbrev pub GoesOn : {X K : Type 0} → Course → Course → Driver K → Result X SumcheckError → Type 0
+abbrev pub GoesOn : {X K : Type 0} → UnderWay → UnderWay → Driver K → Result X SumcheckError → Type 0
 GoesOn before after d result =
     (start : Standing) → IsPlayed before.setting start before.now before.drawn → PlaysAll before.setting start after.now after.drawn d result
 
 -- Where a round was played among them, the last challenge of all is held.
-abbrev pub HoldsIfMore : Course → List ℕ → Stored → Type 0
+abbrev pub HoldsIfMore : UnderWay → List ℕ → Stored → Type 0
 HoldsIfMore before all stored =
     (start : Standing) → IsPlayed before.setting start before.now before.drawn → (all ≡ before.drawn) ⊎ HoldsLast before.setting start all stored

@@ -31,15 +31,15 @@ abbrev pub wire_in : {F EF : Type 0} → (F → ℕ) → (EF → ℕ) → Sumche
 wire_in base number d = record { messages = messages_in number d; witnesses = witnesses_in base d }
 
 -- its rounds; the witness of a round is 0 where none came
-abbrev pub rounds_in : {F EF : Type 0} → (F → ℕ) → (EF → ℕ) → SumcheckData F EF → List Round
-rounds_in base number d = given_rounds (messages_in number d) (witnesses_in base d)
+abbrev pub rounds_of_data : {F EF : Type 0} → (F → ℕ) → (EF → ℕ) → SumcheckData F EF → List Round
+rounds_of_data base number d = given_rounds (messages_in number d) (witnesses_in base d)
 
 -- how many more rounds it takes without memory
 abbrev pub spare_in : {F EF : Type 0} → SumcheckData F EF → ℕ
 spare_in d =
     min (vec_capacity d.polynomial_evaluations - vec_len d.polynomial_evaluations) (vec_capacity d.pow_witnesses - vec_len d.pow_witnesses)
 
--- the replay, in a shape, of what came on a wire, over a ring, a channel and an extension of a degree, from a footing on: it begins behind the seed, and each
+-- the replay, in a shape, of what came on a wire, over a ring, a channel and an extension of a degree, from a footing on: it begins after the seed, and each
 -- round folds the claim by the basis
 abbrev pub pair_replay : Ops → Channel → ℕ → SumcheckShape → Wire → Footing → Replay
 pair_replay o c degree shape came at =

@@ -26,6 +26,6 @@ shape_of num_rounds pow_bits basis = record { num_rounds = num_rounds; pow_bits 
 abbrev pub batch_of : SumcheckShape → BatchShape
 batch_of shape = record { num_rounds = shape.num_rounds; width = 2; pow_bits = shape.pow_bits }
 
--- where a batch stands behind its seed, from a history on and under a claim
+-- where a batch stands after its seed, from a history on and under a claim
 abbrev pub seeded : ℕ → SumcheckShape → List Event → ℕ → Footing
 seeded degree shape h claim = footing (h ++ words (seed_of degree shape)) claim

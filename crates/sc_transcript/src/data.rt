@@ -8,7 +8,7 @@ ghost use Rattle.sc_table.specs.Strategy.{basis_of};
 ghost use Rattle.sc_transcript.specs.Shapes.{shape_of, pair_round};
 ghost use Rattle.sc_transcript.specs.Causes.{cause_of};
 ghost use Rattle.sc_transcript.specs.Drivers.{answer_as};
-ghost use Rattle.sc_transcript.specs.Data.{rounds_in, wire_in, pair_replay};
+ghost use Rattle.sc_transcript.specs.Data.{rounds_of_data, wire_in, pair_replay};
 ghost use Rattle.sc_transcript.specs.Replayed.{LeavesFrom, place};
 
 use crate::driver::RoundShape;
@@ -151,8 +151,8 @@ impl<F: Field, EF: ExtensionField<F>> SumcheckData<F, EF> {
 
     // The values of a round, and its witness if one came.
     fn round_at(&self, i: usize) -> (RoundMessage<EF>, Option<F>)
-        requires { i < length (rounds_in F.number EF.number self.now) }
-        ensures round { slice_get (rounds_in F.number EF.number self.now) i
+        requires { i < length (rounds_of_data F.number EF.number self.now) }
+        ensures round { slice_get (rounds_of_data F.number EF.number self.now) i
             ≡ Some (pair_round (EF.number result.0.c_a) (EF.number result.0.c_inf) (option_map_or F.number result.1 0)) }
         ensures witness { i < vec_len self.now.pow_witnesses → IsSome result.1 }
     {
@@ -173,7 +173,7 @@ struct CameIn<'a, F, EF> {
 impl<F: Field, EF: ExtensionField<F>> CameRounds<F, EF> for CameIn<'_, F, EF> {
     type Values = RoundMessage<EF>;
 
-    ghost rounds = { λ s. rounds_in F.number EF.number s.data.now };
+    ghost rounds = { λ s. rounds_of_data F.number EF.number s.data.now };
 
     ghost witnesses = { λ s. vec_len s.data.now.pow_witnesses };
 

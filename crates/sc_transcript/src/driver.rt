@@ -44,7 +44,7 @@ pub trait SliceShape: RoundShape {
         ensures { HasDifficulty (Self.numbers self.now).pow_bits error → cause (Self.numbers self.now).pow_bits result ≡ Some error };
 }
 
-/// A protocol whose batches begin with a claimed sum, behind words that tell the batch from others.
+/// A protocol whose batches begin with a claimed sum, after words that tell the batch from others.
 pub trait ClaimedShape: SliceShape {
     // What stands before the rounds, by the parts of elements and the claimed sum.
     ghost prelude: { Self → Extension → ℕ → List Event };

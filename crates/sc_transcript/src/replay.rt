@@ -74,7 +74,7 @@ pub fn check_counts(shape: BatchShape, rounds: usize, witnesses: usize) -> Resul
 /// [`Challenger::max_bits`]: answers their challenges in drawing order, and folds the claim once for each. There is room for the challenges.
 ///
 /// `WrongWidth` names the first round that sends more or fewer values than the shape has, unless the witness of a round before it fails, and
-/// `InvalidWitness` the first whose witness fails; the history ends behind the rounds before it, or with that test. After `NoMemory` it ends behind some
+/// `InvalidWitness` the first whose witness fails; the history ends after the rounds before it, or with that test. After `NoMemory` it ends after some
 /// of the rounds. The claim is folded as many times.
 pub fn replay<F: Field, EF: ExtensionField<F>, C: Challenger<F>, R: CameRounds<F, EF>>(
     came: &R,

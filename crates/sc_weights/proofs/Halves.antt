@@ -187,7 +187,7 @@ module _ {X : Type 0} (number : X → ℕ) (rows ending post : List X) (at : ℕ
 pub end-given : {X : Type 0} (number : X → ℕ) (rows : List X) (at n c : ℕ) → c < n → entries number (take n (drop at rows)) c ≡ entries number rows (at + c)
 end-given number rows at n c low = entry-take number (drop at rows) n c low ∙ entry-drop number rows at c
 
--- a block of the coordinates behind is no longer than all rows
+-- a block of the coordinates after is no longer than all rows
 pub block-fits : (p k rows block : ℕ) → rows ≡ 2 ^ (p + k) → block ≡ 2 ^ k → block ≤ rows
 block-fits p k rows block size is =
     let fits : 1 * 2 ^ k ≤ 2 ^ p * 2 ^ k = mul-le 1 (2 ^ k) (2 ^ p) (2 ^ k) (pow_pos p) (omega arith) in

@@ -25,7 +25,7 @@ unfolding shifted
 shifted-same before before' f g n zero e same low = e
 shifted-same before before' f g n (suc b) e same low = same b (omega (arith, low))
 
--- behind n rows
+-- after n rows
 pub shifted-behind : (before : ℕ) (f : ℕ → ℕ) (n b : ℕ) → 0 < n → shifted before f (n + b) ≡ shifted (f (n - 1)) (λ k. f (n + k)) b
 unfolding shifted
 shifted-behind before f zero b some = absurd (omega (arith, some))
@@ -157,7 +157,7 @@ up-same s first first' f f' n b firsts same low = ⊎_elim
     (λ above. up-behind s first f b above ∙ same (b - s) (omega (arith, low)) ∙ sym (up-behind s first' f' b above))
     (cases_lt b s)
 
--- the second half of p rows: behind it stands the first one
+-- the second half of p rows: after it stands the first one
 pub up-high : (s p : ℕ) (first first' f high : ℕ → ℕ) → s ≤ p → ((j : ℕ) → j < s → first' j ≡ f (p - s + j)) → ((k : ℕ) → k < p → high k ≡ f (p + k)) → (b : ℕ) → b < p →
     moved_up s first' high b ≡ moved_up s first f (p + b)
 up-high s p first first' f high fits firsts same b low =

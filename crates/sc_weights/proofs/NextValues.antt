@@ -131,7 +131,7 @@ module _ (o : Ops) {A : Type 0} (embed : ℕ → ℕ) (number : A → ℕ) (zero
 -- ---- blocks whose rows have weights
 
 module _ (o : Ops) (ring : IsRing o) {A E : Type 0} (embed : ℕ → ℕ) (of : A → ℕ) (zero_kept : embed 0 ≡ 0) (number : E → ℕ) where
-  -- one block: what stands behind its last row has the last weights
+  -- one block: what stands after its last row has the last weights
   pub moved-block : (rows after : List A) (weights : List E) (s here behind : ℕ) → length rows ≡ length weights → s ≤ length weights → length after ≡ s →
       here ≡ products o (length (take (length rows - s) (drop s rows))) (entries (λ x. embed (of x)) (take (length rows - s) (drop s rows))) (entries number (take (length weights - s) weights)) →
       behind ≡ products o (length after) (entries (λ x. embed (of x)) after) (entries number (take (length weights - (length weights - s)) (drop (length weights - s) weights))) →

@@ -105,11 +105,11 @@ module _ (o : Ops) (ring : IsRing o) (z : ℕ) {X : Type 0} (number : X → ℕ)
 -- ---- halves of rows
 
 module _ (o : Ops) (ring : IsRing o) (z : ℕ) where
-  -- the powers behind p rows
+  -- the powers after p rows
   pub power-behind : (scale p k : ℕ) → times o (times o scale (power o z p)) (power o z k) ≡ times o scale (power o z (p + k))
   power-behind scale p k = times_assoc o ring scale (power o z p) (power o z k) ∙ ap (times o scale) (sym (power-plus o ring z p k))
 
-  -- the power behind the last of n rows
+  -- the power after the last of n rows
   pub power-after : (n : ℕ) → 0 < n → times o (power o z (n - 1)) z ≡ power o z n
   unfolding power
   power-after zero some = absurd (omega (arith, some))

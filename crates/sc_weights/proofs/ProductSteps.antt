@@ -56,7 +56,7 @@ module _ (o : Ops) (ring : IsRing o) where
   inner-none f [] none low = sym (identity o ring (f 0 ∷ []) (nought ⊕ atom 0 ⊗ unit) (atom 0 ⊗ unit) tt tt refl ∙ times-one o ring (f 0) ∙ element-small o ring (f 0) low)
   inner-none f (z ∷ zs) none low = absurd (omega (arith, none))
 
--- ---- the last coordinates, behind the first one too
+-- ---- the last coordinates, after the first one too
 
 pub last-same : {X : Type 0} (z : List X) (k : ℕ) → k + 1 ≤ length z → drop (length (take (length z - 1) (drop 1 z)) - k) (take (length z - 1) (drop 1 z)) ≡ drop (length z - k) z
 last-same [] k fits = absurd (omega (arith, fits))

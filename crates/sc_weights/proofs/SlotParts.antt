@@ -1,4 +1,4 @@
--- A selector that stands first, in two parts: with a point of less than 8 coordinates behind it, the second part has 8 coordinates.
+-- A selector that stands first, in two parts: with a point of less than 8 coordinates after it, the second part has 8 coordinates.
 use Rattle.std.proofs.Common.{◌≡◌, ℕ, ◌+◌, ◌-◌, ◌*◌, ◌^◌, ◌≤◌, List, ◌++◌, length, map, take, drop, sym, ◌∙◌, ap, arith, pow-add}
 use Rattle.std.proofs.lemmas.List.{length-map, length-take-le, length-drop, map-append, take-append-drop}
 

@@ -95,7 +95,7 @@ fn power_weights<F: Field, EF: Algebra<F>>(var: F) -> [EF; 256]
 }
 
 // The table is halved so many times, to blocks of as many rows as there are weights. The answer is
-// `scale` times the power behind the last row.
+// `scale` times the power after the last row.
 fn add_powers_by_blocks<F: Field, EF: Algebra<F>>(
     rows: &mut [EF],
     halvings: usize,
@@ -143,7 +143,7 @@ fn powers_value<F: Field, A: Field, EF: Algebra<F> + Algebra<A>>(
     value
 }
 
-// The same, and the power behind the last row. The table is halved so many times, to blocks of as
+// The same, and the power after the last row. The table is halved so many times, to blocks of as
 // many rows as there are weights.
 fn powers_value_by_blocks<F: Field, A: Field, EF: Algebra<F> + Algebra<A>>(
     rows: &[A],

@@ -1,4 +1,4 @@
-//! Successor weights of a point, times the equality weights of a selector that stands behind it.
+//! Successor weights of a point, times the equality weights of a selector that stands after it.
 //!
 //! They go by blocks of 256 rows where the selector has at most as many coordinates as tell the
 //! rows of a block apart, and the table a block or more; else by halves.
@@ -247,7 +247,7 @@ fn moved_down_value<A: Field, EF: Algebra<A>>(
     lo.add(hi.sub(lo).mul(*first))
 }
 
-// The rows are read as many rows further on as the selector tells apart; those behind the end are
+// The rows are read as many rows further on as the selector tells apart; those after the end are
 // the last ones.
 fn successor_value_by_blocks<A: Field, EF: Algebra<A>>(
     rows: &[A],
@@ -271,7 +271,7 @@ fn successor_value_by_blocks<A: Field, EF: Algebra<A>>(
 }
 
 // The sum over all rows of the entry `stride` rows further on, as rows weigh in blocks; `after`
-// stands behind the last row.
+// stands after the last row.
 fn moved_blocks_value<A: Field, EF: Algebra<A>>(
     rows: &[A],
     outer: &[EF],

@@ -1,5 +1,3 @@
-pub mod ProductRoundLaws
-pub mod ProductReplies
-pub mod CertifiedRounds
-pub mod TableShapes
+pub mod ProductJobLaws
+pub mod AskedLaws
 pub mod ProductPromises

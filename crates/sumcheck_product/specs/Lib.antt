@@ -1,3 +1,3 @@
+pub mod ProductJob
 pub mod Products
-pub mod ProductPlays
 pub mod CertifiedProducts

@@ -2,12 +2,14 @@
 ghost use Rattle.sumcheck_product.specs.CertifiedProducts.{product_jobs};
 ghost use Rattle.sumcheck_product.specs.Products.{product_asks};
 
-use crate::product::{answer_to, judge_product};
+use crate::job::ProductJob;
+use crate::reading::read_product;
+use crate::report::{answer_to, judge_product};
 use sc_challenger::Challenger;
 use sc_field::{ExtensionField, Field, IntoTranscriptField, NoMemory};
 use serde_json::Value;
 use std::alloc::Global;
-use sumcheck_jobs::{FieldName, ProductJob, Unread, read_product};
+use sumcheck_members::{FieldName, Unread};
 use sumcheck_replies::{Answer, FieldJobs, JobKind};
 
 /// The jobs of `product`.
@@ -36,7 +38,7 @@ impl FieldJobs for ProductJobs {
         job.field
     }
 
-    fn challenger(job: &ProductJob) -> &sumcheck_jobs::Challenger {
+    fn challenger(job: &ProductJob) -> &sumcheck_members::Challenger {
         &job.challenger
     }
 

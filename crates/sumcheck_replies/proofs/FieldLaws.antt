@@ -4,9 +4,9 @@ use Rattle.sc_definitions.specs.Ring.{IsField}
 use Rattle.sc_small_fields.specs.ResiduesLaws.{residues_field}
 use Rattle.sc_small_fields.specs.F257x2Laws.{f257x2_field}
 use Rattle.sc_sixteen.specs.SixteenLaws.{tower_field}
-use Rattle.sumcheck_jobs.specs.declared.job.FieldName.{FieldName}
-use Rattle.sumcheck_jobs.specs.declared.job.FieldName.TheVariants.{F65537, F257x2, F16}
-use Rattle.sumcheck_jobs.specs.Elements.{sizes_of}
+use Rattle.sumcheck_members.specs.declared.job.FieldName.{FieldName}
+use Rattle.sumcheck_members.specs.declared.job.FieldName.TheVariants.{F65537, F257x2, F16}
+use Rattle.sumcheck_members.specs.Elements.{sizes_of}
 use Rattle.sumcheck_replies.specs.Fields.{fields_of}
 
 pub fields_field : (name : FieldName) → IsField (fields_of name).ops

@@ -10,7 +10,7 @@ pub spaced-none : spaced [] ≡ []
 unfolding spaced
 spaced-none = refl
 
--- numbers behind others
+-- numbers after others
 spaced-append : (xs ys : List ℕ) → spaced (xs ++ ys) ≡ spaced xs ++ spaced ys
 unfolding spaced
 spaced-append [] ys = refl
@@ -22,7 +22,7 @@ pub spaced-more : {X : Type 0} (number : X → ℕ) (xs : List X) (k : ℕ) (x :
     spaced (map number (take (k + 1) xs)) ≡ spaced (map number (take k xs)) ++ spaced (number x ∷ [])
 spaced-more number xs k x low is = ap spaced (mapped-more number xs k x low is) ∙ spaced-append (map number (take k xs)) (number x ∷ [])
 
--- a line with numbers behind a beginning, pushed by its parts
+-- a line with numbers after a beginning, pushed by its parts
 pushed-named : (start named values text text' text'' : List ℕ) →
     text ≡ start ++ named → text' ≡ text ++ spaced values → text'' ≡ text' ++ codes "\n" → text'' ≡ start ++ (named ++ spaced values ++ codes "\n")
 pushed-named start named values text text' text'' name numbers end =
@@ -64,7 +64,7 @@ grid_lines-more shown xs k x low is =
     ap (grid_lines 0) (mapped-more shown xs k x low is) ∙ grid_lines-append 0 (map shown (take k xs)) (shown x)
     ∙ ap (λ n. grid_lines 0 (map shown (take k xs)) ++ both_lines n (shown x)) count
 
--- both lines of a grid, pushed behind those before it
+-- both lines of a grid, pushed after those before it
 pub pushed-both : (start done : List ℕ) (i : ℕ) (grid : List ℕ × List ℕ) (text text' text'' : List ℕ) →
     text ≡ start ++ done → text' ≡ text ++ grid_line i (codes "zero") grid.0 → text'' ≡ text' ++ grid_line i (codes "infinity") grid.1 →
     text'' ≡ start ++ (done ++ both_lines i grid)

@@ -7,7 +7,7 @@ use Rattle.sc_forms.specs.Values.{value_of}
 use Rattle.sc_verdicts.specs.declared.error.AuditError.{AuditError}
 use Rattle.sc_verdicts.specs.declared.error.AuditError.TheVariants.{JobShape, StrategyUnfit, FalseClaim, MissingSumcheckData, RoundCountMismatch, PowWitnessCountMismatch, InvalidPowWitness, NoWitness, NoMemory}
 use Rattle.sc_verdicts.specs.Findings.{Finding, holds, refuted, lucky}
-use Rattle.sumcheck_jobs.specs.Members.{Name}
+use Rattle.sumcheck_members.specs.Members.{Name}
 use Rattle.sumcheck_replies.specs.Reply.{Reply, no_witness, no_witness_at, proof_refused, refused}
 use Rattle.sumcheck_replies.specs.Refusals.{refusal_reply, finding_reply}
 use Rattle.sumcheck_replies.specs.Kinds.{max_input, too_long, bad_json, value_reply, json_reply, Jobs, job_reply, jobs_reply, KeepsPromise, IsAnswer, AreLawful}

@@ -1,6 +1,5 @@
 pub mod NumberLaws
 pub mod LineLaws
 pub mod GridLines
-pub mod WitnessLaws
 pub mod FieldLaws
 pub mod KindLaws

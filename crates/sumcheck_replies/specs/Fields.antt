@@ -7,11 +7,11 @@ use Rattle.sc_definitions.specs.Sixteen.{tower}
 use Rattle.sc_definitions.specs.Events.{Rules, Extension, own_extension}
 use Rattle.sc_definitions.specs.Scripted.{scripted_rules}
 use Rattle.sc_challenger.specs.Hashed.{hash_rules}
-use Rattle.sumcheck_jobs.specs.declared.job.FieldName.{FieldName}
-use Rattle.sumcheck_jobs.specs.declared.job.FieldName.TheVariants.{F65537, F257x2, F16}
-use Rattle.sumcheck_jobs.specs.declared.job.Challenger.{Challenger}
-use Rattle.sumcheck_jobs.specs.declared.job.Sizes.{Sizes}
-use Rattle.sumcheck_jobs.specs.declared.job.Challenger.TheVariants.{Scripted, Hash}
+use Rattle.sumcheck_members.specs.declared.job.FieldName.{FieldName}
+use Rattle.sumcheck_members.specs.declared.job.FieldName.TheVariants.{F65537, F257x2, F16}
+use Rattle.sumcheck_members.specs.declared.job.Challenger.{Challenger}
+use Rattle.sumcheck_members.specs.declared.job.Sizes.{Sizes}
+use Rattle.sumcheck_members.specs.declared.job.Challenger.TheVariants.{Scripted, Hash}
 
 -- A field that challenges are in, over a base field: its operations on numbers, how many elements the base field has, the parts of an element in the
 -- base field, and the number of a base element's image.

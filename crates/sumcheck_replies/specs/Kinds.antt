@@ -2,7 +2,7 @@
 use Rattle.std.specs.Prelude.{◌≡◌, ℕ, ◌≤◌, List, length, codes, Option, Some, None, Result, Ok, Err, nat_lt, if◌then◌else◌}
 use Rattle.serde_json.specs.Data.{Data}
 use Rattle.sc_forms.specs.Values.{value_of}
-use Rattle.sumcheck_jobs.specs.Members.{Name, misfit_text}
+use Rattle.sumcheck_members.specs.Members.{Name, misfit_text}
 use Rattle.sumcheck_replies.specs.Reply.{Reply, code_of, refused}
 
 -- ---- an input

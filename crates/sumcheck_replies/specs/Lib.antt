@@ -2,7 +2,6 @@ pub mod Fields
 pub mod Reply
 pub mod Lines
 pub mod Refusals
-pub mod Witnesses
 pub mod Kinds
 pub mod Inputs
 pub mod Over

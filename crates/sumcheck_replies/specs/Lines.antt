@@ -32,7 +32,7 @@ unfoldable pub round_line : ℕ → List ℕ → Option ℕ → ℕ → List ℕ
 round_line i values witness challenge =
     codes "round " ++ decimal i ++ codes ":" ++ spaced values ++ witness_part witness ++ codes " challenge " ++ decimal challenge ++ codes "\n"
 
--- the beginning of the line, up to the values, and its end, behind the witness
+-- the beginning of the line, up to the values, and its end, after the witness
 unfoldable pub round_name : ℕ → List ℕ
 round_name i = codes "round " ++ decimal i ++ codes ":"
 
@@ -115,11 +115,27 @@ abbrev pub luck_line : Luck → List ℕ
 luck_line (in_batch polynomial roots) = lucky_batch_line polynomial roots
 luck_line (in_round round polynomial roots) = lucky_round_line round polynomial roots
 
+-- a table whose number of rows does not fit
+unfoldable pub table_length_text : ℕ → List ℕ
+table_length_text len = codes "job-shape table-length " ++ decimal len
+
+-- more tables than there may be
+unfoldable pub table_count_text : ℕ → ℕ → List ℕ
+table_count_text tables bound = codes "job-shape tables " ++ decimal tables ++ codes " bound " ++ decimal bound
+
+-- a difficulty above the greatest one
+unfoldable pub difficulty_text : ℕ → ℕ → List ℕ
+difficulty_text bits bound = codes "job-shape difficulty " ++ decimal bits ++ codes " bound " ++ decimal bound
+
+-- statements on another number of variables than the table has
+unfoldable pub arity_text : ℕ → ℕ → List ℕ
+arity_text expected actual = codes "job-shape variables " ++ decimal actual ++ codes " expected " ++ decimal expected
+
 -- a job of a wrong shape
-unfoldable pub shape_fault_text : ShapeFault → List ℕ
-shape_fault_text (TableLength len) = codes "job-shape table-length " ++ decimal len
-shape_fault_text (Difficulty bits bound) = codes "job-shape difficulty " ++ decimal bits ++ codes " bound " ++ decimal bound
-shape_fault_text (Arity expected actual) = codes "job-shape variables " ++ decimal actual ++ codes " expected " ++ decimal expected
+abbrev pub shape_fault_text : ShapeFault → List ℕ
+shape_fault_text (TableLength len) = table_length_text len
+shape_fault_text (Difficulty bits bound) = difficulty_text bits bound
+shape_fault_text (Arity expected actual) = arity_text expected actual
 
 -- a strategy that does not fit the job
 unfoldable pub fit_fault_text : FitFault → List ℕ

@@ -2,9 +2,9 @@
 use Rattle.std.specs.Prelude.{List, []}
 use Rattle.sc_definitions.specs.declared.events.Event.{Event}
 use Rattle.sc_definitions.specs.Events.{Rules}
-use Rattle.sumcheck_jobs.specs.declared.job.FieldName.{FieldName}
-use Rattle.sumcheck_jobs.specs.declared.job.Challenger.{Challenger}
-use Rattle.sumcheck_jobs.specs.declared.job.Sizes.{Sizes}
+use Rattle.sumcheck_members.specs.declared.job.FieldName.{FieldName}
+use Rattle.sumcheck_members.specs.declared.job.Challenger.{Challenger}
+use Rattle.sumcheck_members.specs.declared.job.Sizes.{Sizes}
 use Rattle.sumcheck_replies.specs.Fields.{Fields, fields_of, rules_by}
 use Rattle.sumcheck_replies.specs.Reply.{Reply}
 

@@ -1,13 +1,13 @@
 //! The challengers that jobs describe.
 ghost use Rattle.std.specs.Prelude.{◌≡◌, IfOk, []};
 ghost use Rattle.sc_definitions.specs.Scripted.{scripted_rules};
-ghost use Rattle.sumcheck_jobs.specs.Job.{ScriptFits};
+ghost use Rattle.sumcheck_members.specs.Stated.{ScriptFits};
 
 use crate::numbers::{element_lists, elements};
 use sc_challenger::{Challenger, ScriptedChallenger};
 use sc_field::{Field, NoMemory};
 use std::alloc::Global;
-use sumcheck_jobs::Script;
+use sumcheck_members::Script;
 
 /// The challenger with an empty history that a script describes.
 pub fn scripted<F: Field>(alloc: Global, script: &Script) -> Result<ScriptedChallenger<F>, NoMemory>

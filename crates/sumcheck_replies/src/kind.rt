@@ -1,7 +1,7 @@
 //! Kinds of jobs, and what is replied to an input that may describe one.
 ghost use Rattle.std.specs.Prelude.{◌≡◌, Ok, Err, IfOk};
 ghost use Rattle.serde_json.specs.View.{view};
-ghost use Rattle.sumcheck_jobs.specs.Members.{member_name, misfit_text};
+ghost use Rattle.sumcheck_members.specs.Members.{member_name, misfit_text};
 ghost use Rattle.sumcheck_replies.specs.Inputs.{IsReadAs};
 ghost use Rattle.sumcheck_replies.specs.Kinds.{Jobs, json_reply, jobs_reply};
 ghost use Rattle.sumcheck_replies.specs.Reply.{Replies, refused};
@@ -12,7 +12,7 @@ use sc_field::NoMemory;
 use sc_forms::{NoValue, read_value};
 use serde_json::Value;
 use std::alloc::Global;
-use sumcheck_jobs::{Member, Unread};
+use sumcheck_members::{Member, Unread};
 
 /// The greatest number of bytes of an input.
 pub const MAX_INPUT: usize = 67_108_864;

@@ -6,15 +6,16 @@ ghost use Rattle.sumcheck_replies.specs.Lines.{lucky_batch_line, lucky_batch_nam
 ghost use Rattle.sumcheck_replies.specs.Lines.{lucky_round_line, lucky_round_name};
 ghost use Rattle.sumcheck_replies.specs.Lines.{pairs_line, refuted_line, residual_line, round_line};
 ghost use Rattle.sumcheck_replies.specs.Lines.{rounds_text, shape_fault_text, spaced};
+ghost use Rattle.sumcheck_replies.specs.Lines.{arity_text, difficulty_text, table_count_text, table_length_text};
 ghost use Rattle.sumcheck_replies.specs.Lines.{weight_line, witness_text, witnesses_text};
 ghost use Rattle.sumcheck_replies.specs.Lines.{challenge_part, product_line, round_name, width_text};
 ghost use Rattle.sumcheck_replies.specs.Lines.{layer_name, round_text, witness_part};
-ghost use Rattle.sumcheck_jobs.specs.Members.{member_name, misfit_text};
+ghost use Rattle.sumcheck_members.specs.Members.{member_name, misfit_text};
 
 use sc_field::{Field, NoMemory};
 use sc_verdicts::{FitFault, ShapeFault};
 use std::alloc::{AllocError, Global};
-use sumcheck_jobs::Member;
+use sumcheck_members::Member;
 
 /// How many rows and how many statements there are, a line each.
 #[tactic(auto, unfolding(crate::specs::Lines::counts_lines))]
@@ -62,7 +63,7 @@ pub fn push_round_name(text: &mut String, i: usize) -> Result<(), AllocError>
     write!(text, "round {i}:")
 }
 
-/// The witness behind a round's values, if it has one.
+/// The witness after a round's values, if it has one.
 #[tactic(auto, unfolding(crate::specs::Lines::witness_part))]
 pub fn push_witness(text: &mut String, witness: Option<u64>) -> Result<(), AllocError>
     ensures { OnOk result (Adds text.old text.new (witness_part witness)) }
@@ -236,7 +237,7 @@ fn push_lucky_round_name(text: &mut String, round: usize, vanishing: u64) -> Res
 }
 
 /// A member that is missing or not of its form.
-#[tactic(auto, unfolding(sumcheck_jobs::specs::Members::misfit_text))]
+#[tactic(auto, unfolding(sumcheck_members::specs::Members::misfit_text))]
 pub fn misfit_text(alloc: Global, member: Member) -> Result<String, AllocError>
     ensures { IfOk result (λ s. string_bytes s ≡ misfit_text (member_name member)) }
 {
@@ -244,19 +245,46 @@ pub fn misfit_text(alloc: Global, member: Member) -> Result<String, AllocError>
     format!(in alloc; "bad-job {name}")
 }
 
+/// A table of so many rows, which does not fit.
+#[tactic(auto, unfolding(crate::specs::Lines::table_length_text))]
+pub fn table_length_text(alloc: Global, len: usize) -> Result<String, AllocError>
+    ensures { IfOk result (λ s. string_bytes s ≡ table_length_text len) }
+{
+    format!(in alloc; "job-shape table-length {len}")
+}
+
+/// How many tables there are, and how many there may be.
+#[tactic(auto, unfolding(crate::specs::Lines::table_count_text))]
+pub fn table_count_text(alloc: Global, tables: usize, bound: u64) -> Result<String, AllocError>
+    ensures { IfOk result (λ s. string_bytes s ≡ table_count_text tables bound) }
+{
+    format!(in alloc; "job-shape tables {tables} bound {bound}")
+}
+
+/// A difficulty that is above the greatest one.
+#[tactic(auto, unfolding(crate::specs::Lines::difficulty_text))]
+pub fn difficulty_text(alloc: Global, bits: usize, bound: usize) -> Result<String, AllocError>
+    ensures { IfOk result (λ s. string_bytes s ≡ difficulty_text bits bound) }
+{
+    format!(in alloc; "job-shape difficulty {bits} bound {bound}")
+}
+
+// On how many variables statements are, and how many the table has.
+#[tactic(auto, unfolding(crate::specs::Lines::arity_text))]
+fn arity_text(alloc: Global, expected: usize, actual: usize) -> Result<String, AllocError>
+    ensures { IfOk result (λ s. string_bytes s ≡ arity_text expected actual) }
+{
+    format!(in alloc; "job-shape variables {actual} expected {expected}")
+}
+
 /// What does not fit in the shape of a job.
-#[tactic(auto, unfolding(crate::specs::Lines::shape_fault_text))]
 pub fn shape_fault_text(alloc: Global, fault: ShapeFault) -> Result<String, AllocError>
     ensures { IfOk result (λ s. string_bytes s ≡ shape_fault_text fault) }
 {
     match fault {
-        ShapeFault::TableLength { len } => format!(in alloc; "job-shape table-length {len}"),
-        ShapeFault::Difficulty { bits, bound } => {
-            format!(in alloc; "job-shape difficulty {bits} bound {bound}")
-        }
-        ShapeFault::Arity { expected, actual } => {
-            format!(in alloc; "job-shape variables {actual} expected {expected}")
-        }
+        ShapeFault::TableLength { len } => table_length_text(alloc, len),
+        ShapeFault::Difficulty { bits, bound } => difficulty_text(alloc, bits, bound),
+        ShapeFault::Arity { expected, actual } => arity_text(alloc, expected, actual),
     }
 }
 

@@ -1,7 +1,7 @@
 //! Jobs over the fields and under the challengers that they name.
 ghost use Rattle.std.specs.Prelude.{◌≡◌};
-ghost use Rattle.sumcheck_jobs.specs.Elements.{sizes_of};
-ghost use Rattle.sumcheck_jobs.specs.Job.{ChallengerFits};
+ghost use Rattle.sumcheck_members.specs.Elements.{sizes_of};
+ghost use Rattle.sumcheck_members.specs.Stated.{ChallengerFits};
 ghost use Rattle.sumcheck_replies.specs.Fields.{fields_over, sizes_over};
 ghost use Rattle.sumcheck_replies.specs.Over.{Asks, own_reply, reply_over};
 ghost use Rattle.sumcheck_replies.specs.Reply.{Replies};
@@ -13,7 +13,7 @@ use sc_field::{ExtensionField, Field, IntoTranscriptField, NoMemory};
 use sc_sixteen::{Poly16, Tower16};
 use sc_small_fields::{F257, F257x2, F65537};
 use std::alloc::Global;
-use sumcheck_jobs::FieldName;
+use sumcheck_members::FieldName;
 
 /// Jobs that are answered over any of the fields that jobs name, under any challenger.
 pub trait FieldJobs {
@@ -29,7 +29,7 @@ pub trait FieldJobs {
         ensures { result ≡ asks.field job.now };
 
     /// A job's challenger.
-    fn challenger(job: &Self::Job) -> &sumcheck_jobs::Challenger
+    fn challenger(job: &Self::Job) -> &sumcheck_members::Challenger
         ensures { result.now ≡ asks.challenger job.now };
 
     /// The answer to a job over these fields, under this challenger. Represented tables are in `R`.
@@ -68,11 +68,11 @@ fn answer_over<F: Field, EF: ExtensionField<F>, R: IntoTranscriptField<EF>, J: F
         (fields_over F.ops EF.ops EF.extension EF.embedding) job) }
 {
     match J::challenger(&job) {
-        sumcheck_jobs::Challenger::Scripted(script) => {
+        sumcheck_members::Challenger::Scripted(script) => {
             let mut challenger: ScriptedChallenger<F> = scripted(alloc, script)?;
             J::answer::<F, EF, R, ScriptedChallenger<F>>(alloc, job, &mut challenger)
         }
-        sumcheck_jobs::Challenger::Hash => {
+        sumcheck_members::Challenger::Hash => {
             let mut challenger: HashChallenger<F> = HashChallenger::new(alloc);
             J::answer::<F, EF, R, HashChallenger<F>>(alloc, job, &mut challenger)
         }

@@ -1,11 +1,3 @@
-pub mod GroupLaws
-pub mod BuildReplies
-pub mod CertifiedLaws
-pub mod ReportLaws
 pub mod Outcomes
 pub mod RunLaws
 pub mod WordLaws
-pub mod MadeLaws
-pub mod StrideLaws
-pub mod MadeJobs
-pub mod WorkedMade

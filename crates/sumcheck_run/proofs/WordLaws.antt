@@ -8,10 +8,11 @@ use Rattle.std.proofs.lemmas.Slice.Eq.{bytes_eq-Decides}
 use Rattle.std.proofs.lemmas.Fmt.{decimal_injective}
 use Rattle.sc_table.specs.declared.strategy.Strategy.{Strategy}
 use Rattle.sc_table.specs.declared.strategy.Strategy.TheVariants.{Plain, Represented, SmallValue}
-use Rattle.sumcheck_run.specs.declared.command.Recipe.{Recipe}
-use Rattle.sumcheck_replies.specs.Witnesses.{least_below}
-use Rattle.sumcheck_run.specs.Words.{written_below, most_small, recipe_by, recipe_of, IsNamed, IsMade}
-use Rattle.sumcheck_replies.proofs.WitnessLaws.{least_below-first, least_below-none}
+use Rattle.sumcheck_make.specs.declared.recipe.Recipe.{Recipe}
+use Rattle.sc_definitions.specs.Least.{least_below}
+use Rattle.sumcheck_run.specs.Words.{written_below, recipe_by, recipe_of}
+use Rattle.sumcheck_make.specs.Recipes.{most_small, IsNamed, IsMade}
+use Rattle.sc_definitions.proofs.LeastLaws.{least_below-first, least_below-none}
 
 unequal : (xs ys : List ℕ) → xs ≢ ys → bytes_eq xs ys ≡ false
 unequal xs ys differ = false_from_ne_true (bytes_eq xs ys) (λ is. differ ((bytes_eq-Decides xs ys).0 is))

@@ -1,15 +1,15 @@
 -- The reply to a command line and an input.
 use Rattle.std.specs.Prelude.{◌≡◌, ℕ, List, [], ◌∷◌, map, String, string_bytes, codes, Bool, true, false, Option, Some, None, bytes_eq, if◌then◌else◌}
 use Rattle.std.specs.Option.{option_map}
-use Rattle.sumcheck_jobs.specs.declared.job.Job.{Job}
-use Rattle.sumcheck_jobs.specs.declared.product.ProductJob.{ProductJob}
+use Rattle.sumcheck_audit.specs.declared.job.Job.{Job}
+use Rattle.sumcheck_product.specs.declared.job.ProductJob.{ProductJob}
 use Rattle.sumcheck_replies.specs.declared.reply.Outcome.TheVariants.{Holds}
 use Rattle.sumcheck_replies.specs.Reply.{Reply, usage}
 use Rattle.sumcheck_replies.specs.Kinds.{AnyJobs, KeepsPromise, json_reply, jobs_reply}
 use Rattle.sumcheck_product.specs.CertifiedProducts.{product_jobs}
-use Rattle.sumcheck_run.specs.CertifiedJobs.{audit_jobs}
+use Rattle.sumcheck_audit.specs.CertifiedJobs.{audit_jobs}
 use Rattle.sumcheck_run.specs.Words.{recipe_of}
-use Rattle.sumcheck_run.specs.Made.{made_reply}
+use Rattle.sumcheck_make.specs.Made.{made_reply}
 use Rattle.sumcheck_run.specs.declared.command.Kind.{Kind}
 use Rattle.sumcheck_run.specs.declared.command.Kind.TheVariants.{Audit, Product}
 use Rattle.sumcheck_run.specs.declared.command.Command.{Command}

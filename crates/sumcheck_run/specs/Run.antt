@@ -55,7 +55,7 @@ abbrev pub IsInput : Bool → Option (List ℕ) → ℕ → ℕ → List ℕ →
 IsInput true left faults faults' input = (left ≡ Some input) × ¬ HasRisen faults faults'
 IsInput false left faults faults' input = Unit {0}
 
--- The same of a source that was left as it is behind.
+-- The same of a source, as it stood before and as it stands after.
 abbrev pub TellsInput : {S : Type 0} → Option Command → (S → Option (List ℕ)) → (S → ℕ) → S → S → List ℕ → Type 0
 TellsInput command left faults source source' input = IsInput (reads_input command) (left source) (faults source) (faults source') input
 

@@ -1,21 +1,18 @@
 -- What the words of a command line write.
-use Rattle.std.specs.Prelude.{◌≡◌, ℕ, min, ◌+◌, ◌<◌, ◌≤◌, ◌==◌, List, codes, decimal, bytes_eq, if◌then◌else◌, Option, Some, None}
+use Rattle.std.specs.Prelude.{ℕ, min, ◌+◌, ◌==◌, List, codes, decimal, bytes_eq, if◌then◌else◌, Option, Some, None}
 use Rattle.std.specs.Option.{option_map}
 use Rattle.sc_table.specs.declared.strategy.Strategy.{Strategy}
 use Rattle.sc_table.specs.declared.strategy.Strategy.TheVariants.{Plain, Represented, SmallValue}
 use Rattle.sc_verdicts.specs.Arities.{most_variables}
 use Rattle.sumcheck_run.specs.declared.command.Command.{Command}
 use Rattle.sumcheck_run.specs.declared.command.Command.TheVariants.{Judge, Make}
-use Rattle.sumcheck_run.specs.declared.command.Recipe.{Recipe}
-use Rattle.sumcheck_replies.specs.Witnesses.{least_below}
+use Rattle.sumcheck_make.specs.declared.recipe.Recipe.{Recipe}
+use Rattle.sumcheck_make.specs.Recipes.{most_small, IsMade}
+use Rattle.sc_definitions.specs.Least.{least_below}
 
 -- the number below a bound that a word writes in decimal digits, without a sign or a leading zero, if it writes one
 unfoldable pub written_below : ℕ → List ℕ → Option ℕ
 written_below bound word = least_below bound (λ n. bytes_eq word (decimal n))
-
--- the greatest number of variables that the small-value rounds of a job that is made bind
-abbrev pub most_small : ℕ
-most_small = 8
 
 -- the strategy that a word names for a job of n variables, if it names one
 abbrev pub strategy_of : ℕ → List ℕ → Option Strategy
@@ -33,19 +30,6 @@ recipe_by variables number strategy = None
 -- the recipe that three words write: from 1 to 24 variables, a number from 0 to 65536, and a strategy
 abbrev pub recipe_of : List ℕ → List ℕ → List ℕ → Option Recipe
 recipe_of variables number strategy = recipe_by (written_below (most_variables + 1) variables) (written_below 65537 number) (λ n. strategy_of n strategy)
-
--- a word names the strategy for a job of n variables
-abbrev pub IsNamed : ℕ → Strategy → Type 0
-IsNamed n Plain = Unit {0}
-IsNamed n Represented = Unit {0}
-IsNamed n (SmallValue variables) = variables ≡ min n most_small
-
--- a job is made by it
-pub record IsMade (r : Recipe) : Type 0 where
-  pub some : 0 < r.variables
-  pub few : r.variables ≤ most_variables
-  pub number : r.number < 65537
-  pub strategy : IsNamed r.variables r.strategy
 
 -- a recipe that a command has is one by which a job is made
 abbrev pub CommandFits : Option Command → Type 0

@@ -5,6 +5,7 @@ ghost use Rattle.sumcheck_run.specs.Words.{CommandFits, recipe_of, strategy_of, 
 
 use itoa::Buffer;
 use sc_table::Strategy;
+use sumcheck_make::Recipe;
 
 // The greatest number of variables of a job that is made, and how many numbers begin one.
 const MOST_VARIABLES: u64 = 24;
@@ -13,18 +14,6 @@ const NUMBERS: u64 = 65537;
 
 // The greatest number of variables that the small-value rounds of such a job bind.
 const MOST_SMALL: usize = 8;
-
-/// What a job is made of, how its rounds are built aside.
-#[derive(Clone, Copy, Debug, PartialEq, Eq)]
-pub struct Recipe {
-    /// How many variables its table has, from 1 to 24.
-    pub variables: usize,
-    /// The number that its values begin with, from 0 to 65536.
-    pub number: u64,
-    /// How its rounds are built. Small-value rounds are for as many variables as there are, at most
-    /// 8.
-    pub strategy: Strategy,
-}
 
 /// The kinds of jobs that an input may describe, each by the one word of its command.
 #[derive(Clone, Copy, Debug, PartialEq, Eq)]

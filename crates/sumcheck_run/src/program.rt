@@ -13,11 +13,11 @@ ghost use Rattle.sumcheck_run.specs.Run.{reading_failed, want_of_memory, writing
 ghost use Rattle.sumcheck_run.specs.Words.{CommandFits};
 
 use crate::command::{Command, Kind, needs_input, read_command};
-use crate::kind::AuditJobs;
-use crate::made::make;
 use sc_field::NoMemory;
 use sc_streams::{ReadFault, Sink, Source, read_all, write_all};
 use std::alloc::Global;
+use sumcheck_audit::AuditJobs;
+use sumcheck_make::make;
 use sumcheck_product::ProductJobs;
 use sumcheck_replies::{Answer, MAX_INPUT, reply_to};
 
@@ -134,7 +134,7 @@ pub fn run<S: Source, K: Sink>(
     // It reads at most one byte past the limit, and at most one read gives no byte.
     ensures sparing { ReadsLittle S.given S.dry source.old source.new }
 
-    // Each fault is told, by 6 and by 7 and by nothing else, and nothing is tried behind it.
+    // Each fault is told, by 6 and by 7 and by nothing else, and nothing is tried after it.
     ensures reading { TellsFaults S.faults S.late source.old source.new reading_failed result.code }
     ensures writing { TellsFaults K.faults K.late sink.old sink.new writing_failed result.code }
 {

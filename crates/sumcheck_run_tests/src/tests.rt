@@ -220,7 +220,7 @@ fn a_part_of_a_job_and_bytes_that_are_no_text_are_no_json(rt: HostRuntime) {
     assert_answer_to(&rt, rt.alloc(), name, b"\"\xff\"", 3, text);
 }
 
-// So many claims as the items of a list, of claims with a comma behind each.
+// So many claims as the items of a list, of claims with a comma after each.
 fn list_of<A: Abort>(rt: &A, alloc: Global, claim: &str, count: usize) -> String {
     let mut list = claim.repeat(alloc, count).expect(rt, "memory");
     list.pop();
@@ -229,7 +229,7 @@ fn list_of<A: Abort>(rt: &A, alloc: Global, claim: &str, count: usize) -> String
 
 const MANY_TEXT: &str = "claim 28672\nresidual 28672\neval 7\nweight 4096\nverdict holds\n";
 
-// How many claims a job has at points, and how many behind them at scalars, all of them true, and what is answered.
+// How many claims a job has at points, and how many after them at scalars, all of them true, and what is answered.
 static COUNTS: [(usize, usize, u8, &str); 4] = [
     // 4,096 times 7, and 4,096 weights of 1
     (4096, 0, 0, MANY_TEXT),

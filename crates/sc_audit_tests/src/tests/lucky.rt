@@ -73,8 +73,8 @@ const BATCH_AND_ROUND: Case = Case {
     ..LUCKY_BATCH
 };
 
-// One false claim behind a claim that is there already, under the challenge 0: what it claims too
-// much, 4, stands behind a zero, since powers begin at 1.
+// One false claim after a claim that is there already, under the challenge 0: what it claims too
+// much, 4, stands after a zero, since powers begin at 1.
 const EXISTING: Case = Case {
     name: "a false claim behind an existing one, at the challenge 0",
     task: Task::Check(&[(0, 0)], &[]),

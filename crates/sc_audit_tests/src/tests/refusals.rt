@@ -1,4 +1,4 @@
-//! What is refused before a round is played, each behind a history.
+//! What is refused before a round is played, each after a history.
 use super::seventeen::F17;
 use super::{Case, Last, PREFIX, Task, assert_all};
 use sc_audit::{AuditError, FitFault, ShapeFault, Strategy};
@@ -39,7 +39,7 @@ const FALSE: Case = Case {
     ..BUILD
 };
 
-// A select behind a claim, in small-value rounds. Its value is false.
+// A select after a claim, in small-value rounds. Its value is false.
 const SELECT: Case = Case {
     name: "a select in small-value rounds",
     claims: &[(&[2, 5], 14)],

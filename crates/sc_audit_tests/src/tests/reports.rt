@@ -482,7 +482,7 @@ const FAILS_FIRST: Case = Case {
     ..FAILS_SECOND
 };
 
-// The same behind a history with a draw.
+// The same after a history with a draw.
 static BEHIND: [Case; 4] = [
     Case {
         name: "rounds that are built",

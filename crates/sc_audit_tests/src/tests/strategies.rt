@@ -11,7 +11,7 @@ use sc_sixteen::Tower16;
 use std::process::Abort;
 
 // A prover of the claim of a case, which is false, by its strategy: what it sends first, and then
-// behind each first challenge; it sends zeros where that says nothing. And how many lists of
+// after each first challenge; it sends zeros where that says nothing. And how many lists of
 // challenges let the claim through by the first round, and how many by the second.
 #[derive(Clone, Copy)]
 struct FalseProver {
@@ -128,7 +128,7 @@ const OTHER_TABLE: FalseProver = FalseProver {
     through: (18, 26),
 };
 
-// A first pair with two roots; behind these the true rounds, and else pairs with two roots. No
+// A first pair with two roots; after these the true rounds, and else pairs with two roots. No
 // strategy has more lists.
 const MOST: FalseProver = FalseProver {
     name: "as many as can be",
@@ -235,7 +235,7 @@ fn challenges_of<R: Abort + AllocGlobal>(rt: &R, variables: usize, number: u64) 
     challenges
 }
 
-// What a prover sends behind a first challenge.
+// What a prover sends after a first challenge.
 fn second(prover: &FalseProver, first: u64) -> Pair {
     match prover.then.get(first as usize) {
         Some(pair) => *pair,

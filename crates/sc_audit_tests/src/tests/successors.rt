@@ -69,7 +69,7 @@ static LARGE: [Case; 5] = [
     },
 ];
 
-// Two values at points, in two groups, and a successor behind them, modulo 17.
+// Two values at points, in two groups, and a successor after them, modulo 17.
 const MIXED: Case = Case {
     name: "two kinds in prefix order",
     claims: &[(&[2, 5], 14)],
@@ -132,7 +132,7 @@ static TWO_KINDS: [Case; 5] = [
     },
 ];
 
-// A false successor alone, behind a history with a draw, to which nothing is appended.
+// A false successor alone, after a history with a draw, to which nothing is appended.
 const FALSE: Case = Case {
     name: "a false successor on small values",
     claims: &[],

@@ -11,7 +11,7 @@ static EMPTY: [u8; 32] = [
     0x27, 0xae, 0x41, 0xe4, 0x64, 0x9b, 0x93, 0x4c, 0xa4, 0x95, 0x99, 0x1b, 0x78, 0x52, 0xb8, 0x55,
 ];
 
-// Plays over the integers modulo 65537, each from the empty history on. The state behind the word of a witness that fails
+// Plays over the integers modulo 65537, each from the empty history on. The state after the word of a witness that fails
 // begins with one zero bit fewer than the test has.
 static PLAYS: [&[Step]; 4] = [
     &[
@@ -71,7 +71,7 @@ static TESTS_OF_EIGHT_BITS: [Step; 8] = [
     Draw(50111),
 ];
 
-// What a copy is taken behind, and what follows on either.
+// What a copy is taken after, and what follows on either.
 static BEFORE_A_COPY: [Step; 3] = [Observe(5), Draw(20956), Test(1, 3, true)];
 
 static BEHIND_A_COPY: [Step; 2] = [Draw(31044), Draw(63116)];

@@ -108,7 +108,7 @@ impl<EF: Field> EqStatement<EF> {
         Ok(())
     }
 
-    /// Adds the statements of `other`, in order, behind those that there are; each point is copied.
+    /// Adds the statements of `other`, in order, after those that there are; each point is copied.
     /// Both speak of tables of one number of variables. `NoMemory` leaves the statements as they were.
     pub fn concatenate(&mut self, other: &Self) -> Result<(), NoMemory>
         requires { eq_arity other.now ≡ eq_arity self.old }

@@ -9,7 +9,7 @@ use std::alloc::Global;
 use std::process::Abort;
 
 // A shape, its steps, and the words of its seed as hexadecimal digits: the version, the protocol's
-// name behind its length, the number of steps, the steps, and the length of the empty label.
+// name after its length, the number of steps, the steps, and the length of the empty label.
 struct Wanted {
     shape: GenericDegreeShape,
     steps: &'static [Interaction],

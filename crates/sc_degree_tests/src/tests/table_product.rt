@@ -3,7 +3,7 @@
 ghost use Rattle.std.specs.Prelude.{◌≡◌, ◌+◌, ◌<◌, ◌≤◌, length, vec_len, IfOk};
 ghost use Rattle.sc_table.specs.Polys.{variables_of};
 ghost use Rattle.sc_degree.specs.Arities.{HaveArity};
-ghost use Rattle.sc_degree.specs.Products.{tables_of, arity_of};
+ghost use Rattle.sc_degree.specs.Products.{tables_of, product_arity};
 
 use sc_degree::{RoundProver, TableProduct};
 use sc_field::{Field, NoMemory};
@@ -191,7 +191,7 @@ fn two_rows<F: Field>(alloc: Global, rows: (u64, u64)) -> Result<Poly<F>, NoMemo
 // The product of tables of these two rows each.
 fn product_of<F: Field>(alloc: Global, rows: &[(u64, u64)]) -> Result<TableProduct<F>, NoMemory>
     requires { 0 < length rows.now }
-    ensures arity { IfOk result (λ p. arity_of p ≡ 1) }
+    ensures arity { IfOk result (λ p. product_arity p ≡ 1) }
     ensures degree { IfOk result (λ p. length (tables_of F.number p) ≡ length rows.now) }
 {
     let mut tables = Vec::new(alloc);

@@ -4,7 +4,7 @@
 
 ghost use Rattle.std.specs.Prelude.{◌≡◌, ◌^◌, All, IfOk, length};
 ghost use Rattle.sc_table.specs.Polys.{variables_of};
-ghost use Rattle.sc_degree.specs.Products.{tables_of, arity_of};
+ghost use Rattle.sc_degree.specs.Products.{tables_of, product_arity};
 
 use sc_degree::{FoundTurn, TableProduct, find_turn};
 use sc_field::{Field, NoMemory};
@@ -35,7 +35,7 @@ fn product_of<F: Field>(
 ) -> Result<TableProduct<F>, NoMemory>
     requires first { length first.now ≡ 2 ^ variables }
     requires second { length second.now ≡ 2 ^ variables }
-    ensures arity { IfOk result (λ p. arity_of p ≡ variables) }
+    ensures arity { IfOk result (λ p. product_arity p ≡ variables) }
     ensures degree { IfOk result (λ p. length (tables_of F.number p) ≡ 2) }
 {
     let mut tables = Vec::new(alloc);
@@ -64,8 +64,8 @@ fn searched<F: Field>(
     rounds: &[(u64, u64)],
     challenges: &[u64],
 ) -> Result<(Option<FoundTurn<F>>, u64), NoMemory>
-    requires rounds { length rounds.now ≡ arity_of product }
-    requires challenges { length challenges.now ≡ arity_of product }
+    requires rounds { length rounds.now ≡ product_arity product }
+    requires challenges { length challenges.now ≡ product_arity product }
     requires degree { length (tables_of F.number product) ≡ 2 }
 {
     let mut product = product;
@@ -119,8 +119,8 @@ fn a_challenge_that_turns_a_false_claim(rt: HostRuntime) {
     assert_one(&rt, rt.alloc(), 20, (8, 18), 5, Some([5, 65536, 0]), 48);
 }
 
-// A claim that is true from the start, with the true values, is true behind round 0 too: that is
-// the first round behind which it is, and what it sends less the true polynomial is all zeros.
+// A claim that is true from the start, with the true values, is true after round 0 too: that is
+// the first round after which it is, and what it sends less the true polynomial is all zeros.
 #[test]
 fn a_claim_that_is_true_from_the_start(rt: HostRuntime) {
     assert_one(&rt, rt.alloc(), 11, (3, 15), 5, Some([0, 0, 0]), 48);

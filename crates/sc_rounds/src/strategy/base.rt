@@ -55,7 +55,7 @@ impl<'a, F: Field, EF: ExtensionField<F>> BaseProduct<'a, F, EF> {
     ghost use Rattle.sc_transcript.specs.Shapes.{shape_of};
     ghost use Rattle.sc_transcript.specs.Batches.{
       IsHalted,
-      Counts,
+      CountsOne,
       PlaysWhole,
       PlaysFrom,
       StopsFrom,
@@ -188,7 +188,7 @@ impl<'a, F: Field, EF: ExtensionField<F>> BaseProduct<'a, F, EF> {
         requires variables { 0 < (base_shown self.now).variables }
         requires left { HasRoundLeft (driver_in transcript.old) }
         ensures continues { Continues (driver_in transcript.old) (driver_in transcript.new) }
-        ensures counts { Counts (driver_in transcript.old) (driver_in transcript.new) result }
+        ensures counts { CountsOne (driver_in transcript.old) (driver_in transcript.new) result }
         ensures message { IfOk result (λ p. EF.number p.0.c_a ∷ EF.number p.0.c_inf ∷ []
             ≡ message_shown EF.ops (base_shown self.now)) }
         ensures round { IfOk result (λ p. IsRound

@@ -66,7 +66,7 @@ fn play_four(
 }
 
 // How so many rounds on the table by hand are wrong, if they are: their challenges, their messages,
-// or how the prover stands behind them.
+// or how the prover stands after them.
 fn wrong_by_hand(
     alloc: Global,
     wanted: &Play,

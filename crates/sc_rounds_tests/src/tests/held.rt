@@ -67,7 +67,7 @@ enum Reader {
 }
 
 // Whether the reader, asked before all others, tells of the tables that are bound, and nothing is
-// held behind it.
+// held after it.
 fn reads_bound(
     alloc: Global,
     prover: &mut SumcheckProver<F65537, F65537>,

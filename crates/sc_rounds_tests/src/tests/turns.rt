@@ -1,4 +1,4 @@
-//! The round behind which a false claim is the true one, by figures by hand over the integers
+//! The round after which a false claim is the true one, by figures by hand over the integers
 //! modulo 65537.
 ghost use Rattle.std.specs.Prelude.{◌≡◌, ◌≤◌, IfOk};
 ghost use Rattle.sc_table.specs.Polys.{variables_of};
@@ -45,7 +45,7 @@ const ONE: Played = Played {
 };
 
 // The second row of a table of four is 2, and claimed to be 5. In prefix order the first true
-// polynomial is 2 - 2 X^2, whose values at 0 and at 1 are 2 in sum, and the second one, behind the
+// polynomial is 2 - 2 X^2, whose values at 0 and at 1 are 2 in sum, and the second one, after the
 // challenge 3, is (7 + X) (-2 X). Under the claim 5 the first round sends 5 - 4 X - X^2, which is
 // more by (X - 1) (X - 3).
 const FIRST: Played = Played {
@@ -60,7 +60,7 @@ const FIRST: Played = Played {
     found: Some((0, &[3, 65533, 1])),
 };
 
-// In suffix order they are X + X^2, and (4 + 2 X) (3 - 3 X) behind the challenge 3. The first round
+// In suffix order they are X + X^2, and (4 + 2 X) (3 - 3 X) after the challenge 3. The first round
 // sends 3 - 3 X + 2 X^2.
 const FIRST_SUFFIX: Played = Played {
     name: "the first of two rounds in suffix order",
@@ -116,7 +116,7 @@ static PLAYED: [Played; 9] = [
     },
 ];
 
-// The table of so many variables with these entries, and zeros behind them.
+// The table of so many variables with these entries, and zeros after them.
 fn filled(alloc: Global, variables: usize, values: &[u64]) -> Result<Poly<F65537>, NoMemory>
     requires { variables ≤ 16 }
     ensures { IfOk result (λ p. variables_of p ≡ variables) }

@@ -23,7 +23,7 @@ static TRUE: [u64; 7] = [2, 8, 3, 8, 49, 1, 7];
 
 static GIVEN: [u64; 7] = [11, 12, 13, 14, 15, 16, 17];
 
-// What each of the seven claims first, less its true value, behind a zero for the power 0.
+// What each of the seven claims first, less its true value, after a zero for the power 0.
 static EXCESSES: [u64; 8] = [0, 3, 65535, 0, 65534, 0, 0, 2];
 
 // Two values at points, two through the successor map, two that scalars select, and one that a

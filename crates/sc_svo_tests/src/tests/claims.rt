@@ -100,7 +100,7 @@ fn weights_at<EF: Field>(
     }
 }
 
-// What each row's weight becomes where it stands in the row behind it, and that of the last row in
+// What each row's weight becomes where it stands in the row after it, and that of the last row in
 // the last row itself.
 fn moved_up<EF: Field>(alloc: Global, equal: &Poly<EF>, n: usize) -> Result<Poly<EF>, NoMemory>
     requires few { n ≤ 10 }

@@ -35,7 +35,7 @@ fn value_at<F: Field>(table: &[F], digits: &[usize]) -> F
 
 // A digit for each of four variables, in the order in which they are bound, at a place of a round's
 // grid: of the variables before the round's own, the first has the place's lowest digit to the base
-// 3; those behind it have a row's bits.
+// 3; those after it have a row's bits.
 fn digits_of(round: usize, place: usize, own: usize, row: usize) -> [usize; 4] {
     let mut digits = [own; 4];
     let (mut places, mut rows) = (place, row);
@@ -75,7 +75,7 @@ fn product<F: Field>(
 }
 
 // The value at a place of a round's grid with the round's own variable at a digit: the sum over the
-// rows of the variables behind it, of which a table of n variables has n - 1 - round.
+// rows of the variables after it, of which a table of n variables has n - 1 - round.
 fn plain_value<F: Field>(
     order: VariableOrder,
     evals: &[F],

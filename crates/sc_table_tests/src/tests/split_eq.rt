@@ -61,7 +61,7 @@ fn four_values_compressed(rt: HostRuntime) {
     }
 }
 
-// `scale` times the equality weights of the rows of a point, behind so many zeros.
+// `scale` times the equality weights of the rows of a point, after so many zeros.
 fn plain_weights<E: Field>(
     alloc: Global,
     z: &[E],

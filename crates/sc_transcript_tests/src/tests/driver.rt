@@ -1,4 +1,4 @@
-//! A protocol of its own on the drivers: rounds of three values, behind two words.
+//! A protocol of its own on the drivers: rounds of three values, after two words.
 ghost use Rattle.std.specs.Prelude.{◌≡◌, ◌≤◌, Some, length};
 
 use super::{ends, numbers};

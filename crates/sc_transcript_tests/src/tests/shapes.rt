@@ -7,8 +7,8 @@ use sc_transcript::{SumcheckShape, shape_laws};
 use std::alloc::Global;
 use std::process::Abort;
 
-// A shape, its steps, and the words of its seed as hexadecimal digits: the version, the protocol's name behind its length, the number of steps, the steps,
-// and the basis behind its length.
+// A shape, its steps, and the words of its seed as hexadecimal digits: the version, the protocol's name after its length, the number of steps, the steps,
+// and the basis after its length.
 struct Wanted {
     shape: SumcheckShape,
     steps: &'static [Interaction],

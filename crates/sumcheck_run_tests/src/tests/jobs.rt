@@ -17,7 +17,7 @@ pub(super) const SUFFIX_TEXT: &str =
 pub(super) const FALSE: &str =
     r#"{"field":"65537","challenger":{"draws":[2],"witnesses":[]},"order":"prefix","bits":0,"table":[1,2],"variables":1,"groups":[{"kind":"eq","claims":[{"point":[0],"value":5}]}],"batching":1,"mode":{"build":"plain"}}"#;
 
-// The same behind a claim that is true.
+// The same after a claim that is true.
 pub(super) const SECOND_FALSE: &str =
     r#"{"field":"65537","challenger":{"draws":[2],"witnesses":[]},"order":"prefix","bits":0,"table":[1,2],"variables":1,"groups":[{"kind":"eq","claims":[{"point":[1],"value":2},{"point":[0],"value":5}]}],"batching":1,"mode":{"build":"plain"}}"#;
 
@@ -66,6 +66,6 @@ pub(super) const NO_ROUND: &str =
 pub(super) const SUFFIX_CUBE: &str =
     r#"{"field":"65537","challenger":{"draws":[10,20,65536],"witnesses":[]},"order":"suffix","bits":0,"table":[3,1,4,1,5,9,2,6],"variables":3,"groups":[{"kind":"eq","claims":[{"point":[0,1,1],"value":1},{"point":[1,0,1],"value":9},{"point":[2,3,5],"value":VALUE}]}],"batching":7,"mode":{"build":"plain"}}"#;
 
-// A job without variables, with so many claims at points, and behind them at scalars.
+// A job without variables, with so many claims at points, and after them at scalars.
 pub(super) const MANY: &str =
     r#"{"field":"65537","challenger":{"draws":[],"witnesses":[]},"order":"prefix","bits":0,"table":[7],"variables":0,"groups":[{"kind":"eq","claims":[POINTS]},{"kind":"select","scalars":[SCALARS]}],"batching":1,"mode":{"build":"plain"}}"#;

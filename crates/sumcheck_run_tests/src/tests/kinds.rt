@@ -16,7 +16,7 @@ const THREE_VARIABLES: &str =
 
 // Groups on two variables at most.
 static KINDS: [Changed; 8] = [
-    // a successor and a scalar behind it
+    // a successor and a scalar after it
     (
         TWO_VARIABLES,
         (
@@ -26,7 +26,7 @@ static KINDS: [Changed; 8] = [
         0,
         "claim 493\nround 0: 54 174 challenge 3\nround 1: 637 111 challenge 4\nresidual 5885\neval 11\nweight 535\nverdict holds\n",
     ),
-    // a successor and a scalar behind it
+    // a successor and a scalar after it
     (
         TWO_VARIABLES,
         (
@@ -208,7 +208,7 @@ static ROUNDS: [Changed; 2] = [
     ),
 ];
 
-// A job whose batching element is no element, behind its groups, and whose mode is none.
+// A job whose batching element is no element, after its groups, and whose mode is none.
 const NO_BATCHING: &str =
     r#"{"field":"65537","challenger":{"draws":[3,4],"witnesses":[]},"table":[1,2,3,4],"variables":2,"order":"prefix","bits":0,"groups":GROUPS,"batching":65537,"mode":null}"#;
 

@@ -4,7 +4,7 @@ use super::{Case, assert_cases};
 
 // Jobs over the integers modulo 65537 whose rounds stray from the honest ones.
 static ROUNDS: [Case; 6] = [
-    // the second round is the first one behind which the claim is true
+    // the second round is the first one after which the claim is true
     (
         r#"{"field":"65537","challenger":{"draws":[3,4],"witnesses":[]},"order":"prefix","bits":0,
             "table":[1,2,3,4],"variables":2,

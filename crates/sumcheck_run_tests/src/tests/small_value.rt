@@ -42,7 +42,7 @@ static UNFIT: [Refusal; 10] = [
         "claims":[{"selector":[],"point":[2,3],"order":"suffix","value":4}]}"#,
         "false-claim 0 claimed 4 true 3",
     ),
-    // a statement that does not fit stands behind one that does
+    // a statement that does not fit stands after one that does
     (
         "GROUPS",
         r#"{"kind":"next",

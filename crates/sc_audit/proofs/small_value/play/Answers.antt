@@ -56,7 +56,7 @@ play_rest-requires-clause-sum g c =
     (wire_in g.F.Field.number N c.play_small.new.sumcheck_data) (c.in_ok-play_small.ensures.drawn p c.requires.batch c.requires.claim) ring
     (begun_true o ring p t.history t.wire c.requires.all_true)
 
--- a round behind them was refused
+-- a round after them was refused
 pub returns-in_err-play_rest-clause-played : goal.returns-in_err-play_rest-clause-played
 returns-in_err-play_rest-clause-played g c =
     let N = g.EF.Field.number in

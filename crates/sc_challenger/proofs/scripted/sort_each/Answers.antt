@@ -9,7 +9,7 @@ loop-list-preserved g c =
     goes_on g.F.Field.number (λ list. list.items) c.loop-list.list-index _ c.loop-list.lists c.list-item.result c.sort.new.list (search rules)
     c.sort.ensures.sorted c.sort.ensures.moved c.loop-list.invariant
 
--- behind the loop all are
+-- after the loop all are
 pub returns-clause-sorted : goal.returns-clause-sorted
 returns-clause-sorted g c k d low =
     let many = length-map c.loop-list.lists (λ list. map g.F.Field.number list.items) in

@@ -1,7 +1,7 @@
 use Rattle.std.proofs.Common.{◌≡◌}
 use Rattle.sc_transcript.specs.Drivers.{channel_of, Continues}
 use Rattle.sc_transcript.specs.Transcripts.{driver_in}
-use Rattle.sc_degree.specs.Plays.{IsReady, playing, HasPlayed}
+use Rattle.sc_degree.specs.Plays.{IsReady, playing, Progresses}
 use Rattle.sc_degree.proofs.prover.play.Given as goal
 
 abbrev pub invariant-loop-round : goal.invariant-loop-round
@@ -13,5 +13,5 @@ invariant-loop-round g l =
       continues : Continues begun (driver_in l.transcript);
       count : (driver_in l.transcript).played ≡ l._round;
       ready : IsReady g.EF.Field.ops.size (driver_in l.transcript) (prover l.prover) l.played;
-      played : HasPlayed g.EF.Field.ops (channel_of g.EF.ExtensionField.extension begun) (at begun (prover l.fn.prover) l.fn.played) (at (driver_in l.transcript) (prover l.prover) l.played);
+      played : Progresses g.EF.Field.ops (channel_of g.EF.ExtensionField.extension begun) (at begun (prover l.fn.prover) l.fn.played) (at (driver_in l.transcript) (prover l.prover) l.played);
     }

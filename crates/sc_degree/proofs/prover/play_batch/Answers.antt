@@ -5,11 +5,11 @@ use Rattle.sc_transcript.specs.Transcripts.{driver_in}
 use Rattle.sc_transcript.proofs.ReplayedLaws.{same_channel}
 use Rattle.sc_transcript.proofs.Lent.{returned}
 use Rattle.sc_degree.specs.Provers.{Play, play_of}
-use Rattle.sc_degree.specs.Plays.{Standing, playing}
+use Rattle.sc_degree.specs.Plays.{Progress, playing}
 use Rattle.sc_degree.proofs.PlayLaws.{all_played, stopped_at}
 use Rattle.sc_degree.proofs.prover.play_batch.Goals as goal
 
--- all rounds are played behind the seed and the claimed sum
+-- all rounds are played after the seed and the claimed sum
 pub returns-in-Ok-clause-left : goal.returns-in-Ok-clause-left
 returns-in-Ok-clause-left g c =
     let N = g.EF.Field.number in
@@ -18,7 +18,7 @@ returns-in-Ok-clause-left g c =
     let begun = c.over-transcript.ensures in
     let told = c.in-Ok.ensures in
     let q : Play = play_of g.EF.Field.ops (channel (R c.args.challenger.now) g.EF.ExtensionField.extension g.F.Field.ops.size c.args.shape.pow_bits) c.args.shape (N c.args.claimed_sum) (H c.args.challenger.now) in
-    let start : Standing = playing g.F.Field.number N (driver_in c.over-transcript.result) (g.P.RoundProver.meaning c.args.prover.now) c.in_ok-played.played in
+    let start : Progress = playing g.F.Field.number N (driver_in c.over-transcript.result) (g.P.RoundProver.meaning c.args.prover.now) c.in_ok-played.played in
     let same = same_channel g.F.Field.ops.size (ap R begun.lent.same ∙ c.in_ok-begin.ensures.rules) (ap (λ (s : BatchShape). s.pow_bits) begun.fresh.shape) in (
       told.rounds.0.claimed ∙ c.in_ok-played.ensures.claimed,
       all_played q start (ap H begun.lent.same ∙ c.in_ok-begin.ensures.history) same _ _ _ told.rounds.0
@@ -35,7 +35,7 @@ returns-in-Err-clause-left g c =
     let begun = c.over-transcript.ensures in
     let told = c.in-Err.ensures in
     let q : Play = play_of g.EF.Field.ops (channel (R c.args.challenger.now) g.EF.ExtensionField.extension g.F.Field.ops.size c.args.shape.pow_bits) c.args.shape (N c.args.claimed_sum) (H c.args.challenger.now) in
-    let start : Standing = playing g.F.Field.number N (driver_in c.over-transcript.result) (g.P.RoundProver.meaning c.args.prover.now) c.in_ok-played.played in
+    let start : Progress = playing g.F.Field.number N (driver_in c.over-transcript.result) (g.P.RoundProver.meaning c.args.prover.now) c.in_ok-played.played in
     let same = same_channel g.F.Field.ops.size (ap R begun.lent.same ∙ c.in_ok-begin.ensures.rules) (ap (λ (s : BatchShape). s.pow_bits) begun.fresh.shape) in
     stopped_at q start (ap H begun.lent.same ∙ c.in_ok-begin.ensures.history) g.F.Field.number N same (ap (λ (s : BatchShape). s.num_rounds) begun.fresh.shape) _ _ c.in-Err.error
     c.requires.variables told.rounds (ap H (returned (search rules) told.continues.lender begun.lent.lender c.abort.ensures))

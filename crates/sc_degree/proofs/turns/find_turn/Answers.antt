@@ -5,7 +5,7 @@ use Rattle.sc_definitions.specs.Polynomials.{poly_minus}
 use Rattle.sc_definitions.specs.Products.{product_round}
 use Rattle.sc_table.specs.Polys.{table_of}
 use Rattle.sc_degree.specs.Provers.{IsFolded}
-use Rattle.sc_degree.specs.Products.{prover_of, tables_of, arity_of}
+use Rattle.sc_degree.specs.Products.{prover_of, tables_of, product_arity}
 use Rattle.sc_degree.proofs.PlayLaws.{sent_width}
 use Rattle.sc_degree.proofs.TurnLaws.{Finds, finds-more, finds-here, finds-none, folded-rest, folded-whole, value-left}
 use Rattle.sc_degree.proofs.turns.find_turn.Goals as goal
@@ -35,17 +35,17 @@ returns-then-index-clause-found g c =
     let gs = tables_of N product in
     let i = c.loop-i.i in
     let inv = c.loop-i.invariant in
-    let m = arity_of product - 1 in
-    let more : arity_of product ≡ suc m = omega (arith, inv.left, c.loop-i-test.true) in
+    let m = product_arity product - 1 in
+    let more : product_arity product ≡ suc m = omega (arith, inv.left, c.loop-i-test.true) in
     let y = c.index-messages-i.result in
     let x = c.index-challenges-i.result in
     let ms = c.args.messages.now in
     let rs = c.args.challenges.now in
     let sends : Vec g.row.EF.Denot Global → List ℕ = λ v. map N v.items in
-    let found = subst (λ k. Finds o fs (arity_of first) gs k (N c.args.claim) (N c.loop-i.claim) (N c.loop-i.truth) i (map sends ms) (map N rs)) more inv.finds in
+    let found = subst (λ k. Finds o fs (product_arity first) gs k (N c.args.claim) (N c.loop-i.claim) (N c.loop-i.truth) i (map sends ms) (map N rs)) more inv.finds in
     let some : 1 ≤ length fs = omega (arith, length-map first.tables.items (table_of N), first.some, first.tables.ok.0) in
     let honest = c.in_ok-honest.honest.items in
-    sym (finds-here o g.met.EF.Field.is_field fs gs (arity_of first) m some c.requires.few N sends ms rs i (N c.args.claim) (N c.loop-i.claim) (N c.loop-i.truth) found y x
+    sym (finds-here o g.met.EF.Field.is_field fs gs (product_arity first) m some c.requires.few N sends ms rs i (N c.args.claim) (N c.loop-i.claim) (N c.loop-i.truth) found y x
     (omega (arith, c.loop-i-test.true, c.requires.messages, c.requires.challenges)) c.loop-i-test.true c.index-messages-i.is c.index-challenges-i.is
     (omega (arith, c.requires.messages, c.requires.challenges, inv.left, more)) (N c.eval-next.result) (N c.eval-next_truth.result)
     (c.eval-next.ensures ∙ ap (λ l. next_through o (N c.loop-i.claim) (map N l) (N x)) c.as_slice-values.ensures.value)
@@ -63,7 +63,7 @@ returns-then-index-clause-bound g c =
     let first = c.args.product.now in
     let last = c.fold_all.new.product in
     let rs = c.args.challenges.now in
-    value-left e.ops g.met.EF.Field.is_field.ring (tables_of N first) (tables_of N last) (arity_of first) (arity_of last) (map N rs)
+    value-left e.ops g.met.EF.Field.is_field.ring (tables_of N first) (tables_of N last) (product_arity first) (product_arity last) (map N rs)
     (folded-rest N rs _ c.loop-i.i _ _ _ (take_all (length rs - c.loop-i.i) _ (omega (arith, length-drop c.loop-i.i rs))) c.loop-i.invariant.finds.folded c.fold_all.ensures) (length-map rs N ∙ c.requires.challenges)
 
 -- it does not
@@ -80,21 +80,21 @@ loop-i-preserved g c =
     let hs = tables_of N new in
     let i = c.loop-i.i in
     let inv = c.loop-i.invariant in
-    let m = arity_of new in
-    let more : arity_of product ≡ suc m = c.fold.ensures.variables ∙ omega arith in
-    let one_less : arity_of product - 1 ≡ m = omega (arith, more) in
+    let m = product_arity new in
+    let more : product_arity product ≡ suc m = c.fold.ensures.variables ∙ omega arith in
+    let one_less : product_arity product - 1 ≡ m = omega (arith, more) in
     let y = c.index-messages-i.result in
     let x = c.index-challenges-i.result in
     let ms = c.args.messages.now in
     let rs = c.args.challenges.now in
     let sends : Vec g.row.EF.Denot Global → List ℕ = λ v. map N v.items in
-    let found = subst (λ k. Finds o fs (arity_of first) gs k (N c.args.claim) (N c.loop-i.claim) (N c.loop-i.truth) i (map sends ms) (map N rs)) more inv.finds in
+    let found = subst (λ k. Finds o fs (product_arity first) gs k (N c.args.claim) (N c.loop-i.claim) (N c.loop-i.truth) i (map sends ms) (map N rs)) more inv.finds in
     let some : 1 ≤ length fs = omega (arith, length-map first.tables.items (table_of N), first.some, first.tables.ok.0) in
     let honest = c.in_ok-honest.honest.items in
     record {
       left = omega (arith, inv.left, more);
       degree = c.fold.ensures.degree ∙ inv.degree;
-      finds = finds-more o g.met.EF.Field.is_field fs gs (arity_of first) m some c.requires.few N sends ms rs i (N c.args.claim) (N c.loop-i.claim) (N c.loop-i.truth) found y x
+      finds = finds-more o g.met.EF.Field.is_field fs gs (product_arity first) m some c.requires.few N sends ms rs i (N c.args.claim) (N c.loop-i.claim) (N c.loop-i.truth) found y x
           (omega (arith, c.loop-i-test.true, c.requires.messages, c.requires.challenges)) c.loop-i-test.true c.index-messages-i.is c.index-challenges-i.is
           (omega (arith, c.requires.messages, c.requires.challenges, inv.left, more)) (N c.eval-next.result) (N c.eval-next_truth.result)
           (c.eval-next.ensures ∙ ap (λ l. next_through o (N c.loop-i.claim) (map N l) (N x)) c.as_slice-values.ensures.value)
@@ -120,5 +120,5 @@ returns-clause-bound g c =
     let first = c.args.product.now in
     let last = c.loop-i.product in
     let rs = c.args.challenges.now in
-    value-left e.ops g.met.EF.Field.is_field.ring (tables_of N first) (tables_of N last) (arity_of first) (arity_of last) (map N rs)
+    value-left e.ops g.met.EF.Field.is_field.ring (tables_of N first) (tables_of N last) (product_arity first) (product_arity last) (map N rs)
     (folded-whole (map N rs) c.loop-i.i _ _ (omega (arith, length-map rs N, c.loop-i-test.false)) c.loop-i.invariant.finds.folded) (length-map rs N ∙ c.requires.challenges)

@@ -1,6 +1,6 @@
 use Rattle.std.proofs.Common.{map, arith}
 use Rattle.std.proofs.lemmas.List.{length-map, length-take-le}
-use Rattle.sc_degree.specs.Products.{prover_of, tables_of, arity_of}
+use Rattle.sc_degree.specs.Products.{prover_of, tables_of, product_arity}
 use Rattle.sc_degree.proofs.PlayLaws.{folded-none}
 use Rattle.sc_degree.proofs.TurnLaws.{folded-next, folded-whole}
 use Rattle.sc_degree.proofs.turns.fold_all.Goals as goal
@@ -17,8 +17,8 @@ fold-requires g c =
 pub loop-r-preserved : goal.loop-r-preserved
 loop-r-preserved g c =
     let e = g.EF.Field in
-    let before = prover_of e.ops (tables_of e.number c.args.product.now) (arity_of c.args.product.now) in
-    let after = prover_of e.ops (tables_of e.number c.fold.new.self) (arity_of c.fold.new.self) in
+    let before = prover_of e.ops (tables_of e.number c.args.product.now) (product_arity c.args.product.now) in
+    let after = prover_of e.ops (tables_of e.number c.fold.new.self) (product_arity c.fold.new.self) in
     folded-next e.number c.args.challenges.now c.loop-r.r-index c.r-item.result before _ after (omega arith) c.r-item.is c.loop-r.invariant c.fold.ensures
 
 pub returns : goal.returns

@@ -7,7 +7,7 @@ use Rattle.sc_transcript.proofs.transcript.SumcheckShape.pattern.Goals as goal
 pub loop-round-init : goal.loop-round-init
 loop-round-init g c = c.new-steps.ensures.items
 
--- one round more comes behind the others
+-- one round more comes after the others
 pub loop-round-preserved : goal.loop-round-preserved
 loop-round-preserved g c =
     let degree = g.EF.ExtensionField.DEGREE in

@@ -3,7 +3,7 @@ use Rattle.std.proofs.lemmas.Result.{IfOk-from_err}
 use Rattle.std.proofs.lemmas.List.{take_all, take_more}
 use Rattle.sc_claims.proofs.statement.eq.EqStatement.copied_constraints.Goals as goal
 
--- a copy of the next item behind copies of those before it
+-- a copy of the next item after copies of those before it
 copied-more : {X : Type 0} (xs copies pushed : List X) (i : ℕ) (x copy : X) → i < length xs → copies ≡ take i xs → x ≡ get_or xs i x → copy ≡ x →
     pushed ≡ copies ++ copy ∷ [] → pushed ≡ take (i + 1) xs
 copied-more xs copies pushed i x copy low before is same now =

@@ -52,7 +52,7 @@ returns-in_err-rest-clause-stopped g c =
     err_as c.from_residual-in_err-rest.result NoMemory (StopsFrom setting begun (driver_in Drawn) (wire_in g.F.Field.number N c.round.new.sumcheck_data)) c.from_residual-in_err-rest.ensures.1
     (first_wants setting ring tt begun v sized (driver_in T) (driver_in Drawn) c.requires.none_played c.requires.some first.continues.shape (N c.in_ok-message.r) first.counts first.round refl)
 
--- a round behind it was refused
+-- a round after it was refused
 pub returns-in_err-play-clause-stopped : goal.returns-in_err-play-clause-stopped
 returns-in_err-play-clause-stopped g c =
     let o = g.EF.Field.ops in

@@ -1,0 +1,5 @@
+pub mod TableShapes
+pub mod ProductRoundLaws
+pub mod AnswerLaws
+pub mod CertifiedRounds
+pub mod ResultLaws

@@ -1,0 +1,6 @@
+pub mod JobLaws
+pub mod GroupLaws
+pub mod BuildReplies
+pub mod CertifiedLaws
+pub mod ReportLaws
+pub mod AuditLaws

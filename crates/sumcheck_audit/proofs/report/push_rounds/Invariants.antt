@@ -1,0 +1,10 @@
+use Rattle.std.proofs.Common.{◌≡◌, ◌++◌, map, take, string_bytes}
+use Rattle.sc_transcript.specs.Data.{pair_of}
+use Rattle.sumcheck_replies.specs.Lines.{round_lines}
+use Rattle.sumcheck_audit.proofs.report.push_rounds.Given as goal
+
+abbrev pub invariant-loop-i : goal.invariant-loop-i
+invariant-loop-i g l =
+    let base = g.F.Field.number in
+    let number = g.EF.Field.number in
+    string_bytes l.text ≡ string_bytes l.fn.text ++ round_lines 0 (map (pair_of number) (take l.i l.messages)) (map base l.witnesses) (map number (take l.i l.challenges))

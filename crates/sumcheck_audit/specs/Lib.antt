@@ -1,0 +1,4 @@
+pub mod Job
+pub mod Report
+pub mod CertifiedJobs
+pub mod Claimed

@@ -1,5 +1,0 @@
-pub mod GroupCounts
-pub mod RestLaws
-pub mod FormLaws
-pub mod JobLaws
-pub mod ProductJobLaws

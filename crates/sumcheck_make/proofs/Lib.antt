@@ -1,0 +1,4 @@
+pub mod MadeLaws
+pub mod StrideLaws
+pub mod MadeJobs
+pub mod WorkedMade

@@ -1,0 +1,4 @@
+pub mod GroupCounts
+pub mod RestLaws
+pub mod FormLaws
+pub mod StatedLaws

@@ -1,0 +1,31 @@
+-- The members of a job, and what is said of one that is missing or not of its form.
+use Rattle.std.specs.Prelude.{ℕ, List, ◌++◌, codes, Option, Result, Ok, Err}
+use Rattle.std.specs.Option.{ok_or}
+use Rattle.serde_json.specs.Data.{Data}
+use Rattle.sc_forms.specs.Forms.{member_form}
+use Rattle.sumcheck_members.specs.declared.member.Member.{Member}
+
+-- the name of a member of a job, or of the job as a whole
+abbrev pub Name : Type 0
+Name = List ℕ
+
+-- the job as a whole
+abbrev pub whole_job : Name
+whole_job = codes "job"
+
+-- the name that a refusal tells
+abbrev pub member_name : Member → Name
+member_name member = member.word.now
+
+-- what a job is refused with for the member of this name
+unfoldable pub misfit_text : Name → List ℕ
+misfit_text m = codes "bad-job " ++ m
+
+-- what a member is read as in its form, or else the member
+abbrev pub needed : {A : Type 0} → (Data → Option A) → Name → Data → Result A Name
+needed form m d = ok_or (member_form form m d) m
+
+-- what goes on where there was no misfit
+abbrev pub unless_misfit : {A B : Type 0} → Result A Name → (A → Result B Name) → Result B Name
+unless_misfit (Ok x) rest = rest x
+unless_misfit (Err m) rest = Err m
