@@ -1,9 +1,13 @@
 # Completion of ./sumcheck in bash: `source completion.bash`.
 _sumcheck() {
-  local word=${COMP_WORDS[COMP_CWORD]}
-  case $COMP_CWORD:${COMP_WORDS[1]} in
-    1:*) mapfile -t COMPREPLY < <(compgen -W 'audit product make --try --version --help' -- "$word") ;;
-    2:audit | 2:product) mapfile -t COMPREPLY < <(compgen -f -X '!*.json' -- "$word"; compgen -d -S / -- "$word") ;;
+  local word=${COMP_WORDS[COMP_CWORD]} at=$COMP_CWORD words=("${COMP_WORDS[@]}")
+  if [ "$at" -gt 1 ] && [ "${words[1]}" = --json ]; then words=("${words[0]}" "${words[@]:2}") at=$((at - 1)); fi
+  case $at:${words[1]} in
+    1:*)
+      if [ "$at" -lt "$COMP_CWORD" ]; then mapfile -t COMPREPLY < <(compgen -W 'audit product make' -- "$word")
+      else mapfile -t COMPREPLY < <(compgen -W 'audit product make --try --why --fill --json --version --help' -- "$word"); fi
+      ;;
+    2:audit | 2:product | 2:--why | 2:--fill) mapfile -t COMPREPLY < <(compgen -f -X '!*.json' -- "$word"; compgen -d -S / -- "$word") ;;
     4:make) mapfile -t COMPREPLY < <(compgen -W 'plain represented small-value' -- "$word") ;;
   esac
 }

@@ -1,0 +1,126 @@
+"""What the program writes, read line by line into values: every kind of line of docs/FORMATS.md. Unproved.
+
+`read(text)` gives a dictionary with the member `outcome`: "report", "refused", "proof-refused", "no-witness", "usage", or
+"nothing" where nothing was written. A report has the members that its lines name, `rounds` and `grids` as lists; a lucky
+verdict has what it names in `lucky`. A refusal has a `cause`, where there are several a `fault`, and the numbers of its
+line under their names.
+"""
+import re
+
+NUMBER = r"(\d+)"
+NUMBERS = r"(\d+(?: \d+)*)"
+
+# Lines with one number, or none, in a report.
+FIGURES = ("rows", "statements", "claim", "pairs", "residual", "eval", "weight", "product")
+ROUND = re.compile(rf"round {NUMBER}: {NUMBERS}(?: witness {NUMBER})? challenge {NUMBER}")
+GRID = re.compile(rf"grid {NUMBER} (zero|infinity) {NUMBERS}")
+VERDICT = re.compile(r"verdict (holds|refuted)")
+LUCKY = re.compile(rf"verdict (lucky-batch|lucky-round)(?: {NUMBER})? vanishing {NUMBER} poly {NUMBERS}")
+
+# A text of one line that is no report: its outcome and cause, and the names of what it tells.
+SINGLE = [(re.compile(line.replace("N", NUMBER)), outcome, cause, names) for line, outcome, cause, *names in [
+    ("usage", "usage", None),
+    ("refused too-long", "refused", "too-long"),
+    ("refused bad-json", "refused", "bad-json"),
+    ("refused bad-job (.*)", "refused", "bad-job", "member"),
+    ("refused job-shape (table-length) N", "refused", "job-shape", "fault", "length"),
+    ("refused job-shape (difficulty) N bound N", "refused", "job-shape", "fault", "difficulty", "bound"),
+    ("refused job-shape (variables) N expected N", "refused", "job-shape", "fault", "variables", "expected"),
+    ("refused strategy-unfit (variables) N bound N", "refused", "strategy-unfit", "fault", "variables", "bound"),
+    ("refused strategy-unfit (select|selector) N", "refused", "strategy-unfit", "fault", "statement"),
+    ("refused false-claim N claimed N true N", "refused", "false-claim", "statement", "claimed", "true"),
+    ("proof refused missing N", "proof-refused", "missing", "variables"),
+    ("proof refused rounds expected N actual N", "proof-refused", "rounds", "expected", "actual"),
+    ("proof refused witnesses expected N actual N", "proof-refused", "witnesses", "expected", "actual"),
+    ("proof refused width round N expected N actual N", "proof-refused", "width", "round", "expected", "actual"),
+    ("proof refused witness round N bits N", "proof-refused", "witness", "round", "bits"),
+    ("no witness round N", "no-witness", None, "round"),
+]]
+
+
+class Unknown(Exception):
+    """A line that is none of docs/FORMATS.md, or stands where it does not belong."""
+
+
+def number_of(word):
+    return int(word) if word.isdigit() else word
+
+
+def numbers_of(words):
+    return [int(word) for word in words.split()]
+
+
+def single(line):
+    """What a text of one line says that is no report, or None."""
+    for form, outcome, cause, names in SINGLE:
+        found = form.fullmatch(line)
+        if found:
+            told = {"outcome": outcome} if cause is None else {"outcome": outcome, "cause": cause}
+            return told | dict(zip(names, map(number_of, found.groups())))
+    return None
+
+
+def add_round(report, found):
+    number, values, witness, challenge = found.groups()
+    rounds = report.setdefault("rounds", [])
+    if int(number) != len(rounds):
+        raise Unknown(found.group())
+    it = {"round": int(number), "values": numbers_of(values)}
+    rounds.append(it | ({} if witness is None else {"witness": int(witness)}) | {"challenge": int(challenge)})
+
+
+def add_grid(report, found):
+    number, part, values = found.groups()
+    grids = report.setdefault("grids", [])
+    if part == "zero":
+        grids.append({"grid": int(number)})
+    if not grids or grids[-1]["grid"] != int(number) or part in grids[-1]:
+        raise Unknown(found.group())
+    grids[-1][part] = numbers_of(values)
+
+
+def add_lucky(report, found):
+    kind, number, vanishing, poly = found.groups()
+    if (number is None) != (kind == "lucky-batch"):
+        raise Unknown(found.group())
+    report["verdict"] = kind
+    named = {} if number is None else {"round": int(number)}
+    report["lucky"] = named | {"vanishing": int(vanishing), "poly": numbers_of(poly)}
+
+
+def add_line(report, line):
+    word, _, rest = line.partition(" ")
+    if "verdict" in report:
+        raise Unknown(line)
+    if word in FIGURES and rest.isdigit() and word not in report:
+        report[word] = int(rest)
+    elif found := ROUND.fullmatch(line):
+        add_round(report, found)
+    elif found := GRID.fullmatch(line):
+        add_grid(report, found)
+    elif found := VERDICT.fullmatch(line):
+        report["verdict"] = found.group(1)
+    elif found := LUCKY.fullmatch(line):
+        add_lucky(report, found)
+    else:
+        raise Unknown(line)
+
+
+def read(text):
+    """The values of a whole text of the program."""
+    if not text:
+        return {"outcome": "nothing"}
+    lines = text.split("\n")
+    told = single(lines[0]) if len(lines) == 2 else None
+    if lines.pop() != "":
+        raise Unknown(lines[-1] if lines else text)
+    if told:
+        return told
+    report = {"outcome": "report"}
+    for line in lines:
+        add_line(report, line)
+    if "verdict" not in report or "claim" not in report:
+        raise Unknown(lines[-1])
+    if "rows" not in report:  # the report in short has no rounds
+        report.setdefault("rounds", [])
+    return report

@@ -1,0 +1,333 @@
+#!/usr/bin/env python3
+"""Says why a job or a proof is refused or refuted: `./sumcheck --why FILE`. This reader is not proved.
+
+usage: tools/why.py [audit|product] FILE      (FILE `-`: standard input)
+
+The first line is the program's own: its refusal, or its verdict. After it stand the line and the column of what is meant,
+both counted from 1, and what is wanted there; which statements are false, and the first round that differs from those of
+a build, both by further runs of the program. The command is `product` where the job has the member `tables` and no
+`table`. The status is 0 where the verdict holds, 1 where something else was told, 2 where the words are none of these, and
+11 where the file cannot be read, the program cannot be run, or this reader does not find what the program refuses.
+"""
+import difflib, json, sys, textwrap
+
+import answers, forms, program, scan, truth
+from fill import command_of
+
+
+class Case:
+    """A file, and what the program says of it."""
+
+    def __init__(self, words):
+        self.file, self.data = words[-1], program.bytes_of(words[-1])
+        self.text = scan.text_of(self.data)
+        try:
+            self.value, self.fault = scan.read(self.data), None
+        except scan.Fault as fault:
+            self.value, self.fault = None, fault
+        self.command = command_of(words[:-1], self.value) if self.value else (words[:-1] or ["audit"])[0]
+        self.status, said = program.run([self.command], self.data)
+        self.told = answers.read(said)
+        self.line = said.splitlines()[-1] if said else ""
+        self.notes = []
+
+    def say(self, *lines):
+        self.notes += lines
+
+    def at(self, offset):
+        line, column = scan.place(self.text, offset)
+        return f"line {line}, column {column}"
+
+    def job(self):
+        return json.loads(self.data)
+
+    def fail(self, why):
+        raise program.Unable(f"{self.line}: {why}")
+
+
+# ---- Texts, and members of a job
+
+def too_long(case):
+    case.say(f"The input has {len(case.data)} bytes; at most 67108864 are read.")
+
+
+def bad_json(case):
+    if case.fault is None:
+        case.fail("this reader finds no place where the text stops being JSON")
+    rest = case.text[case.fault.offset:case.fault.offset + 30].split("\n")[0]
+    stands = f"`{rest}`" if rest.strip() else "the end" if case.fault.offset >= len(case.text) else "white space, or the end of a line"
+    case.say(f"At {case.at(case.fault.offset)}, {stands} stands where the text stops being JSON: {case.fault.what}.")
+
+
+def near(owner, name):
+    """What a missing member may have been meant by, or nothing."""
+    keys = [key for key, _ in owner.content]
+    found = [key for key in keys if key.lower() == name.lower()] or difflib.get_close_matches(name, keys, 1)
+    return f" The object has a member \"{found[0]}\"." if found else ""
+
+
+def why_no_number(value):
+    """What keeps a number from being one of the wanted form, in a word."""
+    source = value.source()
+    if value.kind == "string":
+        return "; this is a string" if source.strip('"').isdigit() else ""
+    if value.kind != "number" or source.isdigit():
+        return ""
+    return "; this has " + " and ".join(what for sign, what in [("-", "a sign"), (".", "a fraction"), ("e", "an exponent")] if sign in source.lower())
+
+
+def bad_job(case):
+    found = forms.misfit(case.value, case.command)
+    if not found or found[0] != case.told["member"]:
+        case.fail("this reader does not find the member that is meant")
+    misfit = found[1]
+    if misfit.value is None:
+        name = misfit.path.split(", ")[-1].replace("member ", "")
+        place = "" if misfit.path == name else f", and missing is {misfit.path}"
+        case.say(f"At {case.at(misfit.owner.start)} an object begins that has no member {name}{place}." + near(misfit.owner, name))
+        return
+    number = why_no_number(misfit.value) if "number" in misfit.wanted or "digits" in misfit.wanted else ""
+    case.say(f"At {case.at(misfit.value.start)}, `{misfit.value.shown()}` stands in {misfit.path}.", f"Wanted is {misfit.wanted}{number}.")
+    twice(case, found[0])
+
+
+def twice(case, name):
+    """A member that stands twice may be the one that was meant."""
+    places = case.value.members(name) if case.value.kind == "object" else []
+    if len(places) > 1:
+        case.say(f"The member {name} stands {len(places)} times, and the last one counts; the first is that at {case.at(places[0].start)}.")
+
+
+# ---- Shapes and strategies
+
+def table_length(case):
+    length = case.told["length"]
+    tables = [case.value.member("table")] if case.command == "audit" else list(case.value.member("tables").items())
+    number, table = next((n, it) for n, it in enumerate(tables) if it.count() == length and (n > 0 or not is_table(length)))
+    below, above = 1 << max(length.bit_length() - 1, 0), 1 << length.bit_length()
+    what = "the table" if case.command == "audit" else f"table {number}"
+    case.say(f"At {case.at(table.start)}, {what} has {length} {'entry' if length == 1 else 'entries'}.")
+    if is_table(length):
+        case.say(f"Each table has as many entries as the first one, which has {tables[0].count()}.")
+    elif length > 1 << 24:
+        case.say("A table has 2^n entries, n at most 24, which are 16777216.")
+    else:
+        case.say("A table has 2^n entries" + (f": the nearest are {below} and {above}." if length else ", at least one."))
+
+
+def is_table(length):
+    return 0 < length <= 1 << 24 and length & length - 1 == 0
+
+
+def difficulty(case):
+    value = case.value.member("bits")
+    case.say(f"At {case.at(value.start)}, each round has a test of {case.told['difficulty']} bits, and at most {case.told['bound']} may be asked for.")
+
+
+def variables(case):
+    value = case.value.member("variables")
+    case.say(f"At {case.at(value.start)}, variables is {case.told['variables']}; the table has 2^{case.told['expected']} entries, which is "
+             f"{case.told['expected']} variables.")
+
+
+def job_shape(case):
+    {"table-length": table_length, "difficulty": difficulty, "variables": variables}[case.told["fault"]](case)
+
+
+def strategy_unfit(case):
+    if case.told["fault"] == "variables":
+        value = case.value.member("mode").member("build").member("small-value")
+        case.say(f"At {case.at(value.start)}, grids are asked for in {case.told['variables']} rounds, and can be made in 1 to {case.told['bound']}: "
+                 "at most as many as there are variables, and at most 12.")
+        return
+    what = 'is of the kind "select"' if case.told["fault"] == "select" else "has a selector"
+    case.say(f"Statement {case.told['statement']} {what}: {statement_at(case, case.told['statement'])}.",
+             'A small-value build is for statements of the kind "eq", or "next" without a selector; "plain" is for all.')
+
+
+# ---- Statements
+
+def statement_at(case, number):
+    """A statement by its group, its place there, and its line and column."""
+    group, place, kind, claim = next(it for n, it in enumerate(forms.statements(case.value)) if n == number)
+    return f'claim {place} of group {group}, "{kind}", at {case.at(claim.start)}'
+
+
+def say_false(case, false, most=20):
+    """A line for each false statement, of many the first ones."""
+    for number, (claimed, true) in list(false.items())[:most]:
+        case.say(f"Statement {number} is false: it claims {claimed}, and {true} is true of the table. It is {statement_at(case, number)}.")
+    if len(false) > most:
+        case.say(f"{len(false) - most} more statements are false.")
+    if false:
+        case.say("./sumcheck --fill writes the job with true values.")
+
+
+def false_claim(case):
+    say_false(case, truth.false_statements(case.job()))
+
+
+# ---- Rounds beside those of a build
+
+def rounds_of(case):
+    """The rounds and witnesses of the proof in a job, or none."""
+    check = (case.job()["mode"].get("check") if case.command == "audit" else case.job()["mode"]["check"]) or {}
+    return check.get("rounds", []), check.get("witnesses", [])
+
+
+def parts(case, challenge):
+    return [challenge % 257, challenge // 257] if case.job()["field"] == "257x2" else [challenge]
+
+
+def true_build(case, challenges):
+    """A build of the same job with true claims: under the challenges that were drawn, or else the job's own challenger."""
+    job = case.job()
+    if challenges is not None:
+        draws = [part for it in challenges for part in parts(case, it)]
+        job |= {"challenger": {"draws": draws, "witnesses": []}, "bits": 0}
+    if case.command == "product":
+        return truth.built("product", job | {"mode": "build"})
+    return truth.built("audit", truth.filled(job) | {"mode": {"build": "plain"}})
+
+
+def compare(case, built, whose):
+    """Names the first round of the proof that differs from a build's, in its values or in its witness."""
+    rounds, witnesses = rounds_of(case)
+    for number, (sent, true) in enumerate(zip(rounds, built)):
+        if sent != true["values"]:
+            place = round_value(case, number)
+            case.say(f"Round {number} is the first that differs: it sends {words(sent)}, at {case.at(place.start)}, and {whose} sends "
+                     f"{words(true['values'])}.")
+            return
+        witness = witnesses[number] if number < len(witnesses) else None
+        if "witness" in true and witness is not None and witness != true["witness"]:
+            case.say(f"Up to round {number} the values are those of {whose}; the witness there is {witness}, and {true['witness']} is the least "
+                     "number that passes. After another witness the challenges are others too, so later rounds are not compared.")
+            return
+    common = min(len(rounds), len(built))
+    case.say(f"The values of the {common} rounds that can be compared are those of {whose}." if common else "There are no rounds to compare.")
+
+
+def words(numbers):
+    return " ".join(map(str, numbers)) or "nothing"
+
+
+def round_value(case, number):
+    check = case.value.member("mode").member("check")
+    return next(it for n, it in enumerate(check.member("rounds").items()) if n == number)
+
+
+def say_claims(case):
+    """Which claims are false, by the program's own answers; whether all are true."""
+    if case.command == "product":
+        claimed, true = case.job()["mode"]["check"]["claimed"], truth.true_sum(case.job())
+        place = case.value.member("mode").member("check").member("claimed")
+        if claimed != true:
+            case.say(f"The claimed sum {claimed}, at {case.at(place.start)}, is false, and {true} is true of the tables.")
+        return claimed == true
+    false = truth.false_statements(case.job())
+    say_false(case, false)
+    return not false
+
+
+def say_rounds(case, challenges):
+    """Compares with a build; where it finds no witness, with one without a test, as far as no challenge comes in."""
+    status, told = true_build(case, challenges)
+    whose = "a build of the true claims" + ("" if challenges is None else " at the same challenges")
+    if status == 0:
+        compare(case, told["rounds"], whose)
+    elif told["outcome"] == "no-witness":
+        status, told = true_build(case, [])
+        case.say(f"A build of this job finds no witness for round {told.get('round', 0)}, so only the first round is compared." if status else
+                 "A build of this job finds no witness for some round, so only the first round is compared.")
+        compare(case, told.get("rounds", [])[:1], whose)
+    else:
+        raise program.Unable(f"a build ended with status {status}: {told}")
+
+
+def refuted(case):
+    if say_claims(case):
+        case.say("Every claim is true." if case.command == "audit" else "The claimed sum is the true one.")
+    else:
+        case.say("So a proof is refuted unless a challenge is lucky, whatever rounds it sends.")
+    say_rounds(case, [it["challenge"] for it in case.told["rounds"]])
+
+
+def lucky(case):
+    told = case.told["lucky"]
+    say_claims(case)
+    degree = len(told["poly"]) - 1
+    where = "the batching challenge" if "round" not in told else f"the challenge of round {told['round']}, which is {case.told['rounds'][told['round']]['challenge']},"
+    case.say(f"The rounds are right all the same, since {where} is one of {told['vanishing']} at which the polynomial above vanishes, of degree "
+             f"at most {degree}; at any other the claim would have stayed false.")
+
+
+PROOFS = {
+    "missing": "The mode is a check of null, and the table has {variables} variables, so a proof has as many rounds.",
+    "rounds": "A proof of this job has {expected} rounds, one for each variable, and here are {actual}.",
+    "witnesses": "A proof of this job has {expected} witnesses, one for each round where bits is above 0, and here are {actual}.",
+    "width": "Round {round} sends {actual} of {expected} values: as many are wanted as there are tables.",
+    "witness": "The witness of round {round} does not pass the test of {bits} bits at what was shown before it: the rounds so far, and the seed.",
+}
+
+
+def proof_refused(case):
+    case.say(PROOFS[case.told["cause"]].format(**case.told))
+    if case.told["cause"] == "missing":
+        return
+    if case.told["cause"] == "width":
+        case.say(f"Its values stand at {case.at(round_value(case, case.told['round']).start)}.")
+        return
+    if say_claims(case):
+        say_rounds(case, None)
+
+
+def no_witness(case):
+    job = case.job()
+    size = forms.SIZES[job["field"]][0]
+    if job["challenger"] == "hash":
+        case.say(f"None of the {size} base numbers passes the test of {job['bits']} bits in round {case.told['round']}; one in {1 << job['bits']} does, by "
+                 "chance. A lower difficulty, or another batching challenge, may have one.")
+    else:
+        case.say(f"The script lists no number that passes test {case.told['round']}: `witnesses` has {len(job['challenger']['witnesses'])} lists, the first for test 0.")
+
+
+CAUSES = {
+    "too-long": too_long, "bad-json": bad_json, "bad-job": bad_job, "job-shape": job_shape, "strategy-unfit": strategy_unfit,
+    "false-claim": false_claim,
+}
+VERDICTS = {"refuted": refuted, "lucky-batch": lucky, "lucky-round": lucky}
+
+
+def explained(case):
+    """Puts down what is to be said, and gives the status."""
+    outcome = case.told["outcome"]
+    if outcome == "refused":
+        CAUSES[case.told["cause"]](case)
+    elif outcome == "proof-refused":
+        proof_refused(case)
+    elif outcome == "no-witness":
+        no_witness(case)
+    elif outcome == "report" and case.told["verdict"] == "holds":
+        return 0
+    elif outcome == "report":
+        VERDICTS[case.told["verdict"]](case)
+    else:
+        case.fail(f"the program ended with status {case.status}")
+    return 1
+
+
+def main(words):
+    if not words or len(words) > 2 or len(words) == 2 and words[0] not in ("audit", "product"):
+        raise program.WrongWords
+    try:
+        case = Case(words)
+        status = explained(case)
+    except answers.Unknown as line:
+        raise program.Unable(f"no line of a report: {line}") from None
+    print("\n".join([case.line, *(textwrap.fill(it, 118, break_long_words=False, break_on_hyphens=False) for it in case.notes)]))
+    return status
+
+
+if __name__ == "__main__":
+    program.ended(main, sys.argv[1:], __doc__)
