@@ -16,107 +16,8 @@ The peak is what the program `time` tells; without it, at least this script's ow
 """
 import argparse, json, os, random, shlex, sys, tempfile
 
+from fields import FIELDS, equality_weights, powers, products, successor_weights, total, value_at
 from measured import compare, run, wants
-
-
-class Prime:
-    """The integers modulo a prime."""
-    def __init__(self, prime):
-        self.size = self.base_size = prime
-
-    def add(self, a, b):
-        return (a + b) % self.size
-
-    def sub(self, a, b):
-        return (a - b) % self.size
-
-    def mul(self, a, b):
-        return a * b % self.size
-
-
-class Quadratic:
-    """a + b u over the integers modulo a prime, by the numbers a + prime * b, where u^2 is `square`."""
-    def __init__(self, prime, square):
-        self.size, self.base_size, self.square = prime * prime, prime, square
-
-    def join(self, a, b):
-        return a % self.base_size + self.base_size * (b % self.base_size)
-
-    def add(self, x, y):
-        p = self.base_size
-        return self.join(x % p + y % p, x // p + y // p)
-
-    def sub(self, x, y):
-        p = self.base_size
-        return self.join(x % p - y % p, x // p - y // p)
-
-    def mul(self, x, y):
-        p = self.base_size
-        a, b, c, d = x % p, x // p, y % p, y // p
-        return self.join(a * c + self.square * b * d, a * d + b * c)
-
-
-class Sixteen:
-    """Numbers with bits of 1, w, y and wy, where w^2 = w + 1 and y^2 = y + w."""
-    size = base_size = 16
-
-    def __init__(self):
-        self.table = [self.product(a, b) for a in range(16) for b in range(16)]
-
-    @staticmethod
-    def four(m, n):
-        a, b, c, d = m & 1, m >> 1, n & 1, n >> 1
-        return (a & c) ^ (b & d) | ((a & d) ^ (b & c) ^ (b & d)) << 1
-
-    def product(self, m, n):
-        a, b, c, d = m & 3, m >> 2, n & 3, n >> 2
-        bd = self.four(b, d)
-        return self.four(a, c) ^ self.four(2, bd) | (self.four(a, d) ^ self.four(b, c) ^ bd) << 2
-
-    def add(self, a, b):
-        return a ^ b
-
-    sub = add
-
-    def mul(self, a, b):
-        return self.table[16 * a + b]
-
-
-FIELDS = {"65537": Prime(65537), "257x2": Quadratic(257, 3), "16": Sixteen()}
-
-
-def value_at(field, table, point):
-    for c in point:
-        half = len(table) // 2
-        table = [field.add(a, field.mul(field.sub(b, a), c)) for a, b in zip(table[:half], table[half:])]
-    return table[0]
-
-
-def equality_weights(field, point):
-    weights = [1]
-    for c in point:
-        rest = field.sub(1, c)
-        weights = [x for w in weights for x in (field.mul(w, rest), field.mul(w, c))]
-    return weights
-
-
-def successor_weights(field, point):
-    weights = equality_weights(field, point)
-    return [0] + weights[:-2] + [field.add(weights[-2], weights[-1])]
-
-
-def powers(field, scalar, count):
-    weights = [1]
-    while len(weights) < count:
-        weights.append(field.mul(weights[-1], scalar))
-    return weights
-
-
-def products(field, point):
-    weights = [1]
-    for c in point:
-        weights = [x for w in weights for x in (w, field.mul(w, c))]
-    return weights
 
 
 def groups(field, table, point, rng, given):
@@ -128,10 +29,7 @@ def groups(field, table, point, rng, given):
         return [rng.randrange(size) for _ in range(count)]
 
     def value(weights):
-        total = 0
-        for w, x in zip(weights, table):
-            total = field.add(total, field.mul(w, x))
-        return total
+        return total(field, (field.mul(w, x) for w, x in zip(weights, table)))
 
     selector, rest = drawn(1, field.size), drawn(len(point) - 1, field.size)
     scalar, direct = rng.randrange(field.base_size), drawn(len(point), field.base_size)

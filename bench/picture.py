@@ -1,0 +1,159 @@
+#!/usr/bin/env python3
+"""Draws the rounds of a job for `audit` that checks or builds a proof, from left to right: the claim that runs through them, and the true one.
+
+usage: bench/picture.py JOB OUT.svg
+
+Below runs the true claim. The other one is above it where both differ, and on it where they are the same, so that the
+picture shows where they part, and at which challenge they meet again. Height says nothing else. The true claims are sums
+over the table and its weights, computed here and not by the program; from the program's report come the rounds and
+challenges, and the verdict in the title. The program is `./sumcheck`, or that of the variable SUMCHECK_PROGRAM.
+"""
+import json, os, sys
+
+sys.path.insert(0, os.path.join(os.path.dirname(os.path.abspath(__file__)), "..", "tools"))
+import answers, program
+from fields import FIELDS, equality_weights, powers, products, successor_weights, total
+from truth import list_name
+
+STEP, LEFT, HIGH, LOW, HEIGHT = 132, 84, 92, 158, 236
+TRUE, FALSE, LUCKY = "#2f7d46", "#b3341f", "#c77d00"
+
+
+# ---- Claims, by sums over the table
+
+def claim_weights(field, kind, claim, rows):
+    """What a statement weighs each row by."""
+    if kind == "eq":
+        return equality_weights(field, claim["point"])
+    if kind == "next":
+        slot, local = equality_weights(field, claim["selector"]), successor_weights(field, claim["point"])
+        pairs = ((s, w) for s in slot for w in local) if claim["order"] == "prefix" else ((s, w) for w in local for s in slot)
+        return [field.mul(s, w) for s, w in pairs]
+    return products(field, claim["at"]) if isinstance(claim["at"], list) else powers(field, claim["at"], rows)
+
+
+def inner(field, table, weights):
+    return total(field, map(field.mul, table, weights))
+
+
+def bound(field, table, challenge, order):
+    """A table with its first variable, or its last one, at a challenge."""
+    half = len(table) // 2
+    pairs = zip(table[:half], table[half:]) if order == "prefix" else zip(table[::2], table[1::2])
+    return [field.add(a, field.mul(field.sub(b, a), challenge)) for a, b in pairs]
+
+
+def batched(field, job):
+    """The batched weights, the batched claim, and how many statements are there and are false."""
+    table, weights, claim, false, count, power = job["table"], [0] * len(job["table"]), 0, 0, 0, 1
+    for group in job["groups"]:
+        for it in group[list_name(group)]:
+            own = claim_weights(field, group["kind"], it, len(table))
+            false += inner(field, table, own) != it["value"]
+            weights = [field.add(w, field.mul(power, o)) for w, o in zip(weights, own)]
+            claim, power, count = field.add(claim, field.mul(power, it["value"])), field.mul(power, job["batching"]), count + 1
+    return weights, claim, false, count
+
+
+def left(field, claim, values, challenge):
+    """What a round leaves of a claim."""
+    a, b = values
+    slope = field.sub(field.sub(field.sub(claim, a), a), b)
+    return field.add(a, field.mul(challenge, field.add(slope, field.mul(b, challenge))))
+
+
+def courses(job, report):
+    """The claim that runs through the rounds and the true one, before the first round and after each."""
+    field = FIELDS[job["field"]]
+    weights, claim, false, count = batched(field, job)
+    table, claims, true = job["table"], [claim], [inner(field, job["table"], weights)]
+    for it in report["rounds"]:
+        claims.append(left(field, claims[-1], it["values"], it["challenge"]))
+        table, weights = (bound(field, part, it["challenge"], job["order"]) for part in (table, weights))
+        true.append(inner(field, table, weights))
+    if (claims[0], claims[-1], table, weights) != (report["claim"], report["residual"], [report["eval"]], [report["weight"]]):
+        raise program.Unable("the report is not that of these sums")
+    return claims, true, false, count
+
+
+# ---- The picture
+
+def text(x, y, words, color="#222", more=""):
+    return f'<text x="{x}" y="{y}" fill="{color}" text-anchor="middle"{more}>{words}</text>'
+
+
+def line(x1, y1, x2, y2, color, more=""):
+    return f'<line x1="{x1}" y1="{y1}" x2="{x2}" y2="{y2}" stroke="{color}" stroke-width="2.5"{more}/>'
+
+
+def marks(columns):
+    """The points of both courses, with their numbers. A column has its place, both numbers as words, and whether they are the same."""
+    for x, claimed, true, same in columns:
+        yield f'<circle cx="{x}" cy="{LOW}" r="5" fill="{TRUE}"/>' + text(x, LOW + 22, true, TRUE)
+        if not same:
+            yield f'<circle cx="{x}" cy="{HIGH}" r="5" fill="{FALSE}"/>' + text(x, HIGH - 12, claimed, FALSE)
+
+
+def ways(columns):
+    """The lines between the points, and a ring where the courses meet again."""
+    for (x1, _, _, same1), (x2, _, _, same2) in zip(columns, columns[1:]):
+        yield line(x1, LOW, x2, LOW, TRUE)
+        if not (same1 and same2):
+            yield line(x1, LOW if same1 else HIGH, x2, LOW if same2 else HIGH, LUCKY if same2 else FALSE, "" if same2 else ' stroke-dasharray="6 4"')
+        if same2 and not same1:
+            yield f'<circle cx="{x2}" cy="{LOW}" r="11" fill="none" stroke="{LUCKY}" stroke-width="2.5"/>' + text(x2, LOW - 28, "they meet", LUCKY)
+        if same1 and not same2:
+            yield text(x2, HIGH - 30, "they part", FALSE)
+
+
+def steps(report, columns, batching):
+    """What stands between the columns: the batching challenge, and each round's values and challenge."""
+    names = [("batch", f"at {batching}")]
+    names += [(f"round {it['round']}: {' '.join(map(str, it['values']))}", f"challenge {it['challenge']}") for it in report["rounds"]]
+    for (x1, *_), (x2, *_), (above, below) in zip(columns, columns[1:], names):
+        middle = (x1 + x2) // 2
+        yield text(middle, HEIGHT - 30, above, "#444", ' font-size="11"') + text(middle, HEIGHT - 14, below, "#444", ' font-size="11"')
+
+
+def title(report):
+    lucky = report.get("lucky")
+    if not lucky:
+        return f"verdict {report['verdict']}"
+    challenge = f"of round {lucky['round']}" if "round" in lucky else "of the batch"
+    return f"verdict {report['verdict']}: the challenge {challenge} is one of {lucky['vanishing']} at which the claim turns true"
+
+
+def picture(job, report):
+    claims, true, false, count = courses(job, report)
+    columns = [(LEFT, f"{false} of {count} false", "true values", not false)]
+    columns += [(LEFT + STEP * (i + 1), c, t, c == t) for i, (c, t) in enumerate(zip(claims, true))]
+    width = LEFT + STEP * len(claims) + LEFT
+    yield (f'<svg xmlns="http://www.w3.org/2000/svg" width="{width}" height="{HEIGHT}" viewBox="0 0 {width} {HEIGHT}" role="img" '
+           'font-family="sans-serif" font-size="13">')
+    yield f"<title>{title(report)}</title>"
+    yield f'<rect width="{width}" height="{HEIGHT}" fill="white"/>'
+    yield f'<text x="16" y="24" font-weight="bold">{title(report)}</text>'
+    yield f'<text x="16" y="{LOW + 4}" fill="{TRUE}">true</text>'
+    yield f'<text x="16" y="{HIGH + 4}" fill="{FALSE}">claimed</text>' if any(not same for *_, same in columns) else ""
+    yield from ways(columns)
+    yield from marks(columns)
+    yield from steps(report, columns, job["batching"])
+    yield "</svg>"
+
+
+def main(words):
+    if len(words) != 2:
+        raise program.WrongWords
+    data = program.bytes_of(words[0])
+    status, said = program.run(["audit"], data)
+    report = answers.read(said)
+    if report["outcome"] != "report":
+        raise program.Unable(f"{words[0]} has no report: {said.strip()}")
+    lines = [it for it in picture(json.loads(data), report) if it]
+    with open(words[1], "w", encoding="utf-8") as out:
+        out.write("\n".join(lines) + "\n")
+    return 0
+
+
+if __name__ == "__main__":
+    program.ended(main, sys.argv[1:], __doc__)
