@@ -6,6 +6,7 @@ usage: .ci/pages.py commands PAGE..     each command after a '$ ' writes what st
        .ci/pages.py narrow COUNT PAGE   at most so many lines, each of at most 120 characters (COUNT 0: of any number)
        .ci/pages.py wide COUNT FILE..   at most so many lines of the files have more than 100 characters
        .ci/pages.py names PAGE..        each path and each word of code on a page stands in the tree
+       .ci/pages.py links PAGE..        each link to a file of the tree, and to a heading there, leads to one
 """
 import json, os, re, subprocess, sys
 
@@ -65,6 +66,24 @@ def names(*pages):
     print("\n".join(lost), end="\n" if lost else "", file=sys.stderr)
     return pages and not lost
 
+def anchors(page):
+    """The headings of a page as links name them."""
+    titles = re.findall(r"^#+ (.*)$", re.sub(r"^```.*?^```$", "", text_of(page), flags=re.M | re.S), re.M)
+    return {re.sub(r"[^\w -]", "", it.lower()).replace(" ", "-") for it in titles}
+
+def links(*pages):
+    files = set(subprocess.run(["git", "ls-files"], capture_output=True, text=True).stdout.split("\n"))
+    folders = {file[:file.rindex("/")] for file in files if "/" in file}
+    lost = []
+    for page in pages:
+        for target in re.findall(r"\]\(([^)\s]+)\)", re.sub(r"^```.*?^```$", "", text_of(page), flags=re.M | re.S)):
+            path, _, anchor = target.partition("#")
+            file = os.path.normpath(os.path.join(os.path.dirname(page), path)) if path else page
+            if "://" not in target and (file not in files | folders or anchor and anchor not in anchors(file)):
+                lost.append(f"{page}: {target}")
+    print("\n".join(lost), end="\n" if lost else "", file=sys.stderr)
+    return pages and not lost
+
 if __name__ == "__main__":
     name, *words = sys.argv[1:]
-    sys.exit(0 if {"commands": commands, "lines": lines, "job": job, "narrow": narrow, "wide": wide, "names": names}[name](*words) else 1)
+    sys.exit(0 if {"commands": commands, "lines": lines, "job": job, "narrow": narrow, "wide": wide, "names": names, "links": links}[name](*words) else 1)
