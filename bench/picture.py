@@ -6,7 +6,7 @@ usage: bench/picture.py JOB OUT.svg
 Below runs the true claim. The other one is above it where both differ, and on it where they are the same, so that the
 picture shows where they part, and at which challenge they meet again. Height says nothing else. The true claims are sums
 over the table and its weights, computed here and not by the program; from the program's report come the rounds and
-challenges, and the verdict in the title. The program is `./sumcheck`, or that of the variable SUMCHECK_PROGRAM.
+challenges, and the verdict in the title.
 """
 import json, os, sys
 
