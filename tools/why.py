@@ -15,16 +15,21 @@ import answers, forms, program, scan, truth
 from fill import command_of
 
 
+MOST_BYTES = 1 << 26
+
+
 class Case:
     """A file, and what the program says of it."""
 
     def __init__(self, words):
         self.file, self.data = words[-1], program.bytes_of(words[-1])
         self.text = scan.text_of(self.data)
+        self.value = self.fault = None
         try:
-            self.value, self.fault = scan.read(self.data), None
+            if len(self.data) <= MOST_BYTES:
+                self.value = scan.read(self.data)
         except scan.Fault as fault:
-            self.value, self.fault = None, fault
+            self.fault = fault
         self.command = command_of(words[:-1], self.value) if self.value else (words[:-1] or ["audit"])[0]
         self.status, said = program.run([self.command], self.data)
         self.told = answers.read(said)
@@ -48,7 +53,7 @@ class Case:
 # ---- Texts, and members of a job
 
 def too_long(case):
-    case.say(f"The input has {len(case.data)} bytes; at most 67108864 are read.")
+    case.say(f"The input has {len(case.data)} bytes; at most {MOST_BYTES} are read.")
 
 
 def bad_json(case):
@@ -278,7 +283,7 @@ def proof_refused(case):
     if case.told["cause"] == "width":
         case.say(f"Its values stand at {case.at(round_value(case, case.told['round']).start)}.")
         return
-    if say_claims(case):
+    if say_claims(case) or case.command == "audit":  # a claimed sum of product is shown to the challenger, a claim of audit is not
         say_rounds(case, None)
 
 
