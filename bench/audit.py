@@ -16,6 +16,7 @@ The peak is what the program `time` tells; without it, at least this script's ow
 """
 import argparse, json, os, random, shlex, sys, tempfile
 
+sys.path.insert(0, os.path.join(os.path.dirname(os.path.abspath(__file__)), "..", "tools"))
 from fields import FIELDS, equality_weights, powers, products, successor_weights, total, value_at
 from measured import compare, run, wants
 

@@ -12,7 +12,7 @@ import json, os, sys
 
 sys.path.insert(0, os.path.join(os.path.dirname(os.path.abspath(__file__)), "..", "tools"))
 import answers, program
-from fields import FIELDS, equality_weights, powers, products, successor_weights, total
+from fields import FIELDS, equality_weights, left, powers, products, successor_weights, total
 from truth import list_name
 
 STEP, LEFT, HIGH, LOW, HEIGHT = 132, 84, 92, 158, 236
@@ -53,13 +53,6 @@ def batched(field, job):
             weights = [field.add(w, field.mul(power, o)) for w, o in zip(weights, own)]
             claim, power, count = field.add(claim, field.mul(power, it["value"])), field.mul(power, job["batching"]), count + 1
     return weights, claim, false, count
-
-
-def left(field, claim, values, challenge):
-    """What a round leaves of a claim."""
-    a, b = values
-    slope = field.sub(field.sub(field.sub(claim, a), a), b)
-    return field.add(a, field.mul(challenge, field.add(slope, field.mul(b, challenge))))
 
 
 def courses(job, report):

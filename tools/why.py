@@ -11,11 +11,12 @@ a build, both by further runs of the program. The command is `product` where the
 """
 import difflib, json, sys, textwrap
 
-import answers, forms, program, scan, truth
+import answers, fields, forms, likely, program, scan, truth
 from fill import command_of
 
 
 MOST_BYTES = 1 << 26
+MOST_DEGREE = 8  # of a polynomial whose roots are looked for here, at every element
 
 
 class Case:
@@ -184,9 +185,9 @@ def parts(case, challenge):
     return [challenge % 257, challenge // 257] if case.job()["field"] == "257x2" else [challenge]
 
 
-def true_build(case, challenges):
+def true_build(case, challenges, order=None):
     """A build of the same job with true claims: under the challenges that were drawn, or else the job's own challenger."""
-    job = case.job()
+    job = case.job() | ({"order": order} if order else {})
     if challenges is not None:
         draws = [part for it in challenges for part in parts(case, it)]
         job |= {"challenger": {"draws": draws, "witnesses": []}, "bits": 0}
@@ -195,22 +196,30 @@ def true_build(case, challenges):
     return truth.built("audit", truth.filled(job) | {"mode": {"build": "plain"}})
 
 
+def say_likely(case, built, number, challenges):
+    """What the first round that differs looks like, where it is one for `audit`."""
+    if case.command == "audit" and len(rounds_of(case)[0][number]) == 2:
+        other = true_build(case, challenges, "suffix" if case.job()["order"] == "prefix" else "prefix")[1].get("rounds", [])
+        case.say(*likely.guesses(case.job(), built, number, rounds_of(case)[0][number], other))
+
+
 def compare(case, built, whose):
-    """Names the first round of the proof that differs from a build's, in its values or in its witness."""
+    """Names the first round of the proof that differs from a build's, in its values or in its witness: its number, where values do."""
     rounds, witnesses = rounds_of(case)
     for number, (sent, true) in enumerate(zip(rounds, built)):
         if sent != true["values"]:
             place = round_value(case, number)
             case.say(f"Round {number} is the first that differs: it sends {words(sent)}, at {case.at(place.start)}, and {whose} sends "
                      f"{words(true['values'])}.")
-            return
+            return number
         witness = witnesses[number] if number < len(witnesses) else None
         if "witness" in true and witness is not None and witness != true["witness"]:
             case.say(f"Up to round {number} the values are those of {whose}; the witness there is {witness}, and {true['witness']} is the least "
                      "number that passes. After another witness the challenges are others too, so later rounds are not compared.")
-            return
+            return None
     common = min(len(rounds), len(built))
     case.say(f"The values of the {common} rounds that can be compared are those of {whose}." if common else "There are no rounds to compare.")
+    return None
 
 
 def words(numbers):
@@ -240,7 +249,9 @@ def say_rounds(case, challenges):
     status, told = true_build(case, challenges)
     whose = "a build of the true claims" + ("" if challenges is None else " at the same challenges")
     if status == 0:
-        compare(case, told["rounds"], whose)
+        number = compare(case, told["rounds"], whose)
+        if number is not None:
+            say_likely(case, told, number, challenges)
     elif told["outcome"] == "no-witness":
         status, told = true_build(case, [])
         case.say(f"A build of this job finds no witness for round {told.get('round', 0)}, so only the first round is compared." if status else
@@ -265,6 +276,8 @@ def lucky(case):
     where = "the batching challenge" if "round" not in told else f"the challenge of round {told['round']}, which is {case.told['rounds'][told['round']]['challenge']},"
     case.say(f"The rounds are right all the same, since {where} is one of {told['vanishing']} at which the polynomial above vanishes, of degree "
              f"at most {degree}; at any other the claim would have stayed false.")
+    if degree <= MOST_DEGREE:
+        case.say(f"It vanishes at {words(fields.roots(fields.FIELDS[case.job()['field']], told['poly']))}.")
 
 
 PROOFS = {

@@ -1,5 +1,7 @@
-"""The fields that jobs name, and what statements weigh the rows of a table by, by plain sums and products: for the scripts
-beside this one. Nothing here comes from the program, so that its answers can be held against it.
+"""The fields that jobs name, and what statements weigh the rows of a table by, by plain sums and products. Unproved.
+
+Nothing here comes from the program, so that its answers can be held against it: for the scripts in bench/, and for what
+the readers here say of a round beside the true one.
 """
 
 
@@ -75,6 +77,23 @@ def total(field, numbers):
     for it in numbers:
         result = field.add(result, it)
     return result
+
+
+def left(field, claim, values, challenge):
+    """What a round of two values leaves of a claim at its challenge."""
+    a, b = values
+    slope = field.sub(field.sub(field.sub(claim, a), a), b)
+    return field.add(a, field.mul(challenge, field.add(slope, field.mul(b, challenge))))
+
+
+def roots(field, poly):
+    """The elements at which a polynomial vanishes, the constant coefficient first."""
+    def at(x):
+        value = 0
+        for c in reversed(poly):
+            value = field.add(field.mul(value, x), c)
+        return value
+    return [x for x in range(field.size) if at(x) == 0]
 
 
 def value_at(field, table, point):
