@@ -2,12 +2,29 @@
 
 usage: .ci/readers.py text < JSON      the text of a report or a refusal from its JSON: what --json has read is written back
        .ci/readers.py texts JOB..      what the program says of each job is read, and gives the same text again
+       .ci/readers.py strange          texts that are none of the program's are read as none
+       .ci/readers.py places           texts that are no JSON, each with the place where they stop being so, on which the program agrees
+       .ci/readers.py slips            proofs with a slip, each with what its first wrong round looks like
        .ci/readers.py why JOB..        of each job that does not hold more is told than the program's own line, and of others no more
 """
-import json, os, sys
+import json, os, sys, tempfile
 
 sys.path.insert(0, os.path.join(os.path.dirname(os.path.abspath(__file__)), "..", "tools"))
-import answers, program, why
+import answers, program, scan, why
+
+STRANGE = ["claim 2\n", "claim 2\nround 1: 2 3 challenge 4\nverdict holds\n", "claim 2\nverdict perhaps\n", "verdict holds\nclaim 2\n",
+           "refused bad-jso\n", "claim 2\nverdict holds", "claim 2\nclaim 2\nverdict holds\n", "claim -2\nverdict holds\n",
+           "claim 2\nverdict lucky-round vanishing 1 poly 1\n", "claim 2\ngrid 0 infinity 1\nverdict holds\n"]
+
+PLACES = [(b"\xef\xbb\xbf{}", 1, 1), (b'{"a":1,\n"b":01}', 2, 5), (b"[1,\n 1e400]", 2, 2), (b'["\\ud800"]', 1, 3), (b'["a\x01"]', 1, 4),
+          (b'["\xff"]', 1, 3), (b"[1.]", 1, 3), (b'{"a" 1}', 1, 6), (b"[1] 2", 1, 5), (b"[tru]", 1, 2), (b"[" * 128, 1, 128), (b"", 1, 1),
+          (b'{"a":1', 1, 1), (b"[1.]", 1, 3), (b'"\\x"', 1, 2), (b"{1:2}", 1, 2), (b"\n\n [1 2]", 3, 5), (b"[-]", 1, 3)]
+
+SLIPS = [([[65535, 2], [65535, 0]], "the same two values in the other order"),
+         ([[2, 0], [0, 65519]], "the value at 1 in the place of the leading coefficient"),
+         ([[2, 65531], [0, 0]], "the value at 2 in the place of the leading coefficient"),
+         ([[0, 65535], [0, 65535]], "the value at 1 in the place of that at 0"),
+         ([[0, 1], [12, 65531]], 'the round of a build in the order "suffix"')]
 
 REFUSALS = {
     "too-long": "", "bad-json": "", "bad-job": " {member}", "false-claim": " {statement} claimed {claimed} true {true}",
@@ -83,14 +100,40 @@ def tells_why(job):
     return case.line == said.splitlines()[-1] and (told, bool(case.notes)) == ((1, True) if status else (0, False))
 
 
-def all_of(test, jobs):
-    wrong = [job for job in jobs if not test(job)]
-    print("\n".join(wrong), end="\n" if wrong else "", file=sys.stderr)
-    return 0 if jobs and not wrong else 1
+def is_strange(said):
+    try:
+        return answers.read(said) is None
+    except answers.Unknown:
+        return True
+
+
+def is_placed(it):
+    data, *wanted = it
+    try:
+        return scan.read(data) is None
+    except scan.Fault as fault:
+        return list(scan.place(scan.text_of(data), fault.offset)) == wanted and program.run(["audit"], data) == (3, "refused bad-json\n")
+
+
+def is_slip(it):
+    with open("jobs/proof.json", "rb") as file, tempfile.NamedTemporaryFile() as out:
+        rounds, name = it
+        out.write(json.dumps(json.load(file) | {"mode": {"check": {"rounds": rounds, "witnesses": []}}}).encode())
+        out.flush()
+        case = why.Case([out.name])
+        return why.explained(case) == 1 and f"That would be {name}." in case.notes
+
+
+def all_of(test, cases):
+    wrong = [case for case in cases if not test(case)]
+    print("\n".join(map(str, wrong)), end="\n" if wrong else "", file=sys.stderr)
+    return 0 if cases and not wrong else 1
 
 
 if __name__ == "__main__":
     if sys.argv[1] == "text":
         print(text(json.load(sys.stdin)), end="")
     else:
-        sys.exit(all_of({"texts": reads_back, "why": tells_why}[sys.argv[1]], sys.argv[2:]))
+        own = {"strange": (is_strange, STRANGE), "places": (is_placed, PLACES), "slips": (is_slip, SLIPS)}
+        jobs = {"texts": reads_back, "why": tells_why}
+        sys.exit(all_of(*own[sys.argv[1]]) if sys.argv[1] in own else all_of(jobs[sys.argv[1]], sys.argv[2:]))

@@ -253,10 +253,8 @@ def say_rounds(case, challenges):
         if number is not None:
             say_likely(case, told, number, challenges)
     elif told["outcome"] == "no-witness":
-        status, told = true_build(case, [])
-        case.say(f"A build of this job finds no witness for round {told.get('round', 0)}, so only the first round is compared." if status else
-                 "A build of this job finds no witness for some round, so only the first round is compared.")
-        compare(case, told.get("rounds", [])[:1], whose)
+        case.say(f"A build of this job finds no witness for round {told['round']}, so only the first round is compared.")
+        compare(case, true_build(case, [])[1].get("rounds", [])[:1], whose)
     else:
         raise program.Unable(f"a build ended with status {status}: {told}")
 
