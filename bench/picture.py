@@ -1,21 +1,22 @@
 #!/usr/bin/env python3
-"""Draws the rounds of a job for `audit` that checks or builds a proof, from left to right: the claim that runs through them, and the true one.
+"""Draws the rounds of a job, built or checked, from left to right: the claim that runs through them, and the true one.
 
 usage: bench/picture.py JOB OUT.svg
 
 Below runs the true claim. The other one is above it where both differ, and on it where they are the same, so that the
 picture shows where they part, and at which challenge they meet again. Height says nothing else. The true claims are sums
-over the table and its weights, computed here and not by the program; from the program's report come the rounds and
-challenges, and the verdict in the title.
+over the table and its weights, or over the product of tables, computed here and not by the program; from the program's
+report come the rounds and challenges, and the verdict in the title. The command is `product` where the job has `tables`.
 """
 import json, os, sys
 
 sys.path.insert(0, os.path.join(os.path.dirname(os.path.abspath(__file__)), "..", "tools"))
 import answers, program
-from fields import FIELDS, equality_weights, left, powers, products, successor_weights, total
+from fields import FIELDS, equality_weights, left, powers, products, successor_weights, through, total
+from fill import named_command
 from truth import list_name
 
-STEP, LEFT, HIGH, LOW, HEIGHT = 132, 84, 92, 158, 236
+STEP, LEFT, HIGH, LOW, HEIGHT = 132, 104, 96, 162, 240
 TRUE, FALSE, LUCKY = "#2f7d46", "#b3341f", "#c77d00"
 
 
@@ -55,8 +56,8 @@ def batched(field, job):
     return weights, claim, false, count
 
 
-def courses(job, report):
-    """The claim that runs through the rounds and the true one, before the first round and after each."""
+def audit_courses(job, report):
+    """Of a job for `audit`: the claim that runs through the rounds and the true one, before the first round and after each; what is false at the start."""
     field = FIELDS[job["field"]]
     weights, claim, false, count = batched(field, job)
     table, claims, true = job["table"], [claim], [inner(field, job["table"], weights)]
@@ -64,9 +65,36 @@ def courses(job, report):
         claims.append(left(field, claims[-1], it["values"], it["challenge"]))
         table, weights = (bound(field, part, it["challenge"], job["order"]) for part in (table, weights))
         true.append(inner(field, table, weights))
-    if (claims[0], claims[-1], table, weights) != (report["claim"], report["residual"], [report["eval"]], [report["weight"]]):
+    agree = (table, weights) == ([report["eval"]], [report["weight"]])
+    return claims, true, false and f"{false} of {count} false", agree
+
+
+def product_courses(job, report):
+    """The same of a job for `product`."""
+    field, tables = FIELDS[job["field"]], job["tables"]
+
+    def summed():
+        rows = tables[0]
+        for other in tables[1:]:
+            rows = list(map(field.mul, rows, other))
+        return total(field, rows)
+
+    true = [summed()]
+    claims = [job["mode"]["check"]["claimed"] if isinstance(job["mode"], dict) else true[0]]
+    for it in report["rounds"]:
+        first, *rest = it["values"]
+        claims.append(through(field, [first, field.sub(claims[-1], first), *rest], it["challenge"]))
+        tables = [bound(field, table, it["challenge"], "prefix") for table in tables]
+        true.append(summed())
+    return claims, true, claims[0] != true[0] and "a false sum", true[-1] == report["product"]
+
+
+def courses(job, report):
+    """Both courses and what is false at the start, where the program's report agrees with these sums."""
+    claims, true, false, agree = (product_courses if "product" in report else audit_courses)(job, report)
+    if not agree or (claims[0], claims[-1]) != (report["claim"], report["residual"]):
         raise program.Unable("the report is not that of these sums")
-    return claims, true, false, count
+    return claims, true, false
 
 
 # ---- The picture
@@ -101,7 +129,7 @@ def ways(columns):
 
 def steps(report, columns, batching):
     """What stands between the columns: the batching challenge, and each round's values and challenge."""
-    names = [("batch", f"at {batching}")]
+    names = [("batch", f"at {batching}") if batching is not None else ("sum", "claimed")]
     names += [(f"round {it['round']}: {' '.join(map(str, it['values']))}", f"challenge {it['challenge']}") for it in report["rounds"]]
     for (x1, *_), (x2, *_), (above, below) in zip(columns, columns[1:], names):
         middle = (x1 + x2) // 2
@@ -109,28 +137,32 @@ def steps(report, columns, batching):
 
 
 def title(report):
+    """The verdict, and of a lucky one which challenge it was."""
     lucky = report.get("lucky")
     if not lucky:
-        return f"verdict {report['verdict']}"
+        return f"verdict {report['verdict']}", ""
     challenge = f"of round {lucky['round']}" if "round" in lucky else "of the batch"
-    return f"verdict {report['verdict']}: the challenge {challenge} is one of {lucky['vanishing']} at which the claim turns true"
+    return f"verdict {report['verdict']}", f"the challenge {challenge} is one of {lucky['vanishing']} at which the claim turns true"
 
 
 def picture(job, report):
-    claims, true, false, count = courses(job, report)
-    columns = [(LEFT, f"{false} of {count} false", "true values", not false)]
-    columns += [(LEFT + STEP * (i + 1), c, t, c == t) for i, (c, t) in enumerate(zip(claims, true))]
-    width = LEFT + STEP * len(claims) + LEFT
+    claims, true, false = courses(job, report)
+    step = max(STEP, max([6 * len(" ".join(map(str, it["values"]))) + 66 for it in report["rounds"]], default=0))
+    columns = [(LEFT, false, "true values" if false else "all true", not false)]
+    columns += [(LEFT + step * (i + 1), c, t, c == t) for i, (c, t) in enumerate(zip(claims, true))]
+    verdict, why = title(report)
+    width = max(LEFT + step * len(claims) + LEFT, 32 + 6 * len(why))
     yield (f'<svg xmlns="http://www.w3.org/2000/svg" width="{width}" height="{HEIGHT}" viewBox="0 0 {width} {HEIGHT}" role="img" '
            'font-family="sans-serif" font-size="13">')
-    yield f"<title>{title(report)}</title>"
+    yield f"<title>{verdict}{': ' if why else ''}{why}</title>"
     yield f'<rect width="{width}" height="{HEIGHT}" fill="white"/>'
-    yield f'<text x="16" y="24" font-weight="bold">{title(report)}</text>'
+    yield f'<text x="16" y="22" font-weight="bold">{verdict}</text>' + (f'<text x="16" y="40" font-size="11">{why}</text>' if why else "")
     yield f'<text x="16" y="{LOW + 4}" fill="{TRUE}">true</text>'
-    yield f'<text x="16" y="{HIGH + 4}" fill="{FALSE}">claimed</text>' if any(not same for *_, same in columns) else ""
+    if any(not same for *_, same in columns):
+        yield f'<text x="16" y="{HIGH + 4}" fill="{FALSE}">claimed</text>'
     yield from ways(columns)
     yield from marks(columns)
-    yield from steps(report, columns, job["batching"])
+    yield from steps(report, columns, job.get("batching") if "product" not in report else None)
     yield "</svg>"
 
 
@@ -138,13 +170,15 @@ def main(words):
     if len(words) != 2:
         raise program.WrongWords
     data = program.bytes_of(words[0])
-    status, said = program.run(["audit"], data)
-    report = answers.read(said)
+    try:
+        job = json.loads(data)
+    except ValueError as why:
+        raise program.Unable(f"{words[0]} is no JSON: {why}") from None
+    report = answers.read(program.run([named_command(job)], data)[1])
     if report["outcome"] != "report":
-        raise program.Unable(f"{words[0]} has no report: {said.strip()}")
-    lines = [it for it in picture(json.loads(data), report) if it]
+        raise program.Unable(f"{words[0]} has no report: {report}")
     with open(words[1], "w", encoding="utf-8") as out:
-        out.write("\n".join(lines) + "\n")
+        out.write("\n".join(picture(job, report)) + "\n")
     return 0
 
 

@@ -86,6 +86,27 @@ def left(field, claim, values, challenge):
     return field.add(a, field.mul(challenge, field.add(slope, field.mul(b, challenge))))
 
 
+def inverse(field, x):
+    """The inverse of an element that is not 0, which is its power `size - 2`."""
+    result, exponent = 1, field.size - 2
+    while exponent:
+        if exponent & 1:
+            result = field.mul(result, x)
+        x, exponent = field.mul(x, x), exponent >> 1
+    return result
+
+
+def through(field, values, x):
+    """The value at x of the polynomial that has these values at the elements number 0, 1, 2 and so on."""
+    terms = []
+    for i, value in enumerate(values):
+        for j in range(len(values)):
+            if j != i:
+                value = field.mul(value, field.mul(field.sub(x, j), inverse(field, field.sub(i, j))))
+        terms.append(value)
+    return total(field, terms)
+
+
 def roots(field, poly):
     """The elements at which a polynomial vanishes, the constant coefficient first."""
     def at(x):

@@ -14,11 +14,14 @@ import json, sys
 import answers, forms, program, scan, truth
 
 
+def named_command(members):
+    """The command that a job is for, by the names of its members."""
+    return "product" if "tables" in members and "table" not in members else "audit"
+
+
 def command_of(words, value):
     """The command that a job is for: the one that is named, or by the members."""
-    if words:
-        return words[0]
-    return "product" if value.kind == "object" and value.member("tables") and not value.member("table") else "audit"
+    return words[0] if words else named_command({name for name, _ in value.content} if value.kind == "object" else ())
 
 
 def replaced(text, changes):
