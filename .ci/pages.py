@@ -8,7 +8,7 @@ usage: .ci/pages.py commands PAGE..     each command after a '$ ' writes what st
        .ci/pages.py names PAGE..        each path and each word of code on a page stands in the tree
        .ci/pages.py links PAGE..        each link to a file of the tree, and to a heading there, leads to one
 """
-import json, os, re, subprocess, sys
+import concurrent.futures, json, os, re, subprocess, sys
 
 # What a page names in the type of code that is no path and no word of this tree.
 OTHERS = {"p3-sumcheck", "rattle-kit-13", "NAME_tests", "OTHER_PROGRAM", "_prefix", "_suffix", "_in", "_of", "_by", "x.old", "x.new", "./sumcheck"}
@@ -25,7 +25,13 @@ def commands(*pages):
     """Unproved runs are left out: another check makes one."""
     runs = [it for page in pages for block in blocks(page) for it in re.findall(r"^\$ (.*)\n((?:(?!\$ ).*\n)*)", block, re.M)]
     runs = [it for it in runs if "--try" not in it[0]]
-    wrong = [line for line, wanted in runs if subprocess.run(["bash", "-c", line], capture_output=True, text=True).stdout != wanted]
+
+    def said(run):
+        return subprocess.run(["bash", "-c", run[0]], capture_output=True, text=True).stdout
+
+    with concurrent.futures.ThreadPoolExecutor(4) as pool:
+        wrong = [line for (line, wanted), told in zip(runs, pool.map(said, runs)) if told != wanted]
+    print("\n".join(wrong), end="\n" if wrong else "", file=sys.stderr)
     return runs and not wrong
 
 def lines(page, *files):

@@ -76,6 +76,8 @@ class Printed:
         return {"struct": name} | dict(self.several("{", "}", self.field))
 
     def field(self):
+        if self.at >= len(self.tokens):
+            raise program.Unable("the proof breaks off")
         name = self.tokens[self.at].group(2) or ""
         self.at += 1
         self.take(":")

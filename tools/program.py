@@ -5,6 +5,10 @@ SUMCHECK_PROGRAM of the environment names a program, that one is run in its plac
 """
 import os, subprocess, sys
 
+if sys.version_info < (3, 11):
+    print("sumcheck: the readers beside the program want Python 3.11", file=sys.stderr)
+    sys.exit(11)
+
 TOP = os.path.dirname(os.path.dirname(os.path.abspath(__file__)))
 WRONG_WORDS, UNABLE = 2, 11  # statuses of the tools' own
 
