@@ -8,3 +8,5 @@ pub mod TableProductLaws
 pub mod FixedTables
 pub mod CoefficientLaws
 pub mod TurnLaws
+pub mod SentLaws
+pub mod CertifiedTurns

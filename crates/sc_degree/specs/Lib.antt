@@ -11,3 +11,4 @@ pub mod Arities
 pub mod Products
 pub mod Laws
 pub mod Turns
+pub mod TiedLaws

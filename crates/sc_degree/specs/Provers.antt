@@ -1,8 +1,9 @@
 -- What plays rounds of any degree, and what it leaves.
-use Rattle.std.specs.Prelude.{◌≡◌, ◌⊎◌, ℕ, ◌+◌, ◌<◌, ◌≤◌, List, [], ◌++◌, length, map, All, Result, Ok, Err}
+use Rattle.std.specs.Prelude.{◌≡◌, ◌⊎◌, ℕ, suc, ◌+◌, ◌<◌, ◌≤◌, List, [], ◌∷◌, ◌++◌, length, take, map, All, Result, Ok, Err}
 use Rattle.sc_definitions.specs.declared.events.Event.{Event}
-use Rattle.sc_definitions.specs.Ring.{Ops}
+use Rattle.sc_definitions.specs.Ring.{Ops, ◌+⟨◌⟩◌}
 use Rattle.sc_definitions.specs.Transcript.{Round, rounds_events, challenges}
+use Rattle.sc_definitions.specs.Polynomials.{poly_at}
 use Rattle.sc_definitions.specs.Interpolation.{node_values}
 use Rattle.sc_definitions.specs.Channels.{Channel, Wire, empty_wire, with_rounds, witnesses_of, NoWitnessFound, IsBuilt}
 use Rattle.sc_degree.specs.declared.error.GenericDegreeError.{GenericDegreeError}
@@ -20,12 +21,25 @@ pub record Prover : Type 0 where
   pub polynomial : List ℕ → List ℕ
   pub claim : List ℕ → ℕ
 
+-- Its claims are those of its polynomials. A polynomial has one coefficient more than the degree, its values at 0 and 1 are in sum the claim before the
+-- round, and its value at a challenge is the claim after it.
+pub record IsTied (o : Ops) (p : Prover) : Type 0 where
+  pub coefficients : (rs : List ℕ) → length rs < p.variables → length (p.polynomial rs) ≡ suc p.degree
+  pub sum : (rs : List ℕ) → length rs < p.variables → poly_at o (p.polynomial rs) 0 +⟨ o ⟩ poly_at o (p.polynomial rs) 1 ≡ p.claim rs
+  pub next : (rs : List ℕ) (r : ℕ) → length rs < p.variables → poly_at o (p.polynomial rs) r ≡ p.claim (rs ++ r ∷ [])
+
 -- the same prover with the challenges rs folded in
 pub record IsFolded (rs : List ℕ) (before after : Prover) : Type 0 where
   pub degree : after.degree ≡ before.degree
   pub variables : before.variables ≡ length rs + after.variables
   pub polynomial : (qs : List ℕ) → length qs < after.variables → after.polynomial qs ≡ before.polynomial (rs ++ qs)
   pub claim : (qs : List ℕ) → length qs ≤ after.variables → after.claim qs ≡ before.claim (rs ++ qs)
+
+-- the same prover with the first ones of these challenges folded in
+pub record IsFoldedInPart (rs : List ℕ) (before after : Prover) : Type 0 where
+  pub count : ℕ
+  pub few : count ≤ length rs
+  pub folded : IsFolded (take count rs) before after
 
 -- what it sends after the challenges rs, with m variables after the round's: the values of its polynomial at the nodes of its degree
 abbrev pub sent_after : Ops → Prover → List ℕ → ℕ → List ℕ

@@ -5,7 +5,7 @@ ghost use Rattle.sc_definitions.specs.Interpolation.{node_values};
 ghost use Rattle.sc_transcript.specs.Drivers.{channel_of, Continues, HasRoundLeft, IsDone};
 ghost use Rattle.sc_transcript.specs.Transcripts.{driver_in};
 ghost use Rattle.sc_degree.specs.Shapes.{generic_shape};
-ghost use Rattle.sc_degree.specs.Provers.{Prover, IsFolded, play_of, LeavesPlay};
+ghost use Rattle.sc_degree.specs.Provers.{Prover, IsTied, IsFolded, play_of, LeavesPlay};
 ghost use Rattle.sc_degree.specs.Plays.{IsReady, HasNoRound, playing, LeavesRound, LeavesProgress};
 
 use crate::error::GenericDegreeError;
@@ -21,8 +21,8 @@ use std::alloc::Global;
 /// What plays rounds of any degree: a polynomial of several variables, each of at most that degree,
 /// whose sum over all rows is claimed. Each round binds the first variable that is left.
 pub trait RoundProver<EF: Field> {
-    // The degree, how many variables are left, and the polynomial of the round after each list of
-    // challenges.
+    // The degree, how many variables are left, and, after each list of challenges, the polynomial
+    // of the round and the true claim.
     ghost meaning: { Self → Prover };
 
     /// The degree of the rounds' polynomials, which is how many values a round sends.
@@ -45,6 +45,9 @@ pub trait RoundProver<EF: Field> {
         requires nodes { (meaning self.now).degree < EF.ops.size }
         ensures { IfOk result (λ v. map EF.number v.items
             ≡ node_values EF.ops (meaning self.now).degree ((meaning self.now).polynomial [])) };
+
+    // The true claims are those of the polynomials.
+    ghost tied: { (p : Self) → IsTied EF.ops (meaning p) };
 
     /// Plays so many rounds, and answers the proof and the challenges in drawing order. The claimed
     /// sum is observed as it is given, and not tested.

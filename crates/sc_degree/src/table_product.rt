@@ -80,8 +80,11 @@ impl<EF: Field> TableProduct<EF> {
 
 impl<EF: Field> RoundProver<EF> for TableProduct<EF> {
     ghost use Rattle.sc_degree.specs.Products.{prover_of, tables_of, product_arity};
+    ghost use Rattle.sc_degree.specs.TiedLaws.{product-tied};
 
     ghost meaning = { λ p. prover_of EF.ops (tables_of EF.number p) (product_arity p) };
+
+    ghost tied = { λ p. product-tied EF.ops EF.is_field.ring (tables_of EF.number p) (product_arity p) };
 
     fn degree(&self) -> usize {
         self.tables.len()

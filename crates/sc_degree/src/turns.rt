@@ -1,12 +1,14 @@
 //! The round of a proof that turned a false claim about a product of tables into the true one.
-ghost use Rattle.std.specs.Prelude.{◌≡◌, ◌<◌, ◌≤◌, [], All, IfOk, OnOk, length, map, option_map};
-ghost use Rattle.sc_definitions.specs.Interpolation.{sent_through};
-ghost use Rattle.sc_definitions.specs.Lucky.{first_turn, product_course};
+ghost use Rattle.std.specs.Prelude.{◌≡◌, ◌≢◌, ◌+◌, ◌<◌, ◌≤◌, [], All, length, map, option_map};
+ghost use Rattle.std.specs.Prelude.{IfOk, IfSome, IsSome, OnErr, OnOk};
+ghost use Rattle.sc_definitions.specs.Interpolation.{next_through, sent_through};
+ghost use Rattle.sc_definitions.specs.Lucky.{IsTurn, first_turn, product_course};
 ghost use Rattle.sc_definitions.specs.Polynomials.{poly_minus};
 ghost use Rattle.sc_definitions.specs.Products.{product_claim, values_product};
+ghost use Rattle.sc_definitions.specs.Rounds.{claim_along};
 ghost use Rattle.sc_degree.specs.Interpolators.{degree_of};
 ghost use Rattle.sc_degree.specs.Products.{product_arity, prover_of, tables_of};
-ghost use Rattle.sc_degree.specs.Provers.{IsFolded};
+ghost use Rattle.sc_degree.specs.Provers.{IsFolded, IsFoldedInPart};
 ghost use Rattle.sc_degree.specs.Turns.{product_turn};
 
 use crate::coefficients::difference;
@@ -29,8 +31,13 @@ pub struct FoundTurn<EF> {
 /// claim: the first one after which the claim is the true one, if there is one. The tables are
 /// bound at all challenges in their places.
 ///
+/// Where the claim before all rounds is false, the polynomial of a round that is found is not zero,
+/// vanishes at the round's challenge, and has at most as many roots as there are tables; and where
+/// the claim after all rounds is then the true one, a round is found.
+///
 /// Each round sends as many values as there are tables, and the nodes up to that number are
-/// elements. After `NoMemory` nothing is said of the tables, of which some variables may be bound.
+/// elements. After `NoMemory` the tables are bound at the challenges of some of the rounds, from
+/// the first one on, or of none.
 pub fn find_turn<EF: Field>(
     alloc: Global,
     product: &mut TableProduct<EF>,
@@ -47,10 +54,22 @@ pub fn find_turn<EF: Field>(
         ≡ first_turn (product_course EF.ops (tables_of EF.number product.old)) 0
         (EF.number claim) (map (λ m. map EF.number m.items) messages.now) []
         (map EF.number challenges.now)) }
+    ensures certified { EF.number claim ≢ product_claim EF.ops (tables_of EF.number product.old) []
+        (product_arity product.old) → IfOk result (λ found. IfSome found (λ t. IsTurn EF.ops
+        (length (tables_of EF.number product.old) + 1) 0 (map EF.number challenges.now)
+        (product_turn EF.number t))) }
+    ensures some { EF.number claim ≢ product_claim EF.ops (tables_of EF.number product.old) []
+        (product_arity product.old) → claim_along (next_through EF.ops) (EF.number claim)
+        (map (λ m. map EF.number m.items) messages.now) (map EF.number challenges.now)
+        ≡ values_product EF.ops (tables_of EF.number product.old) (map EF.number challenges.now)
+        → IfOk result IsSome }
     ensures arity { OnOk result (product_arity product.new ≡ 0) }
     ensures bound { OnOk result (product_claim EF.ops (tables_of EF.number product.new) [] 0
         ≡ values_product EF.ops (tables_of EF.number product.old)
         (map EF.number challenges.now)) }
+    ensures refused { OnErr result (IsFoldedInPart (map EF.number challenges.now)
+        (prover_of EF.ops (tables_of EF.number product.old) (product_arity product.old))
+        (prover_of EF.ops (tables_of EF.number product.new) (product_arity product.new))) }
 {
     let nodes = RoundPolyInterpolator::new(alloc, product.degree())?;
     let mut claim = claim;

@@ -1,5 +1,5 @@
 //! A prover by plain loops: the sum over all rows of two products of two tables.
-ghost use Rattle.std.specs.Prelude.{◌≡◌, ◌/◌, ◌<◌, [], ◌∷◌, length, map, vec_len};
+ghost use Rattle.std.specs.Prelude.{◌≡◌, ◌/◌, ◌^◌, ◌<◌, [], ◌∷◌, length, map, vec_len};
 ghost use Rattle.sc_definitions.specs.Ring.{◌+⟨◌⟩◌};
 ghost use Rattle.sc_definitions.specs.Polynomials.{poly_at};
 ghost use Rattle.sc_degree_tests.specs.Sums.{bound, constant, linear, leading, in_sum};
@@ -19,6 +19,8 @@ pub struct TwoProducts<EF> {
     variables: usize,
     ghost first: { vec_len a ≡ vec_len b },
     ghost second: { vec_len c ≡ vec_len d },
+    ghost rows: { vec_len a ≡ 2 ^ variables },
+    ghost other_rows: { vec_len c ≡ 2 ^ variables },
 }
 
 impl<EF: Field> TwoProducts<EF> {
@@ -26,6 +28,8 @@ impl<EF: Field> TwoProducts<EF> {
     pub fn new(a: Vec<EF>, b: Vec<EF>, c: Vec<EF>, d: Vec<EF>, variables: usize) -> Self
         requires first { vec_len a ≡ vec_len b }
         requires second { vec_len c ≡ vec_len d }
+        requires rows { vec_len a ≡ 2 ^ variables }
+        requires other_rows { vec_len c ≡ 2 ^ variables }
     {
         TwoProducts {
             a,
@@ -40,8 +44,11 @@ impl<EF: Field> TwoProducts<EF> {
 impl<EF: Field> RoundProver<EF> for TwoProducts<EF> {
     ghost use Rattle.sc_degree_tests.specs.Sums.{sum_of_two};
     ghost use Rattle.sc_degree_tests.specs.Views.{tables_in};
+    ghost use Rattle.sc_degree_tests.specs.TwoTied.{two-tied};
 
     ghost meaning = { λ p. sum_of_two EF.ops (tables_in EF.number p) p.variables };
+
+    ghost tied = { λ p. two-tied EF.ops EF.is_field.ring EF.number p };
 
     fn degree(&self) -> usize {
         2

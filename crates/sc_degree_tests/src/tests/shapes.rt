@@ -2,7 +2,7 @@
 //! part of this.
 use sc_challenger::{Interaction, Kind, Label, Length};
 use sc_degree::GenericDegreeShape;
-use sc_degree::laws::shape_laws;
+use sc_degree::laws::{round_laws, shape_laws};
 use sc_field::{ExtensionField, Field, NoMemory};
 use sc_small_fields::{F257, F257x2, F65537};
 use std::alloc::Global;
@@ -140,6 +140,8 @@ fn assert_shape<F: Field, EF: ExtensionField<F>, A: Abort>(rt: &A, alloc: Global
 #[test]
 fn a_shape_has_its_steps_and_its_separator(rt: HostRuntime) {
     shape_laws();
+    round_laws::<F65537>();
+    round_laws::<F257x2>();
     assert_shape::<F65537, F65537, HostRuntime>(&rt, rt.alloc(), &UNTESTED);
     assert_shape::<F257, F257x2, HostRuntime>(&rt, rt.alloc(), &TESTED);
 }

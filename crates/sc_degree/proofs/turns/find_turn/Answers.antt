@@ -8,6 +8,7 @@ use Rattle.sc_degree.specs.Provers.{IsFolded}
 use Rattle.sc_degree.specs.Products.{prover_of, tables_of, product_arity}
 use Rattle.sc_degree.proofs.PlayLaws.{sent_width}
 use Rattle.sc_degree.proofs.TurnLaws.{Finds, finds-more, finds-here, finds-none, folded-rest, folded-whole, value-left}
+use Rattle.sc_degree.proofs.CertifiedTurns.{certified-turn, some-turn}
 use Rattle.sc_degree.proofs.turns.find_turn.Goals as goal
 
 -- the honest values are as many as the degree
@@ -55,6 +56,17 @@ returns-then-index-clause-found g c =
     (c.in_ok-polynomial.ensures
     ∙ ap (λ l. poly_minus o (sent_through o (N c.loop-i.claim) (map N l)) (sent_through o (N c.loop-i.truth) (map N c.as_slice-then-index.result.now))) c.as_slice-values.ensures.value
     ∙ ap (λ l. poly_minus o (sent_through o (N c.loop-i.claim) (sends y)) (sent_through o (N c.loop-i.truth) (map N l))) c.as_slice-then-index.ensures.value))
+
+-- and is certified where it was false
+pub returns-then-index-clause-certified : goal.returns-then-index-clause-certified
+returns-then-index-clause-certified g c = λ wrong.
+    let e = g.EF.Field in
+    let N = e.number in
+    let first = c.args.product.now in
+    let fs = tables_of N first in
+    let some : 1 ≤ length fs = omega (arith, length-map first.tables.items (table_of N), first.some, first.tables.ok.0) in
+    certified-turn e.ops g.met.EF.Field.is_field fs (product_arity first) some c.requires.few N (N c.args.claim) c.args.messages.now (map N c.args.challenges.now)
+    (g.met.EF.Field.number_below c.args.claim) c.requires.messages c.requires.widths wrong _ (returns-then-index-clause-found g c)
 
 pub returns-then-index-clause-bound : goal.returns-then-index-clause-bound
 returns-then-index-clause-bound g c =
@@ -122,3 +134,16 @@ returns-clause-bound g c =
     let rs = c.args.challenges.now in
     value-left e.ops g.met.EF.Field.is_field.ring (tables_of N first) (tables_of N last) (product_arity first) (product_arity last) (map N rs)
     (folded-whole (map N rs) c.loop-i.i _ _ (omega (arith, length-map rs N, c.loop-i-test.false)) c.loop-i.invariant.finds.folded) (length-map rs N ∙ c.requires.challenges)
+
+-- which cannot be where it was false and ends as the true one
+pub returns-clause-some : goal.returns-clause-some
+returns-clause-some g c = λ wrong right.
+    let e = g.EF.Field in
+    let N = e.number in
+    let first = c.args.product.now in
+    let fs = tables_of N first in
+    let rs = c.args.challenges.now in
+    let some : 1 ≤ length fs = omega (arith, length-map first.tables.items (table_of N), first.some, first.tables.ok.0) in
+    absurd
+    (some-turn e.ops g.met.EF.Field.is_field fs (product_arity first) some c.requires.few N (N c.args.claim) c.args.messages.now (map N rs)
+    (g.met.EF.Field.number_below c.args.claim) c.requires.messages c.requires.widths wrong (length-map rs N ∙ c.requires.challenges) right (returns-clause-found g c))
