@@ -3,3 +3,4 @@ pub mod PartialTables
 pub mod NextTables
 pub mod SumLaws
 pub mod ProductLaws
+pub mod Refusals

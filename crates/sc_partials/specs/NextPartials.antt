@@ -75,6 +75,12 @@ pub record NextLeaves {EF : Type 0} (o : Ops) (number : EF → ℕ) (g : Opening
   pub rounds : next_rounds_in number new ≡ next_rounds_in number old ++ next_partials_of g.order o g.table g.point l
   pub sum : number value_is ≡ inner o (length g.point) g.table (successor_weight o g.point)
 
+-- Only the tables of the first few rounds do, of fewer than l: what a refusal leaves.
+pub record NextLeavesSome {EF : Type 0} (o : Ops) (number : EF → ℕ) (g : Opening) (l : ℕ) (old new : List (NextPartials EF)) : Type 0 where
+  pub count : ℕ
+  pub few : count < l
+  pub rounds : next_rounds_in number new ≡ next_rounds_in number old ++ next_partials_of g.order o g.table g.point count
+
 -- ---- a round that keeps one variable less
 
 -- the row of a table where its last variable in the order is 0, or where it is 1, m being the others

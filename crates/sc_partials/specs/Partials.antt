@@ -1,5 +1,5 @@
 -- What clauses see of partial tables.
-use Rattle.std.specs.Prelude.{◌≡◌, ℕ, ◌^◌, ◌<◌, ◌++◌, List, [], ◌∷◌, length, map}
+use Rattle.std.specs.Prelude.{◌≡◌, ℕ, ◌^◌, ◌<◌, ◌≤◌, ◌++◌, List, [], ◌∷◌, length, map}
 use Rattle.sc_definitions.specs.Ring.{Ops}
 use Rattle.sc_definitions.specs.Tables.{Order, prefix, suffix, value}
 use Rattle.sc_definitions.specs.Standings.{entries_of}
@@ -63,6 +63,18 @@ opened order f zs = record { order = order; table = f; point = zs }
 pub record Leaves {EF : Type 0} (o : Ops) (number : EF → ℕ) (g : Opening) (l : ℕ) (old new : List (EqPartials EF)) (value_is : EF) : Type 0 where
   pub rounds : rounds_in number new ≡ rounds_in number old ++ partials_of g.order o g.table g.point l
   pub sum : number value_is ≡ value o g.table g.point
+
+-- Only the partial tables of the first few rounds do, of fewer than l: what a refusal leaves.
+pub record LeavesSome {EF : Type 0} (o : Ops) (number : EF → ℕ) (g : Opening) (l : ℕ) (old new : List (EqPartials EF)) : Type 0 where
+  pub count : ℕ
+  pub few : count < l
+  pub rounds : rounds_in number new ≡ rounds_in number old ++ partials_of g.order o g.table g.point count
+
+-- A list is what it was, with at most so many items after it.
+pub record GrowsBy {X : Type 0} (most : ℕ) (old new : List X) : Type 0 where
+  pub added : List X
+  pub few : length added ≤ most
+  pub kept : new ≡ old ++ added
 
 -- of the coordinates of kept variables, that of the one which is bound last, and the others
 abbrev pub LastOf : {X : Type 0} → Order → List X → X → List X → Type 0

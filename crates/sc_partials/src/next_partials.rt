@@ -1,16 +1,18 @@
 //! The sums of a table over the variables that are bound last, under the parts of a point's
 //! successor weights, for each round.
 
-ghost use Rattle.std.specs.Prelude.{◌≡◌, ℕ, suc, ◌^◌, ◌<◌, ◌≤◌, ◌+◌, true, List, length, map, set, IfOk};
+ghost use Rattle.std.specs.Prelude.{◌≡◌, ℕ, suc, ◌^◌, ◌<◌, ◌≤◌, ◌+◌, true, List, length, map, set};
+ghost use Rattle.std.specs.Prelude.{IfOk, OnErr};
 ghost use Rattle.sc_definitions.specs.Ring.{◌+⟨◌⟩◌, ◌*⟨◌⟩◌};
 ghost use Rattle.sc_definitions.specs.Tables.{entries};
 ghost use Rattle.sc_definitions.specs.Shifts.{only_at};
 ghost use Rattle.sc_definitions.specs.Parts.{Equal, part_weight, tables_by};
 ghost use Rattle.sc_table.specs.Polys.{variables_of, table_of};
 ghost use Rattle.sc_table.specs.Strategy.{order_of};
-ghost use Rattle.sc_partials.specs.Partials.{other_order, opened};
+ghost use Rattle.sc_partials.specs.Partials.{other_order, opened, GrowsBy};
 ghost use Rattle.sc_partials.specs.NextPartials.{parts_in, next_tables_in, HasRows, AreOf};
-ghost use Rattle.sc_partials.specs.NextPartials.{HaveRows, AreNextPartials, NextLeaves};
+ghost use Rattle.sc_partials.specs.NextPartials.{HaveRows, AreNextPartials};
+ghost use Rattle.sc_partials.specs.NextPartials.{NextLeaves, NextLeavesSome};
 ghost use Rattle.sc_partials.specs.NextPartials.{half_row, part_fewer, rows_by, closing_sum};
 
 use crate::partials::{last_kept, sum_over};
@@ -152,8 +154,11 @@ impl<EF> NextSvoPartials<EF> {
 }
 
 /// Appends the tables of all rounds up to that of `tables`, which keeps as many variables as there
-/// are coordinates in `kept`, and answers the value through the successor map. `NoMemory` comes
-/// where there is none for the tables of the rounds before, or for the list.
+/// are coordinates in `kept`, and answers the value through the successor map. What the list held
+/// stays at its front.
+///
+/// `NoMemory` comes where there is none for the tables of the rounds before, or for the list; the
+/// list has then gained the tables of the first few rounds, fewer than all, or none.
 pub fn push_next_partials<EF: Field>(
     alloc: Global,
     order: VariableOrder,
@@ -162,10 +167,15 @@ pub fn push_next_partials<EF: Field>(
     rounds: &mut Vec<NextPartials<EF>>,
 ) -> Result<EF, NoMemory>
     requires { AreOf (length kept.now) tables }
-    ensures { (f : ℕ → ℕ) (zs : List ℕ) →
+    ensures rounds { (f : ℕ → ℕ) (zs : List ℕ) →
         AreNextPartials (order_of order) EF.ops EF.number f zs (map EF.number kept.now) tables
         → IfOk result (NextLeaves EF.ops EF.number (opened (order_of order) f zs)
         (length kept.now) rounds.old.items rounds.new.items) }
+    ensures refused { (f : ℕ → ℕ) (zs : List ℕ) →
+        AreNextPartials (order_of order) EF.ops EF.number f zs (map EF.number kept.now) tables
+        → OnErr result (NextLeavesSome EF.ops EF.number (opened (order_of order) f zs)
+        (length kept.now) rounds.old.items rounds.new.items) }
+    ensures kept { GrowsBy (length kept.now) rounds.old.items rounds.new.items }
 {
     if kept.is_empty() {
         return Ok(closed(order, &tables));

@@ -1,11 +1,12 @@
 //! The sums of a table over the variables that are bound last, for each round.
 
-ghost use Rattle.std.specs.Prelude.{◌≡◌, ℕ, ◌^◌, ◌<◌, ◌≤◌, List, length, map, IfOk};
+ghost use Rattle.std.specs.Prelude.{◌≡◌, ℕ, ◌^◌, ◌<◌, ◌≤◌, List, length, map};
+ghost use Rattle.std.specs.Prelude.{IfOk, OnErr};
 ghost use Rattle.sc_definitions.specs.Tables.{rows_of};
 ghost use Rattle.sc_table.specs.Polys.{IsFixedOf, variables_of, table_of};
 ghost use Rattle.sc_table.specs.Strategy.{order_of};
 ghost use Rattle.sc_partials.specs.Partials.{numbers_in, tables_in, other_order, LastOf, opened};
-ghost use Rattle.sc_partials.specs.Partials.{IsPartial, Leaves};
+ghost use Rattle.sc_partials.specs.Partials.{IsPartial, Leaves, LeavesSome, GrowsBy};
 
 use sc_field::{Field, NoMemory};
 use sc_table::{Poly, VariableOrder, fix_prefix_var_slice, fix_suffix_var_slice};
@@ -63,8 +64,11 @@ impl<EF> EqSvoPartials<EF> {
 }
 
 /// Appends the partial tables of all rounds up to that of `table`, which keeps as many variables as
-/// there are coordinates in `kept`, and answers the sum over all variables. `NoMemory` comes where
-/// there is none for the tables of the rounds before, or for the list.
+/// there are coordinates in `kept`, and answers the sum over all variables. What the list held stays
+/// at its front.
+///
+/// `NoMemory` comes where there is none for the tables of the rounds before, or for the list; the
+/// list has then gained the tables of the first few rounds, fewer than all, or none.
 pub fn push_partials<EF: Field>(
     alloc: Global,
     order: VariableOrder,
@@ -73,10 +77,15 @@ pub fn push_partials<EF: Field>(
     rounds: &mut Vec<EqPartials<EF>>,
 ) -> Result<EF, NoMemory>
     requires { variables_of table ≡ length kept.now }
-    ensures { (f : ℕ → ℕ) (zs : List ℕ) →
+    ensures rounds { (f : ℕ → ℕ) (zs : List ℕ) →
         IsPartial (order_of order) EF.ops EF.number f zs (map EF.number kept.now) table
         → IfOk result (Leaves EF.ops EF.number (opened (order_of order) f zs) (length kept.now)
         rounds.old.items rounds.new.items) }
+    ensures refused { (f : ℕ → ℕ) (zs : List ℕ) →
+        IsPartial (order_of order) EF.ops EF.number f zs (map EF.number kept.now) table
+        → OnErr result (LeavesSome EF.ops EF.number (opened (order_of order) f zs)
+        (length kept.now) rounds.old.items rounds.new.items) }
+    ensures kept { GrowsBy (length kept.now) rounds.old.items rounds.new.items }
 {
     if kept.is_empty() {
         return Ok(table.as_slice()[0]);

@@ -1,6 +1,7 @@
 //! The sums that grids are made of, as they are added up.
 
-ghost use Rattle.std.specs.Prelude.{◌≡◌, ℕ, suc, ◌-◌, ◌^◌, ◌<◌, ◌≤◌, length, IfOk, OnOk};
+ghost use Rattle.std.specs.Prelude.{◌≡◌, ℕ, suc, ◌-◌, ◌^◌, ◌<◌, ◌≤◌, length};
+ghost use Rattle.std.specs.Prelude.{IfOk, OnErr, OnOk};
 ghost use Rattle.sc_definitions.specs.Ring.{◌+⟨◌⟩◌, ◌-⟨◌⟩◌, ◌*⟨◌⟩◌};
 ghost use Rattle.sc_definitions.specs.Tables.{Order, entries};
 ghost use Rattle.sc_definitions.specs.Grids.{grid_of, grids_of};
@@ -55,7 +56,7 @@ fn zeros<EF: Field>(alloc: Global, places: usize) -> Result<Sums<EF>, NoMemory>
 
 /// Adds the grid of a table and of weights, of one variable more than the `before` that come before
 /// the grid's own, at most 12. `NoMemory` comes where there is none for their values at the digits,
-/// which are made from three variables before on.
+/// which are made from three variables before on; the sums are then as they were.
 pub fn add_products<EF: Field>(
     alloc: Global,
     order: VariableOrder,
@@ -68,8 +69,9 @@ pub fn add_products<EF: Field>(
     requires table { length table.now ≡ 2 ^ suc before }
     requires weights { length weights.now ≡ 2 ^ suc before }
     requires sums { IsSumSized before sums.old }
-    ensures { OnOk result (AddsGrid EF.number EF.ops before (grid_of (order_of order) EF.ops
+    ensures added { OnOk result (AddsGrid EF.number EF.ops before (grid_of (order_of order) EF.ops
         (entries EF.number table.now) (entries EF.number weights.now) before 0) sums.old sums.new) }
+    ensures refused { OnErr result (sums.new ≡ sums.old) }
 {
     match before {
         0 => add_of_one(table, weights, &mut sums.zero, &mut sums.infinity),
@@ -93,8 +95,9 @@ fn add_staged<EF: Field>(
     requires table { length table.now ≡ 2 ^ suc before }
     requires weights { length weights.now ≡ 2 ^ suc before }
     requires sums { IsSumSized before sums.old }
-    ensures { OnOk result (AddsGrid EF.number EF.ops before (grid_of (order_of order) EF.ops
+    ensures added { OnOk result (AddsGrid EF.number EF.ops before (grid_of (order_of order) EF.ops
         (entries EF.number table.now) (entries EF.number weights.now) before 0) sums.old sums.new) }
+    ensures refused { OnErr result (sums.new ≡ sums.old) }
 {
     let table = staged(alloc, order, table, before)?;
     let weights = staged(alloc, order, weights, before)?;

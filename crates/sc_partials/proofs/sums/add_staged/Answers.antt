@@ -6,8 +6,8 @@ use Rattle.sc_table.specs.Strategy.{order_of}
 use Rattle.sc_partials.proofs.SumLaws.{grid-added}
 use Rattle.sc_partials.proofs.sums.add_staged.Goals as goal
 
-pub returns : goal.returns
-returns g c =
+pub returns-clause-added : goal.returns-clause-added
+returns-clause-added g c =
     let e = g.EF.Field in
     let old = c.args.sums.now in
     let zero = c.add_values.new.sums in

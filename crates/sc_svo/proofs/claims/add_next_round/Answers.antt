@@ -50,12 +50,12 @@ returns g c =
     let t = c.args.tables.now in
     let v = c.in_ok-weights.weights in
     let first = part-added e.number e.ops order j (w Done) c.done.result.now c.done-2.result.now t.done v.done c.args.sums.now c.add_products.new.sums
-    c.done.ensures c.requires.tables.done c.done-2.ensures has.done c.in_ok-add_products.ensures in
+    c.done.ensures c.requires.tables.done c.done-2.ensures has.done c.in_ok-add_products.ensures.added in
     let second = part-added e.number e.ops order j (w Carry) c.carry.result.now c.carry-2.result.now t.carry v.carry c.add_products.new.sums c.add_products-2.new.sums
-    c.carry.ensures c.requires.tables.carry c.carry-2.ensures has.carry c.in_ok-add_products-2.ensures in
+    c.carry.ensures c.requires.tables.carry c.carry-2.ensures has.carry c.in_ok-add_products-2.ensures.added in
     on_ok_weaker c.add_products-3.result
     (λ third. parts-added e.number e.ops g.met.EF.Field.is_field.ring j (λ part. grid_of order e.ops (rows_by e.number t part) (w part) j 0) c.args.sums.now
     c.add_products.new.sums c.add_products-2.new.sums c.add_products-3.new.sums first second
     (part-added e.number e.ops order j (w Omega) c.omega.result.now c.omega-2.result.now t.omega v.omega c.add_products-2.new.sums c.add_products-3.new.sums
     c.omega.ensures c.requires.tables.omega c.omega-2.ensures has.omega third))
-    c.add_products-3.ensures
+    c.add_products-3.ensures.added

@@ -18,4 +18,4 @@ returns g c =
     (grid-same (order_of c.args.order) e.ops (entries e.number c.args.partial.now) (entries e.number c.args.partial.now) _ _ c.args.before 0 (λ b low. refl)
     (λ b low. ap (λ t. t b) c.as_slice.ensures.numbers ∙ c.in_ok-weights.ensures.table b (subst (λ n. b < 2 ^ n) (none ∙ sym size) low)
     ∙ ap (λ zs. times e.ops (e.number c.args.coefficient) (weight e.ops zs b)) (c.kept_of-kept.ensures.kept ∙ ap (λ n. kept_of (order_of c.args.order) n (map e.number c.args.near.now)) next))))
-    c.add_products.ensures
+    c.add_products.ensures.added

@@ -16,4 +16,4 @@ returns g c =
     subst (λ kept. IsPartial (order_in p) e.ops e.number f (point_in p) kept c.in_ok-table.table) (sym near) c.in_ok-table.ensures in
     sums-are (order_in p) e.ops e.number f (point_in p) (length c.as_slice.result.now) (length (near_in p)) c.in_ok-rounds.rounds.items c.push_partials.new.rounds.items
     c.in_ok-value.value (c.in_ok-value.value, c.new.result) c.in_ok-rounds.ensures.empty
-    (ap length c.as_slice.ensures ∙ sym (length-map p.near e.number)) (c.in_ok-value.ensures f (point_in p) is) refl (ap (λ v. v.items) c.new.ensures)
+    (ap length c.as_slice.ensures ∙ sym (length-map p.near e.number)) (c.in_ok-value.ensures.rounds f (point_in p) is) refl (ap (λ v. v.items) c.new.ensures)
