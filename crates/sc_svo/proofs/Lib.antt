@@ -3,3 +3,4 @@ pub mod NextPointLaws
 pub mod ClaimLaws
 pub mod BatchLaws
 pub mod BoundLaws
+pub mod PlacedTables

@@ -4,6 +4,7 @@ ghost use Rattle.std.specs.Prelude.{◌≡◌, ℕ, ◌+◌, ◌^◌, ◌<◌, �
 ghost use Rattle.sc_definitions.specs.Tables.{entries, point_of};
 ghost use Rattle.sc_definitions.specs.Grids.{grids_of, read_message};
 ghost use Rattle.sc_definitions.specs.Combined.{combined_weight};
+ghost use Rattle.sc_table.specs.Polys.{table_of, variables_of};
 ghost use Rattle.sc_table.specs.Strategy.{order_of};
 ghost use Rattle.sc_partials.specs.Sums.{sums_shown};
 ghost use Rattle.sc_svo.specs.Claims.{AreOn, FitsTable, claims_in, true_values_of};
@@ -40,35 +41,37 @@ pub struct SvoBatch<F: Field, EF: ExtensionField<F>> {
 }
 
 impl<F: Field, EF: ExtensionField<F>> SvoBatch<F, EF> {
-    ghost use Rattle.sc_svo.specs.Batches.{batch_in, IsMadeOn, IsTableOf, IsBoundBy, honest_of};
+    ghost use Rattle.sc_svo.specs.Batches.{batch_in, IsMadeOn, IsTableOf, honest_of};
+    ghost use Rattle.sc_svo.specs.Batches.{IsBoundBy, IsPlacedBy};
 
     /// The batch of these claims on a table, with the grids of `l0` rounds: at least one, at most
     /// [`MOST_ROUNDS`], and at most as many as there are variables, of which there are at most 40.
     ///
     /// It takes one pass over the table for each claim on a value at a point, and two for each one
     /// through the successor map in suffix order. `NoMemory` comes where there is none for the grids,
-    /// for copies of the claims, or for what is summed on the way. The table is lent as a slice, since
-    /// it is a caller's own and is never copied.
+    /// for copies of the claims, or for what is summed on the way.
     pub fn new(
         alloc: Global,
         order: VariableOrder,
-        table: &[F],
+        table: &Poly<F>,
         claims: &[SvoClaim<EF>],
         l0: usize,
     ) -> Result<Self, NoMemory>
         requires some { 0 < l0 }
         requires few { l0 ≤ most_rounds }
-        requires fits { FitsTable (length table.now) l0 claims.now }
+        requires within { l0 ≤ variables_of table.now }
+        requires variables { variables_of table.now ≤ 40 }
+        requires on { AreOn (variables_of table.now) claims.now }
         ensures { IfOk result (λ s. IsMadeOn EF.ops (order_of order)
-            (λ b. EF.embedding (entries F.number table.now b)) (length table.now)
+            (λ b. EF.embedding (table_of F.number table.now b)) (2 ^ variables_of table.now)
             (claims_in EF.number claims.now) l0 (batch_in s)) }
     {
-        let (batch, _values) = Self::with_values(alloc, order, table, claims, l0)?;
+        let (batch, _values) = Self::with_values(alloc, order, table.as_slice(), claims, l0)?;
         Ok(batch)
     }
 
     /// The same batch, and beside it the values that the claims are on, in their order, which are
-    /// found on the way to the grids.
+    /// found on the way to the grids. The table is lent as a slice, since a job's is never copied.
     pub fn with_values(
         alloc: Global,
         order: VariableOrder,
@@ -141,8 +144,9 @@ impl<F: Field, EF: ExtensionField<F>> SvoBatch<F, EF> {
 
     /// What the small-value rounds leave: the given table, of as many rows as the batch's had, and
     /// the weights of all claims, both with the variables of these rounds bound at their challenges,
-    /// of which there is one for each round, in drawing order. `NoMemory` comes where there is none
-    /// for the two tables, or for what is summed on the way.
+    /// of which there is one for each round, in drawing order: each entry is the original table's
+    /// with all challenges placed. `NoMemory` comes where there is none for the two tables, or for
+    /// what is summed on the way.
     pub fn residual(
         &self,
         alloc: Global,
@@ -154,6 +158,10 @@ impl<F: Field, EF: ExtensionField<F>> SvoBatch<F, EF> {
         ensures evals { IfOk result (λ p. IsBoundBy EF.ops EF.number (batch_in self.now)
             (λ b. EF.embedding (entries F.number table.now b)) (map EF.number rs.now) p.0) }
         ensures weights { IfOk result (λ p. IsBoundBy EF.ops EF.number (batch_in self.now)
+            (combined_weight EF.ops (batch_in self.now).claims) (map EF.number rs.now) p.1) }
+        ensures placed_evals { IfOk result (λ p. IsPlacedBy EF.ops EF.number (batch_in self.now)
+            (λ b. EF.embedding (entries F.number table.now b)) (map EF.number rs.now) p.0) }
+        ensures placed_weights { IfOk result (λ p. IsPlacedBy EF.ops EF.number (batch_in self.now)
             (combined_weight EF.ops (batch_in self.now).claims) (map EF.number rs.now) p.1) }
     {
         let point = point_at(alloc, self.order, rs)?;

@@ -51,7 +51,7 @@ fn batch_of_four(alloc: Global) -> Result<SvoBatch<F65537, F65537>, NoMemory>
     ensures rounds { IfOk result (λ s. length (batch_in s).grids ≡ 2) }
 {
     let claims = [claim(alloc, &[0, 1], false, 1)?];
-    SvoBatch::new(alloc, Prefix, four(alloc)?.as_slice(), &claims, 2)
+    SvoBatch::new(alloc, Prefix, &four(alloc)?, &claims, 2)
 }
 
 // Of each round, the values at 0 and at infinity.

@@ -1,6 +1,7 @@
 //! Grids against plain sums over all rows, of tables of one to four variables, and three by hand.
 
-ghost use Rattle.std.specs.Prelude.{◌≡◌, ◌^◌, ◌<◌, ◌≤◌, length};
+ghost use Rattle.std.specs.Prelude.{◌≡◌, ◌^◌, ◌<◌, ◌≤◌, length, IfOk};
+ghost use Rattle.sc_table.specs.Polys.{variables_of};
 
 use super::claims::{KINDS, Kinds, claims, images, values, weights};
 use super::{are_grids, claim};
@@ -222,12 +223,20 @@ static GRIDS_OF_THREE: [(&[u64], &[u64]); 3] = [
     ),
 ];
 
+// The table of three variables with these rows.
+fn eight(alloc: Global, rows: &[u64]) -> Result<Poly<F65537>, NoMemory>
+    requires { length rows.now ≡ 8 }
+    ensures { IfOk result (λ p. variables_of p ≡ 3) }
+{
+    Ok(Poly::new(elements(alloc, rows)?))
+}
+
 fn three_agree(alloc: Global, wanted: &Three) -> Result<bool, NoMemory> {
     let (order, numbers, coordinates) = *wanted;
     if numbers.len() != 8 || coordinates.len() != 3 {
         return Ok(false);
     }
-    let table: Vec<F65537> = elements(alloc, numbers)?;
+    let table = eight(alloc, numbers)?;
     let claims = [claim(alloc, coordinates, false, 1)?];
     let batch = SvoBatch::<F65537, F65537>::new(alloc, order, &table, &claims, 3)?;
     Ok(are_grids(batch.grids(), &GRIDS_OF_THREE))

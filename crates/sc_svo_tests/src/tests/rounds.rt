@@ -56,7 +56,7 @@ fn rounds_agree<F: Field, EF: ExtensionField<F>>(
 {
     let table: Poly<F> = table(alloc, n, 12345)?;
     let claims = claims::<EF>(alloc, n, kinds)?;
-    let batch = SvoBatch::<F, EF>::new(alloc, order, table.as_slice(), &claims, l0)?;
+    let batch = SvoBatch::<F, EF>::new(alloc, order, &table, &claims, l0)?;
     let rs: Vec<EF> = elements(alloc, &CHALLENGES[..l0])?;
     let mut evals = images::<F, EF>(alloc, &table, n)?;
     let mut weights = weights::<EF>(alloc, n, kinds)?;

@@ -8,6 +8,8 @@ use Rattle.sc_table.specs.Polys.{variables_of}
 use Rattle.sc_table.specs.Strategy.{order_of}
 use Rattle.sc_table.proofs.EntryLaws.{entry-embedded}
 use Rattle.sc_svo.specs.Grids.{grid_shown}
+use Rattle.sc_svo.specs.Batches.{batch_in}
+use Rattle.sc_svo.proofs.PlacedTables.{placed_by}
 use Rattle.sc_svo.proofs.batch.SvoBatch.residual.Goals as goal
 
 -- the point has a coordinate for each challenge
@@ -50,3 +52,16 @@ returns-clause-evals g c =
 
 pub returns-clause-weights : goal.returns-clause-weights
 returns-clause-weights g c = c.in_ok-weights.ensures (map g.EF.Field.number c.args.rs.now) c.in_ok-point.ensures
+
+-- the same by the original tables
+pub returns-clause-placed_evals : goal.returns-clause-placed_evals
+returns-clause-placed_evals g c =
+    let e = g.EF.Field in
+    placed_by e.ops g.met.EF.Field.is_field.ring e.number g.met.EF.Field.number_below (batch_in c.args.self.now) _ (map e.number c.args.rs.now) c.in_ok-evals.evals
+    (returns-clause-evals g c)
+
+pub returns-clause-placed_weights : goal.returns-clause-placed_weights
+returns-clause-placed_weights g c =
+    let e = g.EF.Field in
+    placed_by e.ops g.met.EF.Field.is_field.ring e.number g.met.EF.Field.number_below (batch_in c.args.self.now) _ (map e.number c.args.rs.now) c.in_ok-weights.weights
+    (returns-clause-weights g c)
