@@ -8,3 +8,4 @@ pub mod SelectIterators
 pub mod Batches
 pub mod Claimed
 pub mod Rows
+pub mod Gains

@@ -1,6 +1,6 @@
 //! Groups of statements of one kind, and what is taken from them one statement after the other.
 
-ghost use Rattle.std.specs.Prelude.{◌≡◌, ℕ, ◌+◌, ◌++◌, ◌^◌, ◌<◌, ◌↔◌, List, length, map, slice_index, IsTrue, OnOk};
+ghost use Rattle.std.specs.Prelude.{◌≡◌, ℕ, ◌+◌, ◌++◌, ◌^◌, ◌<◌, ◌↔◌, List, length, map, slice_index, IsTrue, OnErr, OnOk};
 ghost use Rattle.sc_definitions.specs.Ring.{power, ◌+⟨◌⟩◌, ◌*⟨◌⟩◌};
 ghost use Rattle.sc_definitions.specs.Tables.{entries, value};
 ghost use Rattle.sc_definitions.specs.Statements.{Statement, AllTrueOf, first_false_claim, true_values, claimed_values, weights_at, batched_weight, batched_claim};
@@ -9,6 +9,7 @@ ghost use Rattle.sc_table.specs.Polys.{variables_of, table_of};
 ghost use Rattle.sc_claims.specs.Batches.{gathered, AddsBatch};
 ghost use Rattle.sc_claims.specs.Weights.{weight_values};
 ghost use Rattle.sc_claims.specs.Claimed.{with_value, with_values, all_stated_truly};
+ghost use Rattle.sc_claims.specs.Gains.{GainsFirst};
 
 use sc_definitions::FalseClaim;
 use sc_field::{Algebra, Field, NoMemory};
@@ -116,17 +117,21 @@ pub fn claim_truth<A: Field, EF: Algebra<A>, S: StatementList<EF>>(statements: &
 }
 
 /// Adds to a list, in order, what each statement claims, less its true value of a table. `rows` are
-/// the table's entries, row 0 first; it has as many variables as the statements say. `NoMemory` may
-/// leave some of them in the list.
+/// the table's entries, row 0 first; it has as many variables as the statements say. After
+/// `NoMemory` the list is what it was, with those of the first few statements after it, of fewer
+/// than all.
 pub fn push_excesses<A: Field, EF: Algebra<A>, S: StatementList<EF>>(
     statements: &S,
     rows: &[A],
     excesses: &mut Vec<EF>,
 ) -> Result<(), NoMemory>
     requires { length rows.now ≡ 2 ^ S.arity statements.now }
-    ensures { OnOk result (map EF.number excesses.new.items
+    ensures added { OnOk result (map EF.number excesses.new.items
         ≡ map EF.number excesses.old.items ++ map (excess EF.ops (S.arity statements.now)
         (λ b. EF.embedding (entries A.number rows.now b))) (S.statements statements.now)) }
+    ensures refused { OnErr result (GainsFirst EF.number (map (excess EF.ops (S.arity statements.now)
+        (λ b. EF.embedding (entries A.number rows.now b))) (S.statements statements.now))
+        excesses.old.items excesses.new.items) }
 {
     for i in 0..statements.count() {
         let actual: EF = statements.truth_at(i, rows);
