@@ -9,3 +9,4 @@ pub mod Data
 pub mod Laws
 pub mod Batches
 pub mod Steps
+pub mod Gains

@@ -5,6 +5,7 @@ ghost use Rattle.std.specs.Prelude.{◌≡◌, ℕ, ◌+◌, ◌-◌, ◌≤◌,
 ghost use Rattle.sc_definitions.specs.declared.events.Event.{Event};
 ghost use Rattle.sc_definitions.specs.Events.{Extension};
 ghost use Rattle.sc_definitions.specs.Seeds.{round_steps};
+ghost use Rattle.sc_transcript.specs.Gains.{GainsSome};
 ghost use Rattle.sc_transcript.specs.Rounds.{HasDifficulty};
 ghost use Rattle.sc_challenger.specs.Parties.{MayAppend};
 
@@ -240,14 +241,16 @@ impl<'a, C: Challenger<F>, F: Field, EF: ExtensionField<F>, S: SliceShape> Trans
 }
 
 /// Appends the steps of a round that sends so many values of an extension of a degree: the values,
-/// at a positive difficulty the witness, and the challenge.
+/// at a positive difficulty the witness, and the challenge. After `NoMemory` the list is what it was,
+/// with the first few of them after it, fewer than all.
 pub fn push_round_steps(
     steps: &mut Vec<Interaction>,
     degree: usize,
     values: usize,
     pow_bits: usize,
 ) -> Result<(), NoMemory>
-    ensures { OnOk result (steps.new.items ≡ steps.old.items ++ round_steps degree values pow_bits) }
+    ensures steps { OnOk result (steps.new.items ≡ steps.old.items ++ round_steps degree values pow_bits) }
+    ensures refused { OnErr result (GainsSome (round_steps degree values pow_bits) steps.old.items steps.new.items) }
 {
     steps.push(Interaction {
         kind: Kind::Message,

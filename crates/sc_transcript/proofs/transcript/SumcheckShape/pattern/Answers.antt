@@ -12,7 +12,7 @@ pub loop-round-preserved : goal.loop-round-preserved
 loop-round-preserved g c =
     let degree = g.EF.ExtensionField.DEGREE in
     let bits = c.args.self.now.pow_bits in
-    c.in_ok-push_round_steps.ensures ∙ ap (λ t. t ++ round_steps c.DEGREE.result 2 bits) c.loop-round.invariant
+    c.in_ok-push_round_steps.ensures.steps ∙ ap (λ t. t ++ round_steps c.DEGREE.result 2 bits) c.loop-round.invariant
     ∙ ap (λ d. rounds_steps degree 2 bits c.loop-round._round ++ round_steps d 2 bits) c.DEGREE.ensures ∙ steps_more degree 2 bits c.loop-round._round
 
 pub returns : goal.returns
