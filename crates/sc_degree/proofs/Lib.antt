@@ -10,3 +10,4 @@ pub mod CoefficientLaws
 pub mod TurnLaws
 pub mod SentLaws
 pub mod CertifiedTurns
+pub mod PlayedClaims

@@ -1,10 +1,12 @@
 //! What plays rounds of any degree, and how it proves.
 ghost use Rattle.sc_challenger.specs.Parties.{channel_by};
 ghost use Rattle.std.specs.Prelude.{◌≡◌, ◌+◌, ◌<◌, ◌≤◌, [], ◌∷◌, map, vec_len, IfOk, OnOk};
-ghost use Rattle.sc_definitions.specs.Interpolation.{node_values};
+ghost use Rattle.sc_definitions.specs.Interpolation.{next_through, node_values};
+ghost use Rattle.sc_definitions.specs.Rounds.{claim_along};
 ghost use Rattle.sc_transcript.specs.Drivers.{channel_of, Continues, HasRoundLeft, IsDone};
 ghost use Rattle.sc_transcript.specs.Transcripts.{driver_in};
 ghost use Rattle.sc_degree.specs.Shapes.{generic_shape};
+ghost use Rattle.sc_degree.specs.Proofs.{proof_wire};
 ghost use Rattle.sc_degree.specs.Provers.{Prover, IsTied, IsFolded, play_of, LeavesPlay};
 ghost use Rattle.sc_degree.specs.Plays.{IsReady, HasNoRound, playing, LeavesRound, LeavesProgress};
 
@@ -50,7 +52,8 @@ pub trait RoundProver<EF: Field> {
     ghost tied: { (p : Self) → IsTied EF.ops (meaning p) };
 
     /// Plays so many rounds, and answers the proof and the challenges in drawing order. The claimed
-    /// sum is observed as it is given, and not tested.
+    /// sum is observed as it is given, and not tested. Where it is the true claim, what the rounds
+    /// leave of it is the true claim at the challenges.
     ///
     /// The degree is the prover's own, from one on, and its nodes are elements; there are at most
     /// as many rounds as variables are left, and the difficulty is at most the challenger's
@@ -82,6 +85,10 @@ pub trait RoundProver<EF: Field> {
             (generic_shape num_rounds degree pow_bits) (EF.number claimed_sum)
             (C.party challenger.old).history) (meaning self.old) (meaning self.new) result
             (C.party challenger.new).history }
+        ensures true_claim { IfOk result (λ x. EF.number claimed_sum ≡ (meaning self.old).claim []
+            → claim_along (next_through EF.ops) (EF.number claimed_sum)
+            (proof_wire F.number EF.number x.0).messages (map EF.number x.1)
+            ≡ (meaning self.old).claim (map EF.number x.1)) }
     {
         let shape = GenericDegreeShape::new(num_rounds, degree, pow_bits);
         play_batch(alloc, self, challenger, shape, claimed_sum)
@@ -97,6 +104,7 @@ fn play_batch<F: Field, EF: ExtensionField<F>, C: Challenger<F>, P: RoundProver<
     claimed_sum: EF,
 ) -> Result<(GenericDegreeProof<F, EF>, Point<EF>), GenericDegreeError>
     requires degree { shape.degree ≡ (P.meaning prover.old).degree }
+    requires some { 1 ≤ shape.degree }
     requires nodes { shape.degree < EF.ops.size }
     requires variables { shape.num_rounds ≤ (P.meaning prover.old).variables }
     requires difficulty { shape.pow_bits ≤ (C.party challenger.old).rules.max_bits }
@@ -105,6 +113,10 @@ fn play_batch<F: Field, EF: ExtensionField<F>, C: Challenger<F>, P: RoundProver<
         (channel_by (C.party challenger.old) EF.extension F.ops.size shape.pow_bits)
         shape (EF.number claimed_sum) (C.party challenger.old).history)
         (P.meaning prover.old) (P.meaning prover.new) result (C.party challenger.new).history }
+    ensures true_claim { IfOk result (λ x. EF.number claimed_sum ≡ (P.meaning prover.old).claim []
+        → claim_along (next_through EF.ops) (EF.number claimed_sum)
+        (proof_wire F.number EF.number x.0).messages (map EF.number x.1)
+        ≡ (P.meaning prover.old).claim (map EF.number x.1)) }
 {
     let mut played = Played::new(alloc, shape, claimed_sum)?;
     shape.begin::<F, EF, C>(alloc, challenger, claimed_sum)?;

@@ -1,4 +1,4 @@
-use Rattle.std.proofs.Common.{map, ap, ◌∙◌, rules}
+use Rattle.std.proofs.Common.{map, ap, ◌∙◌, rules, arith}
 use Rattle.sc_definitions.specs.Channels.{channel}
 use Rattle.sc_transcript.specs.declared.rounds.BatchShape.{BatchShape}
 use Rattle.sc_transcript.specs.Transcripts.{driver_in}
@@ -7,6 +7,7 @@ use Rattle.sc_transcript.proofs.Lent.{returned}
 use Rattle.sc_degree.specs.Provers.{Play, play_of}
 use Rattle.sc_degree.specs.Plays.{Progress, playing}
 use Rattle.sc_degree.proofs.PlayLaws.{all_played, stopped_at}
+use Rattle.sc_degree.proofs.PlayedClaims.{play-leaves}
 use Rattle.sc_degree.proofs.prover.play_batch.Goals as goal
 
 -- all rounds are played after the seed and the claimed sum
@@ -25,6 +26,17 @@ returns-in-Ok-clause-left g c =
           (told.rounds.1 ∙ ap (λ (s : BatchShape). s.num_rounds) begun.fresh.shape) (ap (map N) c.new-in-Ok.ensures)
           (ap H (returned (search rules) told.continues.lender begun.lent.lender c.finish.ensures)),
     )
+
+-- they leave the true claim of the true one
+pub returns-in-Ok-clause-true_claim : goal.returns-in-Ok-clause-true_claim
+returns-in-Ok-clause-true_claim g c = λ true_claim.
+    let N = g.EF.Field.number in
+    let before = g.P.RoundProver.meaning c.args.prover.now in
+    let H = λ (x : g.row.C.Denot). (g.C.Challenger.party x).history in
+    let R = λ (x : g.row.C.Denot). (g.C.Challenger.party x).rules in
+    let q : Play = play_of g.EF.Field.ops (channel (R c.args.challenger.now) g.EF.ExtensionField.extension g.F.Field.ops.size c.args.shape.pow_bits) c.args.shape (N c.args.claimed_sum) (H c.args.challenger.now) in
+    play-leaves q g.met.EF.Field.is_field before _ (g.met.P.RoundProver.tied c.args.prover.now) (omega (arith, c.requires.degree, c.requires.some))
+    (omega (arith, c.requires.degree, c.requires.nodes)) _ _ _ (returns-in-Ok-clause-left g c).1 true_claim
 
 -- some are, and the next one is refused
 pub returns-in-Err-clause-left : goal.returns-in-Err-clause-left
