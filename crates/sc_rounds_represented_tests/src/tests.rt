@@ -1,5 +1,6 @@
-//! A prover on images of elements. The figures are from a script that is no part of this: over the field of 16 elements by `w^2 = w + 1` and
-//! `y^2 = y + w` it sums the products row by row, and it finds the images in the field by `x^4 = x + 1` from that of y, which is x.
+//! A prover on images of elements. The figures are from a script that is no part of this: over the
+//! field of 16 elements by `w^2 = w + 1` and `y^2 = y + w` it sums the products row by row, and it
+//! finds the images in the field by `x^4 = x + 1` from that of y, which is x.
 ghost use Rattle.std.specs.Prelude.{◌≡◌, ◌≤◌, IfOk, length};
 ghost use Rattle.sc_table.specs.Polys.{variables_of};
 
@@ -29,7 +30,8 @@ fn table(alloc: Global, values: &[u64]) -> Result<Poly<Tower16>, NoMemory>
     Ok(Poly::new(elements(alloc, values)?))
 }
 
-// A challenger that draws 2 and 4, and of whose tests each is passed by the next of these elements alone.
+// A challenger that draws 2 and 4, and of whose tests each is passed by the next of these elements
+// alone.
 fn scripted(alloc: Global, good: &[u64]) -> Result<ScriptedChallenger<Tower16>, NoMemory> {
     let mut lists = Vec::new(alloc);
     for number in good {
@@ -55,8 +57,9 @@ struct Standing {
     sum: u64,
 }
 
-// Two batches of one round each: the order, the point of the weights, the messages, and the challenge of each batch and what the table and the weights
-// are after it, each as its image, and the claim.
+// Two batches of one round each: the order, the point of the weights, the messages, and the
+// challenge of each batch and what the table and the weights are after it, each as its image, and
+// the claim.
 struct Batches {
     order: VariableOrder,
     coords: [u64; 2],
@@ -81,7 +84,8 @@ fn represented(alloc: Global, batches: &Batches) -> Result<Prover, NoMemory> {
     ReprSumcheckProver::new(alloc, plain(alloc, batches)?)
 }
 
-// Plays a batch of at most as many rounds as there are variables, at a difficulty that the challenger takes.
+// Plays a batch of at most as many rounds as there are variables, at a difficulty that the
+// challenger takes.
 fn play<C: Challenger<Tower16>>(
     alloc: Global,
     prover: &mut Prover,
@@ -323,7 +327,8 @@ fn the_transcript_is_that_of_the_elements(rt: HostRuntime) {
     }
 }
 
-// The prover of the table and of the images that are the equality weights of a point, unless they disagree.
+// The prover of the table and of the images that are the equality weights of a point, unless they
+// disagree.
 fn agreeing(alloc: Global, coords: &[u64], sum: u64) -> Result<Option<Prover>, NoMemory>
     requires { length coords.now ≤ 40 }
 {
