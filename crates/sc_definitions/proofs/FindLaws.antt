@@ -1,15 +1,15 @@
 -- The loop that finds the round which turned a claim.
 use Rattle.std.proofs.Common.{◌≡◌, ℕ, zero, suc, ◌+◌, ◌^◌, ◌<◌, ◌≤◌, List, [], ◌∷◌, ◌++◌, length, take, drop, map, get_or, Some, None, sym, ◌∙◌, ap, refl, subst, arith}
 use Rattle.std.proofs.lemmas.List.{length-map}
-use Rattle.sc_definitions.specs.Ring.{Ops, IsRing, minus}
-use Rattle.sc_definitions.specs.Tables.{evaluation, IsOffered, inner, bound_in}
-use Rattle.sc_definitions.specs.Rounds.{true_claim, slow_round, honest_pair, sent_polynomial, next_claim}
+use Rattle.sc_definitions.specs.Ring.{Ops, IsRing}
+use Rattle.sc_definitions.specs.Tables.{IsOffered, inner, bound_in}
+use Rattle.sc_definitions.specs.Rounds.{honest_pair, sent_polynomial, next_claim}
 use Rattle.sc_definitions.specs.Messages.{message_of}
 use Rattle.sc_definitions.specs.Polynomials.{poly_minus}
-use Rattle.sc_definitions.specs.Problem.{Problem, weights_of}
-use Rattle.sc_definitions.specs.Lucky.{course_of, first_turn, true_claim_of, round_excess}
+use Rattle.sc_definitions.specs.TwoTables.{TwoTables, true_claim_on}
+use Rattle.sc_definitions.specs.Lucky.{course_on, first_turn, round_excess}
 use Rattle.sc_definitions.proofs.SameTables.{Agree, inner-same}
-use Rattle.sc_definitions.proofs.TurnLaws.{Walks, turn-here, turn-later, walks-begin, walks-message, walks-on, three_excesses}
+use Rattle.sc_definitions.proofs.TurnLaws.{Walks, turn-here, turn-later, walks-begin, walks-message, walks-on, honest-sends}
 
 -- ---- lists by an index
 
@@ -41,101 +41,84 @@ length-drop (y ∷ ys) (suc i) n is = length-drop ys i n (omega (arith, is))
 
 -- ---- the loop
 
--- Behind the first i rounds, with m variables left: the tables are bound there, and the first turn is the first one from round i on.
-pub record Finds (o : Ops) (p : Problem) (m : ℕ) (f w : ℕ → ℕ) (first claim truth i : ℕ) (ms : List (List ℕ)) (rs : List ℕ) : Type 0 where
+-- After the first i rounds, with m variables left: the tables are bound there, and the first turn is the first one from round i on.
+pub record Finds (o : Ops) (p : TwoTables) (m : ℕ) (f w : ℕ → ℕ) (first claim truth i : ℕ) (ms : List (List ℕ)) (rs : List ℕ) : Type 0 where
   pub walks : Walks o p (take i rs) m f w truth
-  pub rest : first_turn (course_of o p) 0 first ms [] rs ≡ first_turn (course_of o p) i claim (drop i ms) (take i rs) (drop i rs)
+  pub rest : first_turn (course_on o p) 0 first ms [] rs ≡ first_turn (course_on o p) i claim (drop i ms) (take i rs) (drop i rs)
 
-module _ (o : Ops) (ring : IsRing o) (p : Problem) (basis : p.basis ≡ evaluation) where
-  offered : IsOffered p.basis p.order
-  offered = subst (λ b. IsOffered b p.order) (sym basis) tt
-
-  pub finds-begin : (n : ℕ) (f w : ℕ → ℕ) (claim truth : ℕ) (ms : List (List ℕ)) (rs : List ℕ) → p.variables ≡ n → Agree n f p.table → Agree n w (weights_of o p) →
+module _ (o : Ops) (ring : IsRing o) (p : TwoTables) (offered : IsOffered p.basis p.order) where
+  pub finds-begin : (n : ℕ) (f w : ℕ → ℕ) (claim truth : ℕ) (ms : List (List ℕ)) (rs : List ℕ) → Agree n f p.table → Agree n w p.weights →
       truth ≡ inner o n f w → Finds o p n f w claim claim truth 0 ms rs
-  finds-begin n f w claim truth ms rs size evals weights is = record {
-    walks = subst (λ k. Walks o p [] k f w truth) size
-        (walks-begin o ring p offered f w truth (subst (λ k. Agree k f p.table) (sym size) evals) (subst (λ k. Agree k w (weights_of o p)) (sym size) weights)
-        (is ∙ inner-same o n f p.table w (weights_of o p) evals weights ∙ ap (λ k. inner o k p.table (weights_of o p)) (sym size)));
+  finds-begin n f w claim truth ms rs evals weights is = record {
+    walks = walks-begin o ring p offered n f w truth evals weights (is ∙ inner-same o n f p.table w p.weights evals weights);
     rest = refl;
   }
 
   module _ {X Y : Type 0} (number : X → ℕ) (sends : Y → List ℕ) (ms : List Y) (rs : List X) (i m : ℕ) (f w : ℕ → ℕ) (first claim truth : ℕ)
       (found : Finds o p (suc m) f w first claim truth i (map sends ms) (map number rs)) (y : Y) (x : X) (in_messages : i < length ms) (in_challenges : i < length rs)
       (y_is : y ≡ get_or ms i y) (x_is : x ≡ get_or rs i x) (left : length ms ≡ suc m + i) (next next_truth : ℕ)
-      (next_is : next ≡ next_claim evaluation o claim (sends y) (number x)) (a l : ℕ) (honest : a ∷ l ∷ [] ≡ message_of evaluation p.order o (2 ^ m) f w)
-      (truth_is : next_truth ≡ next_claim evaluation o truth (a ∷ l ∷ []) (number x)) where
+      (next_is : next ≡ next_claim p.basis o claim (sends y) (number x)) (a l : ℕ) (honest : a ∷ l ∷ [] ≡ message_of p.basis p.order o (2 ^ m) f w)
+      (truth_is : next_truth ≡ next_claim p.basis o truth (a ∷ l ∷ []) (number x)) where
     abbrev before : List ℕ
     before = take i (map number rs)
 
     behind : length (drop (i + 1) (map sends ms)) ≡ m
     behind = length-drop (map sends ms) (i + 1) m (length-map ms sends ∙ left ∙ omega arith)
 
-    here : first_turn (course_of o p) 0 first (map sends ms) [] (map number rs)
-        ≡ first_turn (course_of o p) i claim (sends y ∷ drop (i + 1) (map sends ms)) before (number x ∷ drop (i + 1) (map number rs))
+    here : first_turn (course_on o p) 0 first (map sends ms) [] (map number rs)
+        ≡ first_turn (course_on o p) i claim (sends y ∷ drop (i + 1) (map sends ms)) before (number x ∷ drop (i + 1) (map number rs))
     here =
         found.rest
-        ∙ ap (λ d. first_turn (course_of o p) i claim d before (drop i (map number rs))) (drop-next sends ms i y in_messages y_is)
-        ∙ ap (λ d. first_turn (course_of o p) i claim (sends y ∷ drop (i + 1) (map sends ms)) before d) (drop-next number rs i x in_challenges x_is)
-
-    claimed : next ≡ next_claim p.basis o claim (sends y) (number x)
-    claimed = next_is ∙ ap (λ b. next_claim b o claim (sends y) (number x)) (sym basis)
+        ∙ ap (λ d. first_turn (course_on o p) i claim d before (drop i (map number rs))) (drop-next sends ms i y in_messages y_is)
+        ∙ ap (λ d. first_turn (course_on o p) i claim (sends y ∷ drop (i + 1) (map sends ms)) before d) (drop-next number rs i x in_challenges x_is)
 
     -- the true claim after the round
-    after : next_truth ≡ true_claim_of o p (before ++ number x ∷ []) m
+    after : next_truth ≡ true_claim_on o p (before ++ number x ∷ []) m
     after =
-        let message = message_of p.basis p.order o (2 ^ m) f w in
-        let same : a ∷ l ∷ [] ≡ message = honest ∙ ap (λ b. message_of b p.order o (2 ^ m) f w) (sym basis) in
         let on = walks-on o ring p offered before m f w truth found.walks (number x) (bound_in p.basis p.order o m (number x) f) (bound_in p.basis p.order o m (number x) w) next_truth
         (λ b low. refl) (λ b low. refl)
-        (truth_is ∙ ap (λ v. next_claim evaluation o truth v (number x)) same ∙ ap (λ b. next_claim b o truth message (number x)) (sym basis)) in
+        (truth_is ∙ ap (λ v. next_claim p.basis o truth v (number x)) honest) in
         on.truth
 
-    pub finds-more : (next ≡ next_truth → ⊥) → (g v : ℕ → ℕ) → Agree m g (bound_in evaluation p.order o m (number x) f) → Agree m v (bound_in evaluation p.order o m (number x) w) →
+    pub finds-more : (next ≡ next_truth → ⊥) → (g v : ℕ → ℕ) → Agree m g (bound_in p.basis p.order o m (number x) f) → Agree m v (bound_in p.basis p.order o m (number x) w) →
         Finds o p m g v first next next_truth (i + 1) (map sends ms) (map number rs)
     finds-more differ g v evals weights =
-        let message = message_of p.basis p.order o (2 ^ m) f w in
-        let same : a ∷ l ∷ [] ≡ message = honest ∙ ap (λ b. message_of b p.order o (2 ^ m) f w) (sym basis) in
         let one : suc i ≡ i + 1 = omega arith in
         let taken = take-next number rs i x in_challenges x_is in
-        let course = course_of o p in
+        let course = course_on o p in
         record {
           walks = subst (λ t. Walks o p t m g v next_truth) (sym taken)
               (walks-on o ring p offered before m f w truth found.walks (number x) g v next_truth
-              (λ b low. evals b low ∙ ap (λ t. bound_in t p.order o m (number x) f b) (sym basis))
-              (λ b low. weights b low ∙ ap (λ t. bound_in t p.order o m (number x) w b) (sym basis))
-              (truth_is ∙ ap (λ u. next_claim evaluation o truth u (number x)) same ∙ ap (λ b. next_claim b o truth message (number x)) (sym basis)));
+              evals weights (truth_is ∙ ap (λ u. next_claim p.basis o truth u (number x)) honest));
           rest = here
               ∙ turn-later course i claim (sends y) (drop (i + 1) (map sends ms)) before (number x) (drop (i + 1) (map number rs))
-              (λ e. differ (claimed ∙ e ∙ ap (true_claim_of o p (before ++ number x ∷ [])) behind ∙ sym after))
-              ∙ ap (λ c. first_turn course (suc i) c (drop (i + 1) (map sends ms)) (before ++ number x ∷ []) (drop (i + 1) (map number rs))) (sym claimed)
+              (λ e. differ (next_is ∙ e ∙ ap (true_claim_on o p (before ++ number x ∷ [])) behind ∙ sym after))
+              ∙ ap (λ c. first_turn course (suc i) c (drop (i + 1) (map sends ms)) (before ++ number x ∷ []) (drop (i + 1) (map number rs))) (sym next_is)
               ∙ ap (λ t. first_turn course (suc i) next (drop (i + 1) (map sends ms)) t (drop (i + 1) (map number rs))) (sym taken)
               ∙ ap (λ k. first_turn course k next (drop (i + 1) (map sends ms)) (take (i + 1) (map number rs)) (drop (i + 1) (map number rs))) one;
         }
 
     pub finds-here : next ≡ next_truth → (c q : ℕ) → sends y ≡ c ∷ q ∷ [] → (cs : List ℕ) →
-        cs ≡ minus o c a ∷ minus o (minus o (minus o (minus o claim c) c) q) (minus o (minus o (minus o truth a) a) l) ∷ minus o q l ∷ [] →
-        first_turn (course_of o p) 0 first (map sends ms) [] (map number rs) ≡ Some (record { round = i; polynomial = cs })
+        cs ≡ poly_minus o (sent_polynomial p.basis o claim (c ∷ q ∷ [])) (sent_polynomial p.basis o truth (a ∷ l ∷ [])) →
+        first_turn (course_on o p) 0 first (map sends ms) [] (map number rs) ≡ Some (record { round = i; polynomial = cs })
     unfolding round_excess
     finds-here same c q sent cs are =
-        let course = course_of o p in
+        let course = course_on o p in
         let late = drop (i + 1) (map sends ms) in
-        let W = weights_of o p in
-        let pair : a ∷ l ∷ [] ≡ honest_pair evaluation p.order o p.table W before m =
-        honest ∙ ap (λ b. message_of b p.order o (2 ^ m) f w) (sym basis) ∙ walks-message o ring p offered before m f w truth found.walks
-        ∙ ap (λ b. honest_pair b p.order o p.table W before m) basis in
-        let truly : truth ≡ true_claim evaluation p.order o p.table W before (suc m) = found.walks.truth ∙ ap (λ b. true_claim b p.order o p.table W before (suc m)) basis in
+        let W = p.weights in
+        let pair : a ∷ l ∷ [] ≡ honest_pair p.basis p.order o p.table W before m = honest ∙ walks-message o ring p offered before m f w truth found.walks in
+        let due = honest-sends o ring p.table W before m truth a l p.basis p.order offered found.walks.truth pair in
         let polynomial : round_excess o p claim (sends y) before (length late) ≡ cs =
         ap (λ s. round_excess o p claim s before (length late)) sent ∙ ap (round_excess o p claim (c ∷ q ∷ []) before) behind
-        ∙ ap (λ b. poly_minus o (sent_polynomial b o claim (c ∷ q ∷ [])) (slow_round b p.order o p.table W before m)) basis
-        ∙ three_excesses o ring p.order p.table W before m claim c q truth a l truly pair ∙ sym are in
+        ∙ sym (are ∙ ap (poly_minus o (sent_polynomial p.basis o claim (c ∷ q ∷ []))) due) in
         here
         ∙ turn-here course i claim (sends y) late before (number x) (drop (i + 1) (map number rs))
-        (sym claimed ∙ same ∙ after ∙ ap (true_claim_of o p (before ++ number x ∷ [])) (sym behind))
+        (sym next_is ∙ same ∙ after ∙ ap (true_claim_on o p (before ++ number x ∷ [])) (sym behind))
         ∙ ap (λ cs. Some (record { round = i; polynomial = cs })) polynomial
 
   -- no round is left
   pub finds-none : (f w : ℕ → ℕ) (m first claim truth i : ℕ) (ms : List (List ℕ)) (rs : List ℕ) → Finds o p m f w first claim truth i ms rs → length ms ≤ i →
-      first_turn (course_of o p) 0 first ms [] rs ≡ None
+      first_turn (course_on o p) 0 first ms [] rs ≡ None
   unfolding first_turn
   finds-none f w m first claim truth i ms rs found all =
-      found.rest ∙ ap (λ d. first_turn (course_of o p) i claim d (take i rs) (drop i rs)) (drop-none ms i all)
+      found.rest ∙ ap (λ d. first_turn (course_on o p) i claim d (take i rs) (drop i rs)) (drop-none ms i all)

@@ -15,7 +15,7 @@ use Rattle.sc_definitions.proofs.StandingLaws.{rows-entries_of}
 
 module _ (o : Ops) (ring : IsRing o) where
   -- a table of coefficients with its first variable bound
-  coefficient_value-bound : (f : ℕ → ℕ) (r : ℕ) (zs : List ℕ) → coefficient_value o f (r ∷ zs) ≡ coefficient_value o (bound_coefficients o (2 ^ length zs) r f) zs
+  pub coefficient_value-bound : (f : ℕ → ℕ) (r : ℕ) (zs : List ℕ) → coefficient_value o f (r ∷ zs) ≡ coefficient_value o (bound_coefficients o (2 ^ length zs) r f) zs
   unfolding coefficient_value bound_coefficients Agree
   coefficient_value-bound f r zs =
       let p = 2 ^ length zs in
@@ -30,14 +30,14 @@ module _ (o : Ops) (ring : IsRing o) where
       ∙ identity o ring (f a ∷ f (p + a) ∷ r ∷ monomial o zs a ∷ []) (A ⊗ (unit ⊗ W) ⊕ B ⊗ (R ⊗ W)) ((A ⊕ B ⊗ R) ⊗ W) tt tt refl)
 
   -- a table with the variable of a round bound, in either basis
-  value_in-bound : (basis : Basis) (order : Order) → IsOffered basis order → (f : ℕ → ℕ) (r : ℕ) (zs : List ℕ) →
+  pub value_in-bound : (basis : Basis) (order : Order) → IsOffered basis order → (f : ℕ → ℕ) (r : ℕ) (zs : List ℕ) →
       value_in basis o f (placed order (r ∷ []) zs) ≡ value_in basis o (bound_in basis order o (length zs) r f) zs
   value_in-bound evaluation prefix offered f r zs = value-bound o ring f r zs
   value_in-bound evaluation suffix offered f r zs = value-bound_low o ring f zs r
   value_in-bound projective prefix offered f r zs = coefficient_value-bound f r zs
   value_in-bound projective suffix offered f r zs = absurd offered
 
-value_in-same : (basis : Basis) (o : Ops) (f g : ℕ → ℕ) (zs : List ℕ) → ((b : ℕ) → b < 2 ^ length zs → f b ≡ g b) → value_in basis o f zs ≡ value_in basis o g zs
+pub value_in-same : (basis : Basis) (o : Ops) (f g : ℕ → ℕ) (zs : List ℕ) → ((b : ℕ) → b < 2 ^ length zs → f b ≡ g b) → value_in basis o f zs ≡ value_in basis o g zs
 unfolding coefficient_value
 value_in-same evaluation o f g zs same = value-same o f g zs same
 value_in-same projective o f g zs same = sum-same o (2 ^ length zs) _ _ (λ b low. ap (λ n. times o n (monomial o zs b)) (same b low))

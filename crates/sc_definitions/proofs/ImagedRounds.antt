@@ -3,7 +3,7 @@ use Rattle.std.proofs.Common.{◌≡◌, ℕ, suc, ◌+◌, ◌-◌, ◌^◌, �
 use Rattle.std.proofs.lemmas.List.{length-map}
 use Rattle.sc_definitions.specs.declared.events.Event.{Event}
 use Rattle.sc_definitions.specs.Ring.{Ops, IsRing, IsRingMap}
-use Rattle.sc_definitions.specs.Tables.{evaluation, rows_of, bound_in}
+use Rattle.sc_definitions.specs.Tables.{rows_of, bound_in}
 use Rattle.sc_definitions.specs.Messages.{message_of}
 use Rattle.sc_definitions.specs.Rounds.{next_claim}
 use Rattle.sc_definitions.specs.Transcript.{round_of}
@@ -33,7 +33,7 @@ module _ (a b : Ops) (ra : IsRing a) (rb : IsRing b) (h : ℕ → ℕ) (image : 
   -- the images are the message of the images
   pub sent_images : (values : List ℕ) → SendsImages a h s values → values ≡ message_shown b (imaged h s)
   sent_images values m =
-      m.images ∙ image_message a b ra rb h image s.order (half_rows s.variables) low.evals low.weights
+      m.images ∙ image_message a b ra rb h image s.basis s.order (half_rows s.variables) low.evals low.weights
       (image_rows a b ra rb h image s.evals) (image_rows a b ra rb h image s.weights) refl refl m.are
 
   -- the round on the images
@@ -46,16 +46,16 @@ module _ (a b : Ops) (ra : IsRing a) (rb : IsRing b) (h : ℕ → ℕ) (image : 
       let next : s.variables ≡ suc n = omega (arith, left) in
       let u = with_bound a s r in
       let bound : (xs : List ℕ) → ((k : ℕ) → rows_of xs k < a.size) → (k : ℕ) → k < 2 ^ n →
-      rows_of (map h (entries_of n (bound_in evaluation s.order a n r (rows_of xs)))) k ≡ bound_in evaluation s.order b n t (rows_of (map h xs)) k =
-      λ xs below. image_bound a b ra rb h image s.order n r t (rows_of xs) (rows_of (entries_of n (bound_in evaluation s.order a n r (rows_of xs)))) _ _ below r_low r_is
-      (image_rows a b ra rb h image xs) (image_rows a b ra rb h image (entries_of n (bound_in evaluation s.order a n r (rows_of xs)))) (rows-entries_of n _) in
-      let claim : h u.claim ≡ next_claim evaluation b (h s.claim) values t =
-      image_next a b ra rb h image r t low.claim m.first_below m.leading_below r_low refl refl r_is
-      (ap (λ v. next_claim evaluation a s.claim v r) (sym m.are))
-      ∙ ap (λ v. next_claim evaluation b (h s.claim) v t) (sym m.images) in
+      rows_of (map h (entries_of n (bound_in s.basis s.order a n r (rows_of xs)))) k ≡ bound_in s.basis s.order b n t (rows_of (map h xs)) k =
+      λ xs below. image_bound a b ra rb h image s.basis s.order n r t (rows_of xs) (rows_of (entries_of n (bound_in s.basis s.order a n r (rows_of xs)))) _ _ below r_low r_is
+      (image_rows a b ra rb h image xs) (image_rows a b ra rb h image (entries_of n (bound_in s.basis s.order a n r (rows_of xs)))) (rows-entries_of n _) in
+      let claim : h u.claim ≡ next_claim s.basis b (h s.claim) values t =
+      image_next a b ra rb h image s.basis r t low.claim m.first_below m.leading_below r_low refl refl r_is
+      (ap (λ v. next_claim s.basis a s.claim v r) (sym m.are))
+      ∙ ap (λ v. next_claim s.basis b (h s.claim) v t) (sym m.images) in
       moves (setting_at c b s) (standing_at (imaged h s) hist w) (standing_at (imaged h u) hist' w') values witness t sent wire more
       (record { evals = length-map _ h ∙ length-entries_of n _; weights = length-map _ h ∙ length-entries_of n _ })
-      (sent_images values m ∙ ap (λ k. message_of evaluation s.order b (half_rows k) (rows_of (map h s.evals)) (rows_of (map h s.weights))) next)
+      (sent_images values m ∙ ap (λ k. message_of s.basis s.order b (half_rows k) (rows_of (map h s.evals)) (rows_of (map h s.weights))) next)
       (bound s.evals low.evals) (bound s.weights low.weights) claim
 
 -- a round between what is shown by other names

@@ -11,6 +11,7 @@ pub mod RoundLaws
 pub mod StatementLaws
 pub mod SuccessorLaws
 pub mod ValueLaws
+pub mod CoefficientValues
 pub mod BlockLaws
 pub mod LoopLaws
 pub mod BuiltLaws
@@ -34,6 +35,7 @@ pub mod PlacedSums
 pub mod HonestRounds
 pub mod RootLaws
 pub mod PolyLaws
+pub mod PowerSums
 pub mod ProductLaws
 pub mod InterpolationLaws
 pub mod ProductRounds

@@ -1,5 +1,5 @@
 -- Where a challenge is lucky, a polynomial certifies it.
-use Rattle.std.proofs.Common.{◌≡◌, ◌≢◌, ℕ, zero, suc, ◌+◌, ◌<◌, ◌≤◌, ◌^◌, List, [], ◌∷◌, ◌++◌, All, length, map, if◌then◌else◌, Some, sym, ◌∙◌, ap, refl, arith, ⊎_elim, eq-eqb, ne_eqb, append_assoc}
+use Rattle.std.proofs.Common.{◌≡◌, ◌≢◌, ℕ, zero, suc, ◌+◌, ◌<◌, ◌≤◌, ◌^◌, List, [], ◌∷◌, ◌++◌, All, length, map, if◌then◌else◌, Some, sym, ◌∙◌, ap, refl, subst, arith, ⊎_elim, eq-eqb, ne_eqb, append_assoc}
 use Rattle.std.specs.List.{slice_get}
 use Rattle.std.proofs.lemmas.Bool.{cases_eq}
 use Rattle.std.proofs.lemmas.List.{append-nil, length-map}
@@ -10,60 +10,47 @@ use Rattle.sc_definitions.specs.Polynomials.{poly_at, poly_minus, AllZero}
 use Rattle.sc_definitions.specs.Roots.{root_count}
 use Rattle.sc_definitions.specs.Statements.{Statement, true_value, IsTrueOf, AllTrueOf, powers_sum, claimed_values, true_values, weights_at, batched_weight, batched_claim}
 use Rattle.sc_definitions.specs.Problem.{Problem, weights_of, claim_of, residual_of, eval_of, weight_value_of}
-use Rattle.sc_definitions.specs.Lucky.{IsCertificate, after_zeros, excess, batch_polynomial, true_claim_of, round_excess, product_excess, Course, course_of, product_course, Turn, first_turn, IsTurn, Luck, in_batch, luck_in, luck_of, IsRoundLuck, IsCertified}
+use Rattle.sc_definitions.specs.TwoTables.{TwoTables, tables_in, true_claim_on}
+use Rattle.sc_definitions.specs.Lucky.{IsCertificate, after_zeros, excess, batch_polynomial, true_claim_of, round_excess, product_excess, Course, course_of, course_on, product_course, Turn, first_turn, IsTurn, Luck, in_batch, luck_in, luck_of, IsRoundLuck, IsCertified}
 use Rattle.sc_definitions.specs.Interpolation.{through, sent_through, next_through}
 use Rattle.sc_definitions.specs.Products.{product_claim, product_round}
 use Rattle.sc_definitions.proofs.RingLaws.{element-plus, element-small, plus-opposite, plus-element_left, plus-element_right}
 use Rattle.sc_definitions.proofs.Identity.{atom, nought, unit, ◌⊕◌, ◌⊗◌, ◌⊖◌, Agree, identity, same_element}
 use Rattle.sc_definitions.proofs.StatementLaws.{element-powers_sum}
+use Rattle.sc_definitions.proofs.PowerSums.{poly_at-zeros}
 use Rattle.sc_definitions.proofs.PolyLaws.{poly_at-minus, length-minus}
 use Rattle.sc_definitions.proofs.RootLaws.{same-from_minus, element-poly_at}
-use Rattle.sc_definitions.proofs.RootCount.{root_count-few}
+use Rattle.sc_definitions.proofs.RootCount.{root_count-bound, last_place}
 use Rattle.sc_definitions.proofs.InterpolationLaws.{length-through, through-at, same_value}
 use Rattle.sc_definitions.proofs.ProductLaws.{product_round-at, product_claim-split, product_round-length}
 use Rattle.sc_definitions.proofs.BuildLaws.{inner-powers_sum, true_claim-end}
 use Rattle.sc_definitions.proofs.RoundLaws.{true_claim-inner, true_claim-next, slow_round-values}
 use Rattle.sc_definitions.proofs.Sums.{element-sum}
 use Rattle.std.specs.Option.{option_map}
+use Rattle.std.proofs.lemmas.Option.{same_Some}
+use Rattle.sc_definitions.proofs.TurnLaws.{turn-here, turn-later}
 
 -- ---- certificates
 
 module _ (o : Ops) (field : IsField o) where
   -- a polynomial that is not zero and vanishes at r is one
   pub certifies : (r : ℕ) (cs : List ℕ) → (AllZero o cs → ⊥) → poly_at o cs r ≡ 0 → IsCertificate o r cs (root_count o cs)
-  certifies r cs some vanishes = record {
-    not_zero = some;
-    vanishes = vanishes;
-    count = refl;
-    few = root_count-few o field cs some;
-  }
+  certifies r cs some vanishes =
+      let found = last_place o cs some in
+      record {
+        not_zero = some;
+        vanishes = vanishes;
+        count = refl;
+        degree = found.0;
+        last = found.1;
+        few = root_count-bound o field cs found.0 found.1;
+      }
 
 module _ (o : Ops) (ring : IsRing o) where
   minus-same : (x y : ℕ) → x ≡ y → minus o x y ≡ 0
   minus-same x y e = ap (minus o x) (sym e) ∙ plus-opposite o ring x
 
   -- ---- the batching challenge
-
-  -- coefficients after zeros, at c, are their sum times powers of c
-  powers-shift : (c p : ℕ) (xs : List ℕ) → times o c (powers_sum o c p xs) ≡ powers_sum o c (suc p) xs
-  unfolding powers_sum power Agree
-  powers-shift c p [] = identity o ring (c ∷ []) (atom 0 ⊗ nought) nought tt tt refl
-  powers-shift c p (x ∷ xs) =
-      let C = atom 0 in let X = atom 1 in let P = atom 2 in let S = atom 3 in
-      identity o ring (c ∷ x ∷ power o c p ∷ powers_sum o c (suc p) xs ∷ []) (C ⊗ (P ⊗ X ⊕ S)) ((C ⊗ P) ⊗ X ⊕ C ⊗ S) tt tt refl
-      ∙ ap (plus o (times o (power o c (suc p)) x)) (powers-shift c (suc p) xs)
-
-  poly_at-zeros : (n : ℕ) (xs : List ℕ) (c : ℕ) → poly_at o (after_zeros n xs) c ≡ powers_sum o c n xs
-  unfolding poly_at powers_sum power Agree
-  poly_at-zeros zero [] c = refl
-  poly_at-zeros zero (x ∷ xs) c =
-      ap (λ v. plus o x (times o c v)) (poly_at-zeros zero xs c) ∙ ap (plus o x) (powers-shift c 0 xs)
-      ∙ identity o ring (x ∷ powers_sum o c 1 xs ∷ []) (atom 0 ⊕ atom 1) (unit ⊗ atom 0 ⊕ atom 1) tt tt refl
-  poly_at-zeros (suc n) xs c =
-      let S = times o c (powers_sum o c n xs) in
-      ap (λ v. plus o 0 (times o c v)) (poly_at-zeros n xs c)
-      ∙ identity o ring (c ∷ powers_sum o c n xs ∷ []) (nought ⊕ atom 0 ⊗ atom 1) (atom 0 ⊗ atom 1) tt tt refl
-      ∙ powers-shift c n xs
 
   -- the batch of the excesses is what the batch of the claims exceeds that of the true values by
   excess-sum : (n : ℕ) (f : ℕ → ℕ) (c p : ℕ) (ss : List Statement) →
@@ -80,7 +67,7 @@ module _ (o : Ops) (ring : IsRing o) where
   unfolding batch_polynomial claim_of weights_of batched_claim batched_weight bound_by
   batch-at p =
       let c = p.batching in let i = p.initial in let n = p.variables in let f = p.table in let ss = p.statements in
-      poly_at-zeros i (map (excess o n f) ss) c ∙ excess-sum n f c i ss
+      poly_at-zeros o ring i (map (excess o n f) ss) c ∙ excess-sum n f c i ss
       ∙ ap (minus o (powers_sum o c i (claimed_values ss)))
       (sym (inner-powers_sum o ring n f c i ss) ∙ sym (true_claim-inner o ring p.basis p.order f (λ b. powers_sum o c i (weights_at o ss b)) [] n))
 
@@ -116,21 +103,21 @@ module _ (o : Ops) (ring : IsRing o) where
   three_slow basis order f w rs m = refl
 
   -- what a round sends exceeds the true polynomial, at its challenge, by as much as the next claim exceeds the true one
-  pub excess-at : (p : Problem) → IsOffered p.basis p.order → (claim c q : ℕ) (rs : List ℕ) (m r : ℕ) →
-      poly_at o (round_excess o p claim (c ∷ q ∷ []) rs m) r ≡ minus o (next_claim p.basis o claim (c ∷ q ∷ []) r) (true_claim_of o p (rs ++ r ∷ []) m)
+  pub excess-at : (t : TwoTables) → IsOffered t.basis t.order → (claim c q : ℕ) (rs : List ℕ) (m r : ℕ) →
+      poly_at o (round_excess o t claim (c ∷ q ∷ []) rs m) r ≡ minus o (next_claim t.basis o claim (c ∷ q ∷ []) r) (true_claim_on o t (rs ++ r ∷ []) m)
   unfolding round_excess next_claim
-  excess-at p offered claim c q rs m r =
-      let S = sent_polynomial p.basis o claim (c ∷ q ∷ []) in
-      let T = slow_round p.basis p.order o p.table (weights_of o p) rs m in
-      poly_at-minus o ring S T r (three_sent p.basis claim c q ∙ sym (three_slow p.basis p.order p.table (weights_of o p) rs m))
-      ∙ ap (minus o (poly_at o S r)) (sym (slow_round-values o ring p.basis p.order offered p.table (weights_of o p) rs m r))
+  excess-at t offered claim c q rs m r =
+      let S = sent_polynomial t.basis o claim (c ∷ q ∷ []) in
+      let T = slow_round t.basis t.order o t.table t.weights rs m in
+      poly_at-minus o ring S T r (three_sent t.basis claim c q ∙ sym (three_slow t.basis t.order t.table t.weights rs m))
+      ∙ ap (minus o (poly_at o S r)) (sym (slow_round-values o ring t.basis t.order offered t.table t.weights rs m r))
 
-  pub excess-length : (p : Problem) (claim c q : ℕ) (rs : List ℕ) (m : ℕ) → length (round_excess o p claim (c ∷ q ∷ []) rs m) ≡ 3
+  pub excess-length : (t : TwoTables) (claim c q : ℕ) (rs : List ℕ) (m : ℕ) → length (round_excess o t claim (c ∷ q ∷ []) rs m) ≡ 3
   unfolding round_excess
-  excess-length p claim c q rs m =
-      length-minus o ring (sent_polynomial p.basis o claim (c ∷ q ∷ [])) (slow_round p.basis p.order o p.table (weights_of o p) rs m)
-      (three_sent p.basis claim c q ∙ sym (three_slow p.basis p.order p.table (weights_of o p) rs m))
-      ∙ three_slow p.basis p.order p.table (weights_of o p) rs m
+  excess-length t claim c q rs m =
+      length-minus o ring (sent_polynomial t.basis o claim (c ∷ q ∷ [])) (slow_round t.basis t.order o t.table t.weights rs m)
+      (three_sent t.basis claim c q ∙ sym (three_slow t.basis t.order t.table t.weights rs m))
+      ∙ three_slow t.basis t.order t.table t.weights rs m
 
   zero_minus : (x y : ℕ) → element o (minus o x y) ≡ 0 → minus o x y ≡ 0
   zero_minus x y e = sym (element-plus o ring x (opposite o y)) ∙ e
@@ -198,21 +185,21 @@ module _ (o : Ops) (field : IsField o) (p : Problem) where
   batch_certifies low some right =
       certifies o field p.batching (batch_polynomial o p) (batch-some o field.ring p low some) (batch-at o field.ring p ∙ minus-same o field.ring _ _ right)
 
-module _ (o : Ops) (field : IsField o) (p : Problem) (offered : IsOffered p.basis p.order) where
+module _ (o : Ops) (field : IsField o) (t : TwoTables) (offered : IsOffered t.basis t.order) where
   -- the round before whose challenge a claim is false and after which it is true certifies that the challenge was lucky
-  round_certifies : (claim : ℕ) (message : List ℕ) (rs : List ℕ) (m r : ℕ) → length message ≡ 2 → element o claim ≢ true_claim_of o p rs (suc m) →
-      next_claim p.basis o claim message r ≡ true_claim_of o p (rs ++ r ∷ []) m →
-      IsCertificate o r (round_excess o p claim message rs m) (root_count o (round_excess o p claim message rs m)) × (length (round_excess o p claim message rs m) ≡ 3)
+  round_certifies : (claim : ℕ) (message : List ℕ) (rs : List ℕ) (m r : ℕ) → length message ≡ 2 → element o claim ≢ true_claim_on o t rs (suc m) →
+      next_claim t.basis o claim message r ≡ true_claim_on o t (rs ++ r ∷ []) m →
+      IsCertificate o r (round_excess o t claim message rs m) (root_count o (round_excess o t claim message rs m)) × (length (round_excess o t claim message rs m) ≡ 3)
   unfolding round_excess
   round_certifies claim [] rs m r two wrong right = absurd (omega (arith, two))
   round_certifies claim (c ∷ []) rs m r two wrong right = absurd (omega (arith, two))
   round_certifies claim (c ∷ (q ∷ (x ∷ xs))) rs m r two wrong right = absurd (omega (arith, two))
   round_certifies claim (c ∷ (q ∷ [])) rs m r two wrong right = (
-    certifies o field r (round_excess o p claim (c ∷ q ∷ []) rs m)
-        (λ zeros. wrong (claims-same o field.ring p.basis p.order offered p.table (weights_of o p) claim c q rs m zeros
-        ∙ element-true o field.ring p.basis p.order p.table (weights_of o p) rs (suc m)))
-        (excess-at o field.ring p offered claim c q rs m r ∙ minus-same o field.ring _ _ right),
-    excess-length o field.ring p claim c q rs m,
+    certifies o field r (round_excess o t claim (c ∷ q ∷ []) rs m)
+        (λ zeros. wrong (claims-same o field.ring t.basis t.order offered t.table t.weights claim c q rs m zeros
+        ∙ element-true o field.ring t.basis t.order t.table t.weights rs (suc m)))
+        (excess-at o field.ring t offered claim c q rs m r ∙ minus-same o field.ring _ _ right),
+    excess-length o field.ring t claim c q rs m,
   )
 
 -- ---- the first round that turns a false claim into the true one
@@ -241,6 +228,33 @@ module _ (o : Ops) (k : Course) (Sends : List ℕ → Type 0) (width : ℕ) (c :
     coefficients = later.coefficients;
   }
 
+  -- a round that is found after a false claim is certified
+  pub first-certified : (i claim : ℕ) (messages : List (List ℕ)) (before rs : List ℕ) (t : Turn) → AllSend Sends messages →
+      element o claim ≢ k.true_after before (length messages) → first_turn k i claim messages before rs ≡ Some t → IsTurn o width i rs t
+  unfolding first_turn
+  first-certified i claim [] before rs t send wrong is = cc
+  first-certified i claim (message ∷ messages) before [] t send wrong is = cc
+  first-certified i claim (message ∷ messages) before (r ∷ rs) t send wrong is =
+      let m = length messages in
+      ⊎_elim
+      (λ now.
+      let certified = c.round claim message before m r send.0 wrong now in
+      subst (IsTurn o width i (r ∷ rs)) (same_Some _ _ (sym (turn-here k i claim message messages before r rs now) ∙ is))
+      (record {
+        place = 0;
+        round = omega arith;
+        challenge = r;
+        drawn = refl;
+        certificate = certified.0;
+        coefficients = certified.1;
+      }))
+      (λ later.
+      turn_later i r rs t
+      (first-certified (suc i) (k.next claim message r) messages (before ++ r ∷ []) rs t send.1 (λ e. later (sym (c.next_element claim message r) ∙ e))
+      (sym (turn-later k i claim message messages before r rs later) ∙ is)))
+      (cases_eq (k.next claim message r) (k.true_after (before ++ r ∷ []) m))
+
+  -- and there is one where the last claim is the true one
   pub turns : (i claim : ℕ) (messages : List (List ℕ)) (before rs : List ℕ) → length messages ≡ length rs → AllSend Sends messages →
       element o claim ≢ k.true_after before (length messages) → claim_along k.next claim messages rs ≡ k.true_after (before ++ rs) 0 →
       (t : Turn) × (first_turn k i claim messages before rs ≡ Some t) × IsTurn o width i rs t
@@ -275,15 +289,15 @@ module _ (o : Ops) (k : Course) (Sends : List ℕ → Type 0) (width : ℕ) (c :
       (found.0, ap (λ b. if b then Some here else rest) (ne_eqb _ _ later) ∙ found.1, turn_later i r rs found.0 found.2))
       (cases_eq next (k.true_after (before ++ r ∷ []) m))
 
--- the rounds of a problem, which send pairs
+-- the rounds on two tables, which send pairs
 abbrev pub IsPair : List ℕ → Type 0
 IsPair message = length message ≡ 2
 
-pub pairs_certify : (o : Ops) → IsField o → (p : Problem) → IsOffered p.basis p.order → Certifies o (course_of o p) IsPair 3
-pairs_certify o field p offered = record {
-  next_element = element-next o field.ring p.basis;
-  true_element = element-true o field.ring p.basis p.order p.table (weights_of o p);
-  round = round_certifies o field p offered;
+pub pairs_certify : (o : Ops) → IsField o → (t : TwoTables) → IsOffered t.basis t.order → Certifies o (course_on o t) IsPair 3
+pairs_certify o field t offered = record {
+  next_element = element-next o field.ring t.basis;
+  true_element = element-true o field.ring t.basis t.order t.table t.weights;
+  round = round_certifies o field t offered;
 }
 
 -- ---- the rounds of a product, which send as many values as there are tables
@@ -386,6 +400,6 @@ module _ (o : Ops) (field : IsField o) (p : Problem) (offered : IsOffered p.basi
       λ e. other (sym whole ∙ e ∙ ap (true_claim_of o p []) count) in
       let end : claim_along (next_claim p.basis o) (claim_of o p) messages rs ≡ true_claim_of o p ([] ++ rs) 0 =
       right ∙ sym (true_claim-end o ring p.basis p.order offered p.table (weights_of o p) rs) in
-      let found = turns o (course_of o p) IsPair 3 (pairs_certify o field p offered) 0 (claim_of o p) messages [] rs (count ∙ sym drawn) pairs wrong end in
+      let found = turns o (course_of o p) IsPair 3 (pairs_certify o field (tables_in o p) offered) 0 (claim_of o p) messages [] rs (count ∙ sym drawn) pairs wrong end in
       (luck_in o found.0, ap (λ b. if b then Some batch else rest) (ne_eqb _ _ other) ∙ ap (option_map (luck_in o)) found.1, round_luck rs found.0 found.2))
       (cases_eq (claim_of o p) (true_claim_of o p [] n))

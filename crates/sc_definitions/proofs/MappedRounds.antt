@@ -2,7 +2,7 @@
 use Rattle.std.proofs.Common.{◌≡◌, ℕ, zero, suc, ◌+◌, ◌*◌, ◌^◌, ◌<◌, List, [], ◌∷◌, map, slice_index, refl, ap, sym, ◌∙◌, subst}
 use Rattle.std.proofs.Math.Path.{fun_ext}
 use Rattle.sc_definitions.specs.Ring.{Ops, IsRing, IsRingMap, plus, times, minus, IsRepresentation}
-use Rattle.sc_definitions.specs.Tables.{evaluation, Order, prefix, suffix, entries, rows_of, sum_below, inner, bound, bound_low, bound_in}
+use Rattle.sc_definitions.specs.Tables.{Basis, evaluation, projective, Order, prefix, suffix, entries, rows_of, sum_below, inner, bound, bound_low, bound_coefficients, bound_in}
 use Rattle.sc_definitions.specs.Messages.{low_entry, high_entry, first_term, leading_term, message_first, message_leading, message_of}
 use Rattle.sc_definitions.specs.Polynomials.{poly_at}
 use Rattle.sc_definitions.specs.Rounds.{sent_pair, sent_polynomial, next_claim}
@@ -83,54 +83,72 @@ module _ (a b : Ops) (ra : IsRing a) (rb : IsRing b) (h : ℕ → ℕ) (m : IsRi
       ∙ ap (λ x. minus b x (h (low_entry order f k))) (sym (high_image order half f k))
       ∙ ap (minus b (high_entry order half (image f) k)) (sym (low_image order f k))
 
-  first_image : (order : Order) (half : ℕ) (f w : ℕ → ℕ) → AreBelow f → AreBelow w → (k : ℕ) →
-      h (first_term evaluation order a half f w k) ≡ first_term evaluation order b half (image f) (image w) k
+  sum_image : (order : Order) (half : ℕ) (f : ℕ → ℕ) → AreBelow f → (k : ℕ) →
+      h (plus a (low_entry order f k) (high_entry order half f k)) ≡ plus b (low_entry order (image f) k) (high_entry order half (image f) k)
+  sum_image order half f low k =
+      m.plus_kept (low_entry order f k) (high_entry order half f k) (low_below order f low k) (high_below order half f low k)
+      ∙ ap (λ x. plus b x (h (high_entry order half f k))) (sym (low_image order f k))
+      ∙ ap (plus b (low_entry order (image f) k)) (sym (high_image order half f k))
+
+  first_image : (basis : Basis) (order : Order) (half : ℕ) (f w : ℕ → ℕ) → AreBelow f → AreBelow w → (k : ℕ) →
+      h (first_term basis order a half f w k) ≡ first_term basis order b half (image f) (image w) k
   unfolding first_term
-  first_image order half f w lf lw k =
+  first_image evaluation order half f w lf lw k =
       m.times_kept (low_entry order f k) (low_entry order w k) (low_below order f lf k) (low_below order w lw k)
       ∙ ap (λ x. times b x (h (low_entry order w k))) (sym (low_image order f k))
       ∙ ap (times b (low_entry order (image f) k)) (sym (low_image order w k))
+  first_image projective order half f w lf lw k =
+      m.times_kept (plus a (low_entry order f k) (high_entry order half f k)) (plus a (low_entry order w k) (high_entry order half w k))
+      (plus_below a ra _ _) (plus_below a ra _ _)
+      ∙ ap (λ x. times b x (h (plus a (low_entry order w k) (high_entry order half w k)))) (sum_image order half f lf k)
+      ∙ ap (times b (plus b (low_entry order (image f) k) (high_entry order half (image f) k))) (sum_image order half w lw k)
 
-  leading_image : (order : Order) (half : ℕ) (f w : ℕ → ℕ) → AreBelow f → AreBelow w → (k : ℕ) →
-      h (leading_term evaluation order a half f w k) ≡ leading_term evaluation order b half (image f) (image w) k
+  leading_image : (basis : Basis) (order : Order) (half : ℕ) (f w : ℕ → ℕ) → AreBelow f → AreBelow w → (k : ℕ) →
+      h (leading_term basis order a half f w k) ≡ leading_term basis order b half (image f) (image w) k
   unfolding leading_term
-  leading_image order half f w lf lw k =
+  leading_image evaluation order half f w lf lw k =
       m.times_kept (minus a (high_entry order half f k) (low_entry order f k)) (minus a (high_entry order half w k) (low_entry order w k))
       (plus_below a ra _ _) (plus_below a ra _ _)
       ∙ ap (λ x. times b x (h (minus a (high_entry order half w k) (low_entry order w k)))) (difference_image order half f lf k)
       ∙ ap (times b (minus b (high_entry order half (image f) k) (low_entry order (image f) k))) (difference_image order half w lw k)
+  leading_image projective order half f w lf lw k =
+      m.times_kept (high_entry order half f k) (high_entry order half w k) (high_below order half f lf k) (high_below order half w lw k)
+      ∙ ap (λ x. times b x (h (high_entry order half w k))) (sym (high_image order half f k))
+      ∙ ap (times b (high_entry order half (image f) k)) (sym (high_image order half w k))
 
-  first_below : (order : Order) (half : ℕ) (f w : ℕ → ℕ) → AreBelow (first_term evaluation order a half f w)
+  first_below : (basis : Basis) (order : Order) (half : ℕ) (f w : ℕ → ℕ) → AreBelow (first_term basis order a half f w)
   unfolding first_term
-  first_below order half f w k = times_below a ra _ _
+  first_below evaluation order half f w k = times_below a ra _ _
+  first_below projective order half f w k = times_below a ra _ _
 
-  leading_below : (order : Order) (half : ℕ) (f w : ℕ → ℕ) → AreBelow (leading_term evaluation order a half f w)
+  leading_below : (basis : Basis) (order : Order) (half : ℕ) (f w : ℕ → ℕ) → AreBelow (leading_term basis order a half f w)
   unfolding leading_term
-  leading_below order half f w k = times_below a ra _ _
+  leading_below evaluation order half f w k = times_below a ra _ _
+  leading_below projective order half f w k = times_below a ra _ _
 
-  map-first : (order : Order) (half : ℕ) (f w : ℕ → ℕ) → AreBelow f → AreBelow w →
-      h (message_first evaluation order a half f w) ≡ message_first evaluation order b half (image f) (image w)
+  map-first : (basis : Basis) (order : Order) (half : ℕ) (f w : ℕ → ℕ) → AreBelow f → AreBelow w →
+      h (message_first basis order a half f w) ≡ message_first basis order b half (image f) (image w)
   unfolding message_first
-  map-first order half f w lf lw =
-      map-sum half (first_term evaluation order a half f w) (first_below order half f w)
-      ∙ ap (sum_below b half) (fun_ext (first_image order half f w lf lw))
+  map-first basis order half f w lf lw =
+      map-sum half (first_term basis order a half f w) (first_below basis order half f w)
+      ∙ ap (sum_below b half) (fun_ext (first_image basis order half f w lf lw))
 
-  map-leading : (order : Order) (half : ℕ) (f w : ℕ → ℕ) → AreBelow f → AreBelow w →
-      h (message_leading evaluation order a half f w) ≡ message_leading evaluation order b half (image f) (image w)
+  map-leading : (basis : Basis) (order : Order) (half : ℕ) (f w : ℕ → ℕ) → AreBelow f → AreBelow w →
+      h (message_leading basis order a half f w) ≡ message_leading basis order b half (image f) (image w)
   unfolding message_leading
-  map-leading order half f w lf lw =
-      map-sum half (leading_term evaluation order a half f w) (leading_below order half f w)
-      ∙ ap (sum_below b half) (fun_ext (leading_image order half f w lf lw))
+  map-leading basis order half f w lf lw =
+      map-sum half (leading_term basis order a half f w) (leading_below basis order half f w)
+      ∙ ap (sum_below b half) (fun_ext (leading_image basis order half f w lf lw))
 
   -- the message of the images, from that of the entries
-  pub image_message : (order : Order) (half : ℕ) {f w F W : ℕ → ℕ} {x y X Y : ℕ} → AreBelow f → AreBelow w → F ≡ image f → W ≡ image w →
-      X ≡ h x → Y ≡ h y → x ∷ y ∷ [] ≡ message_of evaluation order a half f w → X ∷ Y ∷ [] ≡ message_of evaluation order b half F W
-  image_message order half {f} {w} {F} {x} {Y} lf lw F_is W_is X_is Y_is message =
+  pub image_message : (basis : Basis) (order : Order) (half : ℕ) {f w F W : ℕ → ℕ} {x y X Y : ℕ} → AreBelow f → AreBelow w → F ≡ image f → W ≡ image w →
+      X ≡ h x → Y ≡ h y → x ∷ y ∷ [] ≡ message_of basis order a half f w → X ∷ Y ∷ [] ≡ message_of basis order b half F W
+  image_message basis order half {f} {w} {F} {x} {Y} lf lw F_is W_is X_is Y_is message =
       ap (λ v. v ∷ Y ∷ []) X_is ∙ ap (λ v. h x ∷ v ∷ []) Y_is
       ∙ ap (λ vs. h (first_of vs) ∷ h (second_of vs) ∷ []) message
-      ∙ ap (λ v. v ∷ h (message_leading evaluation order a half f w) ∷ []) (map-first order half f w lf lw)
-      ∙ ap (λ v. message_first evaluation order b half (image f) (image w) ∷ v ∷ []) (map-leading order half f w lf lw)
-      ∙ ap (λ g. message_of evaluation order b half g (image w)) (sym F_is) ∙ ap (message_of evaluation order b half F) (sym W_is)
+      ∙ ap (λ v. v ∷ h (message_leading basis order a half f w) ∷ []) (map-first basis order half f w lf lw)
+      ∙ ap (λ v. message_first basis order b half (image f) (image w) ∷ v ∷ []) (map-leading basis order half f w lf lw)
+      ∙ ap (λ g. message_of basis order b half g (image w)) (sym F_is) ∙ ap (message_of basis order b half F) (sym W_is)
     where
       first_of : List ℕ → ℕ
       first_of [] = 0
@@ -148,48 +166,58 @@ module _ (a b : Ops) (ra : IsRing a) (rb : IsRing b) (h : ℕ → ℕ) (m : IsRi
       ∙ ap (plus b (h lo)) (m.times_kept (minus a hi lo) r (plus_below a ra _ _) lr
       ∙ ap (λ d. times b d (h r)) (map-minus a b ra rb h m hi lo lh ll))
 
-  map-bound : (order : Order) (n r : ℕ) (f : ℕ → ℕ) → AreBelow f → r < a.size → (k : ℕ) →
-      h (bound_in evaluation order a n r f k) ≡ bound_in evaluation order b n (h r) (image f) k
-  unfolding bound bound_low
-  map-bound prefix n r f low lr k = map-line (f k) (f (2 ^ n + k)) r (low k) (low (2 ^ n + k)) lr
-  map-bound suffix n r f low lr k = map-line (f (2 * k)) (f (2 * k + 1)) r (low (2 * k)) (low (2 * k + 1)) lr
+  map-bound : (basis : Basis) (order : Order) (n r : ℕ) (f : ℕ → ℕ) → AreBelow f → r < a.size → (k : ℕ) →
+      h (bound_in basis order a n r f k) ≡ bound_in basis order b n (h r) (image f) k
+  unfolding bound bound_low bound_coefficients
+  map-bound evaluation prefix n r f low lr k = map-line (f k) (f (2 ^ n + k)) r (low k) (low (2 ^ n + k)) lr
+  map-bound evaluation suffix n r f low lr k = map-line (f (2 * k)) (f (2 * k + 1)) r (low (2 * k)) (low (2 * k + 1)) lr
+  map-bound projective order n r f low lr k =
+      m.plus_kept (f k) (times a (f (2 ^ n + k)) r) (low k) (times_below a ra _ _) ∙ ap (plus b (h (f k))) (m.times_kept (f (2 ^ n + k)) r (low (2 ^ n + k)) lr)
 
   -- the bound table of the images, from that of the entries
-  pub image_bound : (order : Order) (n r s : ℕ) (f f' F F' : ℕ → ℕ) → AreBelow f → r < a.size → h r ≡ s → F ≡ image f → F' ≡ image f' →
-      ((k : ℕ) → k < 2 ^ n → f' k ≡ bound_in evaluation order a n r f k) → (k : ℕ) → k < 2 ^ n → F' k ≡ bound_in evaluation order b n s F k
-  image_bound order n r s f f' F F' low lr r_is F_is F'_is bound_is k in_range =
-      ap (λ g. g k) F'_is ∙ ap h (bound_is k in_range) ∙ map-bound order n r f low lr k
-      ∙ ap (λ t. bound_in evaluation order b n t (image f) k) r_is ∙ ap (λ g. bound_in evaluation order b n s g k) (sym F_is)
+  pub image_bound : (basis : Basis) (order : Order) (n r s : ℕ) (f f' F F' : ℕ → ℕ) → AreBelow f → r < a.size → h r ≡ s → F ≡ image f → F' ≡ image f' →
+      ((k : ℕ) → k < 2 ^ n → f' k ≡ bound_in basis order a n r f k) → (k : ℕ) → k < 2 ^ n → F' k ≡ bound_in basis order b n s F k
+  image_bound basis order n r s f f' F F' low lr r_is F_is F'_is bound_is k in_range =
+      ap (λ g. g k) F'_is ∙ ap h (bound_is k in_range) ∙ map-bound basis order n r f low lr k
+      ∙ ap (λ t. bound_in basis order b n t (image f) k) r_is ∙ ap (λ g. bound_in basis order b n s g k) (sym F_is)
 
   map-step : (c r p : ℕ) → c < a.size → r < a.size → p < a.size → h (plus a c (times a r p)) ≡ plus b (h c) (times b (h r) (h p))
   map-step c r p lc lr lp =
       m.plus_kept c (times a r p) lc (times_below a ra r p) ∙ ap (plus b (h c)) (m.times_kept r p lr lp)
 
-  map-next : (claim c q r : ℕ) → claim < a.size → c < a.size → q < a.size → r < a.size →
-      h (next_claim evaluation a claim (c ∷ q ∷ []) r) ≡ next_claim evaluation b (h claim) (h c ∷ h q ∷ []) (h r)
-  unfolding next_claim sent_polynomial sent_pair poly_at
-  map-next claim c q r l_claim lc lq lr =
-      let u = minus a (minus a (minus a claim c) c) q in
-      let U = minus b (minus b (minus b (h claim) (h c)) (h c)) (h q) in
-      let u_is : h u ≡ U =
-      map-minus a b ra rb h m (minus a (minus a claim c) c) q (plus_below a ra _ _) lq
-      ∙ ap (λ v. minus b v (h q)) (map-minus a b ra rb h m (minus a claim c) c (plus_below a ra _ _) lc
-      ∙ ap (λ v. minus b v (h c)) (map-minus a b ra rb h m claim c l_claim lc)) in
+  -- a polynomial of three coefficients
+  map-three : (c u q r : ℕ) → c < a.size → u < a.size → q < a.size → r < a.size → h (poly_at a (c ∷ u ∷ q ∷ []) r) ≡ poly_at b (h c ∷ h u ∷ h q ∷ []) (h r)
+  unfolding poly_at
+  map-three c u q r lc lu lq lr =
       let last = plus a q (times a r 0) in
       let last_is : h last ≡ plus b (h q) (times b (h r) 0) =
       map-step q r 0 lq lr (size_pos a ra) ∙ ap (λ v. plus b (h q) (times b (h r) v)) m.zero_kept in
       let rest = plus a u (times a r last) in
-      let rest_is : h rest ≡ plus b U (times b (h r) (plus b (h q) (times b (h r) 0))) =
-      map-step u r last (plus_below a ra _ _) lr (plus_below a ra _ _)
-      ∙ ap (λ v. plus b v (times b (h r) (h last))) u_is ∙ ap (λ v. plus b U (times b (h r) v)) last_is in
+      let rest_is : h rest ≡ plus b (h u) (times b (h r) (plus b (h q) (times b (h r) 0))) =
+      map-step u r last lu lr (plus_below a ra _ _) ∙ ap (λ v. plus b (h u) (times b (h r) v)) last_is in
       map-step c r rest lc lr (plus_below a ra _ _) ∙ ap (λ v. plus b (h c) (times b (h r) v)) rest_is
 
+  map-next : (basis : Basis) (claim c q r : ℕ) → claim < a.size → c < a.size → q < a.size → r < a.size →
+      h (next_claim basis a claim (c ∷ q ∷ []) r) ≡ next_claim basis b (h claim) (h c ∷ h q ∷ []) (h r)
+  unfolding next_claim sent_polynomial sent_pair
+  map-next evaluation claim c q r l_claim lc lq lr =
+      let u = minus a (minus a (minus a claim c) c) q in
+      let u_is : h u ≡ minus b (minus b (minus b (h claim) (h c)) (h c)) (h q) =
+      map-minus a b ra rb h m (minus a (minus a claim c) c) q (plus_below a ra _ _) lq
+      ∙ ap (λ v. minus b v (h q)) (map-minus a b ra rb h m (minus a claim c) c (plus_below a ra _ _) lc
+      ∙ ap (λ v. minus b v (h c)) (map-minus a b ra rb h m claim c l_claim lc)) in
+      map-three c u q r lc (plus_below a ra _ _) lq lr ∙ ap (λ v. poly_at b (h c ∷ v ∷ h q ∷ []) (h r)) u_is
+  map-next projective claim c q r l_claim lc lq lr =
+      map-three (minus a claim q) (minus a c claim) q r (plus_below a ra _ _) (plus_below a ra _ _) lq lr
+      ∙ ap (λ v. poly_at b (v ∷ h (minus a c claim) ∷ h q ∷ []) (h r)) (map-minus a b ra rb h m claim q l_claim lq)
+      ∙ ap (λ v. poly_at b (minus b (h claim) (h q) ∷ v ∷ h q ∷ []) (h r)) (map-minus a b ra rb h m c claim lc l_claim)
+
   -- the claim after a round of the images, from that of the entries
-  pub image_next : {claim c q C Q : ℕ} (r s : ℕ) {claim' : ℕ} → claim < a.size → c < a.size → q < a.size → r < a.size → C ≡ h c → Q ≡ h q → h r ≡ s →
-      claim' ≡ next_claim evaluation a claim (c ∷ q ∷ []) r → h claim' ≡ next_claim evaluation b (h claim) (C ∷ Q ∷ []) s
-  image_next {claim} {c} {q} {C} r s l_claim lc lq lr C_is Q_is r_is next =
-      ap h next ∙ map-next claim c q r l_claim lc lq lr ∙ ap (next_claim evaluation b (h claim) (h c ∷ h q ∷ [])) r_is
-      ∙ ap (λ v. next_claim evaluation b (h claim) (v ∷ h q ∷ []) s) (sym C_is) ∙ ap (λ v. next_claim evaluation b (h claim) (C ∷ v ∷ []) s) (sym Q_is)
+  pub image_next : (basis : Basis) {claim c q C Q : ℕ} (r s : ℕ) {claim' : ℕ} → claim < a.size → c < a.size → q < a.size → r < a.size → C ≡ h c → Q ≡ h q → h r ≡ s →
+      claim' ≡ next_claim basis a claim (c ∷ q ∷ []) r → h claim' ≡ next_claim basis b (h claim) (C ∷ Q ∷ []) s
+  image_next basis {claim} {c} {q} {C} r s l_claim lc lq lr C_is Q_is r_is next =
+      ap h next ∙ map-next basis claim c q r l_claim lc lq lr ∙ ap (next_claim basis b (h claim) (h c ∷ h q ∷ [])) r_is
+      ∙ ap (λ v. next_claim basis b (h claim) (v ∷ h q ∷ []) s) (sym C_is) ∙ ap (λ v. next_claim basis b (h claim) (C ∷ v ∷ []) s) (sym Q_is)
 
   -- the sum of the products of the images, from that of the entries
   pub image_inner : (n : ℕ) (f w : ℕ → ℕ) → AreBelow f → AreBelow w → h (inner a n f w) ≡ inner b n (image f) (image w)

@@ -4,7 +4,7 @@ use Rattle.std.proofs.Math.Nat.{pow-suc}
 use Rattle.std.proofs.lemmas.List.{length-map}
 use Rattle.std.proofs.lemmas.Grind.{same_number_lists}
 use Rattle.sc_definitions.specs.Ring.{Ops, IsRing, times}
-use Rattle.sc_definitions.specs.Tables.{evaluation, Order, entries, rows_of, sum_below, inner, bound_in}
+use Rattle.sc_definitions.specs.Tables.{Basis, Order, IsOffered, entries, rows_of, sum_below, inner, bound_in}
 use Rattle.sc_definitions.specs.Messages.{message_first, message_leading, message_of}
 use Rattle.sc_definitions.specs.Rounds.{next_claim}
 use Rattle.sc_definitions.specs.Transcript.{round_of}
@@ -27,11 +27,11 @@ one_more zero positive = absurd (omega (arith, positive))
 one_more (suc m) positive = (m, omega arith)
 
 -- a message of tables by how many rows their parts have
-pub halved : (order : Order) (o : Ops) (n : ℕ) (f w : ℕ → ℕ) (values : List ℕ) (more : (m : ℕ) × (n ≡ m + 1)) → values ≡ message_of evaluation order o (2 ^ more.0) f w →
-    values ≡ message_of evaluation order o (half_rows n) f w
-halved order o n f w values more message =
+pub halved : (basis : Basis) (order : Order) (o : Ops) (n : ℕ) (f w : ℕ → ℕ) (values : List ℕ) (more : (m : ℕ) × (n ≡ m + 1)) → values ≡ message_of basis order o (2 ^ more.0) f w →
+    values ≡ message_of basis order o (half_rows n) f w
+halved basis order o n f w values more message =
     let next : n ≡ suc more.0 = omega (arith, more.1) in
-    message ∙ ap (λ k. message_of evaluation order o (half_rows k) f w) (sym next)
+    message ∙ ap (λ k. message_of basis order o (half_rows k) f w) (sym next)
 
 -- the list of a table has as many numbers as rows
 pub sized : {X : Type 0} (number : X → ℕ) (xs : List X) (n size : ℕ) → n ≡ length xs → n ≡ 2 ^ size → length (map number xs) ≡ 2 ^ size
@@ -45,15 +45,15 @@ same_lists number n m xs ys size other same is =
     same_number_lists (map number ys) (map number xs) (other ∙ ap (λ k. 2 ^ k) same ∙ sym size) (λ k low. ap (λ t. t k) is)
 
 -- the message of tables of m + 1 variables
-pub message_halves : (order : Order) (o : Ops) (n v m : ℕ) (f w F W : ℕ → ℕ) (a b : ℕ) → n ≡ 2 ^ v → v ≡ m + 1 → F ≡ f → W ≡ w →
-    a ≡ message_first evaluation order o (n / 2) F W → b ≡ message_leading evaluation order o (n / 2) F W →
-    a ∷ b ∷ [] ≡ message_of evaluation order o (2 ^ m) f w
-message_halves order o n v m f w F W a b size more same_f same_w first leading =
+pub message_halves : (basis : Basis) (order : Order) (o : Ops) (n v m : ℕ) (f w F W : ℕ → ℕ) (a b : ℕ) → n ≡ 2 ^ v → v ≡ m + 1 → F ≡ f → W ≡ w →
+    a ≡ message_first basis order o (n / 2) F W → b ≡ message_leading basis order o (n / 2) F W →
+    a ∷ b ∷ [] ≡ message_of basis order o (2 ^ m) f w
+message_halves basis order o n v m f w F W a b size more same_f same_w first leading =
     let twice : 2 ^ (m + 1) ≡ 2 ^ m * 2 = ap (λ k. 2 ^ k) (omega arith) ∙ pow-suc 2 m in
     let half : n / 2 ≡ 2 ^ m = omega (arith, size ∙ ap (λ k. 2 ^ k) more ∙ twice) in
-    ap (λ c. c ∷ b ∷ []) first ∙ ap (λ c. message_first evaluation order o (n / 2) F W ∷ c ∷ []) leading
-    ∙ ap (λ h. message_of evaluation order o h F W) half ∙ ap (λ g. message_of evaluation order o (2 ^ m) g W) same_f
-    ∙ ap (λ g. message_of evaluation order o (2 ^ m) f g) same_w
+    ap (λ c. c ∷ b ∷ []) first ∙ ap (λ c. message_first basis order o (n / 2) F W ∷ c ∷ []) leading
+    ∙ ap (λ h. message_of basis order o h F W) half ∙ ap (λ g. message_of basis order o (2 ^ m) g W) same_f
+    ∙ ap (λ g. message_of basis order o (2 ^ m) f g) same_w
 
 -- the sum over the rows of two lists
 pub dot_sum : (o : Ops) {d L : ℕ} (n : ℕ) {F W f w : ℕ → ℕ} → d ≡ sum_below o L (λ b. times o (F b) (W b)) → L ≡ 2 ^ n → F ≡ f → W ≡ w → d ≡ inner o n f w
@@ -84,14 +84,14 @@ moves s t u values witness r sent wire less sized message evals weights claim =
     }
 
 -- the sum of the bound tables
-pub sum_after : (order : Order) (o : Ops) → IsRing o → (n m : ℕ) (f w : ℕ → ℕ) (claim : ℕ) (values : List ℕ) (r : ℕ) (f' w' : ℕ → ℕ) (claim' : ℕ) →
-    n ≡ m + 1 → claim ≡ inner o n f w → values ≡ message_of evaluation order o (2 ^ m) f w →
-    ((b : ℕ) → b < 2 ^ m → f' b ≡ bound_in evaluation order o m r f b) → ((b : ℕ) → b < 2 ^ m → w' b ≡ bound_in evaluation order o m r w b) →
-    claim' ≡ next_claim evaluation o claim values r → claim' ≡ inner o m f' w'
+pub sum_after : (basis : Basis) (order : Order) → IsOffered basis order → (o : Ops) → IsRing o → (n m : ℕ) (f w : ℕ → ℕ) (claim : ℕ) (values : List ℕ) (r : ℕ) (f' w' : ℕ → ℕ) (claim' : ℕ) →
+    n ≡ m + 1 → claim ≡ inner o n f w → values ≡ message_of basis order o (2 ^ m) f w →
+    ((b : ℕ) → b < 2 ^ m → f' b ≡ bound_in basis order o m r f b) → ((b : ℕ) → b < 2 ^ m → w' b ≡ bound_in basis order o m r w b) →
+    claim' ≡ next_claim basis o claim values r → claim' ≡ inner o m f' w'
 unfolding inner
-sum_after order o ring n m f w claim values r f' w' claim' more true_sum message evals weights next =
+sum_after basis order offered o ring n m f w claim values r f' w' claim' more true_sum message evals weights next =
     let size : n ≡ suc m = omega arith in
-    next ∙ ap (λ vs. next_claim evaluation o claim vs r) message
-    ∙ ap (λ c. next_claim evaluation o c (message_of evaluation order o (2 ^ m) f w) r) (true_sum ∙ ap (λ k. inner o k f w) size)
-    ∙ sym (inner-bound_in o ring evaluation order tt m f w r)
-    ∙ sym (sum-same o (2 ^ m) _ _ (λ b low. ap (λ x. times o x (w' b)) (evals b low) ∙ ap (λ x. times o (bound_in evaluation order o m r f b) x) (weights b low)))
+    next ∙ ap (λ vs. next_claim basis o claim vs r) message
+    ∙ ap (λ c. next_claim basis o c (message_of basis order o (2 ^ m) f w) r) (true_sum ∙ ap (λ k. inner o k f w) size)
+    ∙ sym (inner-bound_in o ring basis order offered m f w r)
+    ∙ sym (sum-same o (2 ^ m) _ _ (λ b low. ap (λ x. times o x (w' b)) (evals b low) ∙ ap (λ x. times o (bound_in basis order o m r f b) x) (weights b low)))

@@ -1,5 +1,5 @@
 -- The number of roots of a polynomial that is not zero is at most the place of its last coefficient that is not.
-use Rattle.std.proofs.Common.{◌≡◌, ℕ, zero, suc, ◌+◌, ◌<◌, ◌≤◌, ◌==◌, Bool, List, [], ◌∷◌, length, take, drop, slice_index, if◌then◌else◌, sym, ◌∙◌, ap, refl, subst, arith, ⊎_elim, eq-eqb, ne_eqb}
+use Rattle.std.proofs.Common.{◌≡◌, ◌⊎◌, inl, inr, ℕ, zero, suc, ◌+◌, ◌<◌, ◌≤◌, ◌==◌, Bool, List, [], ◌∷◌, length, take, drop, slice_index, if◌then◌else◌, sym, ◌∙◌, ap, refl, subst, arith, ⊎_elim, eq-eqb, ne_eqb}
 use Rattle.std.proofs.lemmas.Bool.{cases_eq, cases_lt}
 use Rattle.sc_definitions.specs.Ring.{Ops, IsRing, IsField, element, plus, times}
 use Rattle.sc_definitions.specs.Polynomials.{poly_at, AllZero, IsNoneOf, AreRoots}
@@ -93,6 +93,22 @@ module _ (o : Ops) (ring : IsRing o) where
   roots-take : (k : ℕ) (cs rs : List ℕ) → AllZero o (drop k cs) → AreRoots o cs rs → AreRoots o (take k cs) rs
   roots-take k cs [] h roots = tt
   roots-take k cs (r ∷ rs) h roots = (roots.0, poly_at-take k cs r h ∙ roots.1, roots.2, roots-take k cs rs h roots.3)
+
+-- ---- the degree
+
+all_or_last : (o : Ops) (cs : List ℕ) → AllZero o cs ⊎ ((p : ℕ) × IsLastPlace o cs p)
+all_or_last o [] = inl tt
+all_or_last o (c ∷ cs) = ⊎_elim
+    (λ zeros. ⊎_elim
+    (λ none. inl (none, zeros))
+    (λ some. inr (0, record { there = some; none_after = zeros }))
+    (cases_eq (element o c) 0))
+    (λ found. inr (suc found.0, record { there = found.1.there; none_after = found.1.none_after }))
+    (all_or_last o cs)
+
+-- a polynomial that is not zero has one
+pub last_place : (o : Ops) (cs : List ℕ) → (AllZero o cs → ⊥) → (p : ℕ) × IsLastPlace o cs p
+last_place o cs some = ⊎_elim (λ zeros. absurd (some zeros)) (λ found. found) (all_or_last o cs)
 
 module _ (o : Ops) (field : IsField o) where
   -- with k listed roots or more and no coefficient past the first k, a polynomial is zero

@@ -2,6 +2,7 @@ pub mod Ring
 pub mod Residues
 pub mod Sixteen
 pub mod Tables
+pub mod Offers
 pub mod Shifts
 pub mod Polynomials
 pub mod Interpolation
@@ -14,6 +15,7 @@ pub mod Quadratic
 pub mod Scripted
 pub mod Transcript
 pub mod Problem
+pub mod TwoTables
 pub mod Lucky
 pub mod Strategies
 pub mod Seeds

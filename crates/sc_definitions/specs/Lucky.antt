@@ -1,22 +1,25 @@
 -- Lucky challenges: where a false claim turned true, and what certifies it.
-use Rattle.std.specs.Prelude.{◌≡◌, ℕ, zero, suc, ◌+◌, ◌<◌, ◌==◌, List, [], ◌∷◌, ◌++◌, length, map, if◌then◌else◌, Option, Some, None, option_map}
+use Rattle.std.specs.Prelude.{◌≡◌, ℕ, zero, suc, ◌+◌, ◌≤◌, ◌==◌, List, [], ◌∷◌, ◌++◌, length, map, if◌then◌else◌, Option, Some, None, option_map}
 use Rattle.std.specs.List.{slice_get}
 use Rattle.sc_definitions.specs.Ring.{Ops, ◌-⟨◌⟩◌}
-use Rattle.sc_definitions.specs.Rounds.{true_claim, slow_round, sent_polynomial, next_claim}
+use Rattle.sc_definitions.specs.Rounds.{slow_round, sent_polynomial, next_claim}
 use Rattle.sc_definitions.specs.Polynomials.{poly_at, poly_minus, AllZero}
-use Rattle.sc_definitions.specs.Roots.{root_count}
+use Rattle.sc_definitions.specs.Roots.{root_count, IsLastPlace}
 use Rattle.sc_definitions.specs.Interpolation.{sent_through, next_through}
 use Rattle.sc_definitions.specs.Products.{product_claim, product_round}
 use Rattle.sc_definitions.specs.Statements.{Statement, true_value}
-use Rattle.sc_definitions.specs.Problem.{Problem, weights_of, claim_of}
+use Rattle.sc_definitions.specs.Problem.{Problem, claim_of}
+use Rattle.sc_definitions.specs.TwoTables.{TwoTables, tables_in, true_claim_on}
 
 -- What shows that r was lucky: a polynomial, by its coefficients, that is not zero and vanishes at r, and the number of elements at which it vanishes,
--- which is less than the number of its coefficients.
+-- which is at most its degree.
 pub record IsCertificate (o : Ops) (r : ℕ) (cs : List ℕ) (roots : ℕ) : Type 0 where
   pub not_zero : AllZero o cs → ⊥
   pub vanishes : poly_at o cs r ≡ 0
   pub count : roots ≡ root_count o cs
-  pub few : roots < length cs
+  pub degree : ℕ
+  pub last : IsLastPlace o cs degree
+  pub few : roots ≤ degree
 
 -- ---- the batching challenge
 
@@ -37,12 +40,12 @@ batch_polynomial o p = after_zeros p.initial (map (excess o p.variables p.table)
 
 -- the true claim of a problem after the challenges rs, with m variables left
 abbrev pub true_claim_of : Ops → Problem → List ℕ → ℕ → ℕ
-true_claim_of o p rs m = true_claim p.basis p.order o p.table (weights_of o p) rs m
+true_claim_of o p = true_claim_on o (tables_in o p)
 
 -- what a message sends under a claim, after the challenges rs and with m variables after the round's, less the true polynomial
-unfoldable pub round_excess : Ops → Problem → ℕ → List ℕ → List ℕ → ℕ → List ℕ
-round_excess o p claim message rs m =
-    poly_minus o (sent_polynomial p.basis o claim message) (slow_round p.basis p.order o p.table (weights_of o p) rs m)
+unfoldable pub round_excess : Ops → TwoTables → ℕ → List ℕ → List ℕ → ℕ → List ℕ
+round_excess o t claim message rs m =
+    poly_minus o (sent_polynomial t.basis o claim message) (slow_round t.basis t.order o t.table t.weights rs m)
 
 -- what values send under a claim of the product of tables, after the challenges rs and with m variables after the round's, less the true polynomial
 unfoldable pub product_excess : Ops → List (ℕ → ℕ) → ℕ → List ℕ → List ℕ → ℕ → List ℕ
@@ -55,9 +58,12 @@ pub record Course : Type 0 where
   pub true_after : List ℕ → ℕ → ℕ
   pub excess : ℕ → List ℕ → List ℕ → ℕ → List ℕ
 
--- those of a problem, and those of the product of tables
+-- those on two tables, those of a problem, and those of the product of tables
+abbrev pub course_on : Ops → TwoTables → Course
+course_on o t = record { next = next_claim t.basis o; true_after = true_claim_on o t; excess = round_excess o t }
+
 abbrev pub course_of : Ops → Problem → Course
-course_of o p = record { next = next_claim p.basis o; true_after = true_claim_of o p; excess = round_excess o p }
+course_of o p = course_on o (tables_in o p)
 
 abbrev pub product_course : Ops → List (ℕ → ℕ) → Course
 product_course o fs = record { next = next_through o; true_after = product_claim o fs; excess = product_excess o fs }

@@ -1,21 +1,27 @@
 -- What a prover on two tables shows, and where its rounds stand.
-use Rattle.std.specs.Prelude.{◌≡◌, ◌⊎◌, ℕ, ◌-◌, List, [], ◌∷◌, ◌++◌, map, Option, Some}
+use Rattle.std.specs.Prelude.{◌≡◌, ◌⊎◌, ℕ, ◌-◌, List, [], ◌∷◌, ◌++◌, map, Option, Some, None}
 use Rattle.sc_definitions.specs.declared.events.Event.{Event}
 use Rattle.sc_definitions.specs.Ring.{Ops, ◌+⟨◌⟩◌, ◌*⟨◌⟩◌}
-use Rattle.sc_definitions.specs.Tables.{evaluation, Order, rows_of, inner, bound_in}
+use Rattle.sc_definitions.specs.Tables.{Basis, Order, rows_of, inner, bound_in}
 use Rattle.sc_definitions.specs.Messages.{message_of}
 use Rattle.sc_definitions.specs.Rounds.{honest_pair, next_claim}
 use Rattle.sc_definitions.specs.Channels.{Channel, Wire}
 use Rattle.sc_definitions.specs.Standings.{Setting, Standing, half_rows, entries_of, IsPlayed}
 
--- What all that ask a prover see: which variable a round binds, how many variables are left, the entries of both tables with every challenge bound, and
--- the claim.
+-- What all that ask a prover see: what the entries of its tables are, which variable a round binds, how many variables are left, the entries of both
+-- tables with every challenge bound, and the claim.
 pub record Shown : Type 0 where
+  pub basis : Basis
   pub order : Order
   pub variables : ℕ
   pub evals : List ℕ
   pub weights : List ℕ
   pub claim : ℕ
+
+-- What the entries are and which variable a round binds stay.
+pub record KeepsForm (before after : Shown) : Type 0 where
+  pub basis : after.basis ≡ before.basis
+  pub order : after.order ≡ before.order
 
 -- the images of what is shown
 abbrev pub imaged : (ℕ → ℕ) → Shown → Shown
@@ -27,24 +33,29 @@ pub record Stored : Type 0 where
   pub weights : List ℕ
   pub held : Option ℕ
 
+-- where no challenge is held, the stored tables are those that are shown
+abbrev pub settled_as : Shown → Stored
+settled_as s = record { evals = s.evals; weights = s.weights; held = None }
+
 -- ---- one round
 
 -- the message of its tables
 abbrev pub message_shown : Ops → Shown → List ℕ
-message_shown o s = message_of evaluation s.order o (half_rows s.variables) (rows_of s.evals) (rows_of s.weights)
+message_shown o s = message_of s.basis s.order o (half_rows s.variables) (rows_of s.evals) (rows_of s.weights)
 
 -- what an honest first round on them sends
 abbrev pub honest_shown : Ops → Shown → List ℕ
-honest_shown o s = honest_pair evaluation s.order o (rows_of s.evals) (rows_of s.weights) [] (s.variables - 1)
+honest_shown o s = honest_pair s.basis s.order o (rows_of s.evals) (rows_of s.weights) [] (s.variables - 1)
 
 -- The same with the next variable bound at r, and the claim moved to what the message sends there.
 abbrev pub with_bound : Ops → Shown → ℕ → Shown
 with_bound o s r = record {
+  basis = s.basis;
   order = s.order;
   variables = s.variables - 1;
-  evals = entries_of (s.variables - 1) (bound_in evaluation s.order o (s.variables - 1) r (rows_of s.evals));
-  weights = entries_of (s.variables - 1) (bound_in evaluation s.order o (s.variables - 1) r (rows_of s.weights));
-  claim = next_claim evaluation o s.claim (message_shown o s) r;
+  evals = entries_of (s.variables - 1) (bound_in s.basis s.order o (s.variables - 1) r (rows_of s.evals));
+  weights = entries_of (s.variables - 1) (bound_in s.basis s.order o (s.variables - 1) r (rows_of s.weights));
+  claim = next_claim s.basis o s.claim (message_shown o s) r;
 }
 
 -- The last of the challenges rs is held, and the stored tables have all others bound.
@@ -58,9 +69,9 @@ pub record HoldsLast (s : Setting) (start : Standing) (rs : List ℕ) (stored : 
   pub evals : stored.evals ≡ before.evals
   pub weights : stored.weights ≡ before.weights
 
--- so it is where there is a challenge
-abbrev pub HoldsIfAny : Setting → Standing → List ℕ → Stored → Type 0
-HoldsIfAny s start rs stored = (rs ≡ []) ⊎ HoldsLast s start rs stored
+-- so it is where there is a challenge; where there is none, what was kept before is kept
+abbrev pub HoldsIfAny : Setting → Standing → Stored → List ℕ → Stored → Type 0
+HoldsIfAny s start before rs stored = ((rs ≡ []) × (stored ≡ before)) ⊎ HoldsLast s start rs stored
 
 -- ---- claims
 
@@ -91,7 +102,7 @@ with_scaled o s scale = record s {
 
 -- what stays, over a channel
 abbrev pub setting_at : Channel → Ops → Shown → Setting
-setting_at c o s = record { channel = c; ops = o; basis = evaluation; order = s.order }
+setting_at c o s = record { channel = c; ops = o; basis = s.basis; order = s.order }
 
 -- what moves, at a history and with so much on the wire
 abbrev pub standing_at : Shown → List Event → Wire → Standing

@@ -1,11 +1,10 @@
--- Strategies against the verifier, and how many lists of challenges let a claim through.
-use Rattle.std.specs.Prelude.{◌≢◌, ℕ, zero, suc, ◌*◌, ◌-◌, ◌/◌, ◌%◌, ◌^◌, ◌≤◌, ◌==◌, Bool, List, [], ◌∷◌, ◌++◌, bytes_eq, if◌then◌else◌}
-use Rattle.sc_definitions.specs.Ring.{Ops, element, ◌*⟨◌⟩◌}
+-- Strategies against the verifier, and how many lists of challenges they accept.
+use Rattle.std.specs.Prelude.{◌≡◌, ◌≢◌, ℕ, zero, suc, ◌+◌, ◌*◌, ◌-◌, ◌/◌, ◌%◌, ◌^◌, ◌<◌, ◌≤◌, ◌==◌, Bool, List, [], ◌∷◌, ◌++◌, All, length, bytes_eq, if◌then◌else◌}
+use Rattle.sc_definitions.specs.Ring.{Ops, element}
 use Rattle.sc_definitions.specs.Tables.{IsOffered}
 use Rattle.sc_definitions.specs.Rounds.{next_claim, claim_along}
 use Rattle.sc_definitions.specs.Roots.{count_below}
-use Rattle.sc_definitions.specs.Problem.{Problem, eval_of, weight_value_of}
-use Rattle.sc_definitions.specs.Lucky.{true_claim_of}
+use Rattle.sc_definitions.specs.TwoTables.{TwoTables, true_claim_on, end_of}
 
 -- The two values that a strategy holds for the challenges drawn so far.
 pub record Held : Type 0 where
@@ -23,21 +22,45 @@ abbrev pub messages_against : List Held → List ℕ → List ℕ → List (List
 messages_against s before [] = []
 messages_against s before (r ∷ rs) = answer s before ∷ messages_against s (before ++ r ∷ []) rs
 
--- whether these challenges let a claim through: what the rounds leave of it is the product of the table's and the weights' values at them
-unfoldable pub lets_through : Ops → Problem → List Held → ℕ → List ℕ → Bool
-lets_through o p s claim rs =
-    claim_along (next_claim p.basis o) claim (messages_against s [] rs) rs == eval_of o p rs *⟨ o ⟩ weight_value_of o p rs
+-- the claim that it makes of one at a challenge, after those drawn so far
+abbrev pub next_against : Ops → TwoTables → List Held → List ℕ → ℕ → ℕ → ℕ
+next_against o t s rs claim x = next_claim t.basis o claim (answer s rs) x
+
+-- Whether it accepts these challenges from a claim on: the claims that it makes along them end in the product of both tables' values there.
+unfoldable pub accepts : Ops → TwoTables → List Held → ℕ → List ℕ → Bool
+accepts o t s claim rs = claim_along (next_claim t.basis o) claim (messages_against s [] rs) rs == end_of o t rs
+
+-- the sum of f k for k below n
+unfoldable pub sum_of_counts : ℕ → (ℕ → ℕ) → ℕ
+sum_of_counts zero f = 0
+sum_of_counts (suc n) f = sum_of_counts n f + f n
+
+-- Its count after the challenges rs and at a claim, with m challenges to come: 1 or 0 at the end, and before it the sum over all elements.
+unfoldable pub accepted : Ops → TwoTables → List Held → ℕ → List ℕ → ℕ → ℕ
+accepted o t s zero rs claim = if claim == end_of o t rs then 1 else 0
+accepted o t s (suc m) rs claim = sum_of_counts o.size (λ x. accepted o t s m (rs ++ x ∷ []) (next_against o t s rs claim x))
 
 -- list number k of m challenges below q, of which the first is the highest digit of k
 unfoldable pub challenges_at : ℕ → ℕ → ℕ → List ℕ
 challenges_at q zero k = []
 challenges_at q (suc m) k = k / q ^ m ∷ challenges_at q m (k % q ^ m)
 
--- how many of the lists of a problem's challenges let a claim through
-unfoldable pub lists_through : Ops → Problem → List Held → ℕ → ℕ
-lists_through o p s claim = count_below (o.size ^ p.variables) (λ k. lets_through o p s claim (challenges_at o.size p.variables k))
+-- From a false claim on at most 2 n q^(n - 1) lists of n challenges are accepted, whatever the strategy.
+abbrev pub FewAccepted : Ops → Type 0
+FewAccepted o = (t : TwoTables) (n : ℕ) (s : List Held) (claim : ℕ) → IsOffered t.basis t.order → 1 ≤ n →
+    element o claim ≢ true_claim_on o t [] n → accepted o t s n [] claim ≤ 2 * n * o.size ^ (n - 1)
 
--- A false claim is let through by at most 2 n q^(n - 1) of the q^n lists of n challenges, whatever the strategy.
-abbrev pub FewLetThrough : Ops → Type 0
-FewLetThrough o = (p : Problem) (s : List Held) (claim : ℕ) → IsOffered p.basis p.order → 1 ≤ p.variables →
-    element o claim ≢ true_claim_of o p [] p.variables → lists_through o p s claim ≤ 2 * p.variables * o.size ^ (p.variables - 1)
+-- The count at no challenge is that of the lists which are accepted, of the q^n lists that have numbers.
+abbrev pub CountsLists : Ops → Type 0
+CountsLists o = (t : TwoTables) (n : ℕ) (s : List Held) (claim : ℕ) →
+    accepted o t s n [] claim ≡ count_below (o.size ^ n) (λ k. accepts o t s claim (challenges_at o.size n k))
+
+-- Each list of n numbers below q is the one with exactly one of these numbers.
+pub record HasNumber (q n : ℕ) (rs : List ℕ) : Type 0 where
+  pub number : ℕ
+  pub low : number < q ^ n
+  pub is : challenges_at q n number ≡ rs
+  pub only : (k : ℕ) → k < q ^ n → challenges_at q n k ≡ rs → k ≡ number
+
+abbrev pub ListsHaveNumbers : Ops → Type 0
+ListsHaveNumbers o = (n : ℕ) (rs : List ℕ) → length rs ≡ n → All (λ r. r < o.size) rs → HasNumber o.size n rs

@@ -2,7 +2,7 @@
 ghost use Rattle.std.specs.Prelude.{◌≡◌, ◌<◌, ◌≤◌, ◌^◌};
 ghost use Rattle.sc_definitions.specs.Ring.{IsField};
 ghost use Rattle.sc_field.specs.Laws.{SumsSplit, SumsAdd, SumsExchange, FactorMovesIn, PowerOfNone};
-ghost use Rattle.sc_field.specs.Laws.{PowersSplit, PowerOfProduct, ItemsArePowers};
+ghost use Rattle.sc_field.specs.Laws.{PowersSplit, PowerOfProduct, ItemsArePowers, ValuesAreSums};
 ghost use Rattle.sc_field.specs.Laws.{InterpolationIsUnique, RootsAreFew};
 
 use crate::field::Field;
@@ -24,12 +24,14 @@ pub fn sum_laws<F: Field>()
     ensures factor { FactorMovesIn F.ops }
 {}
 
-/// Laws of powers, and what an iterator of powers gives.
+/// Laws of powers, what an iterator of powers gives, and that the value of a polynomial is the sum of
+/// its coefficients times powers.
 pub fn power_laws<F: Field>()
     ensures none { PowerOfNone F.ops }
     ensures split { PowersSplit F.ops }
     ensures product { PowerOfProduct F.ops }
     ensures items { ItemsArePowers F.ops F.number }
+    ensures values { ValuesAreSums F.ops }
 {}
 
 /// A polynomial of degree at most d is determined by its values at d + 1 different nodes.
