@@ -1,11 +1,12 @@
 -- Messages by blocks of rows.
-use Rattle.std.proofs.Common.{◌≡◌, ℕ, ◌+◌, ◌*◌, ◌<◌, get_or, sym, ◌∙◌, ap}
-use Rattle.sc_definitions.specs.Ring.{Ops, IsRing, plus}
-use Rattle.sc_definitions.specs.Tables.{Basis, evaluation, Order, prefix, suffix}
+use Rattle.std.proofs.Common.{◌≡◌, ℕ, ◌+◌, ◌*◌, ◌<◌, get_or, [], ◌∷◌, sym, ◌∙◌, ap, refl}
+use Rattle.sc_definitions.specs.Ring.{Ops, IsRing, plus, times}
+use Rattle.sc_definitions.specs.Tables.{Basis, evaluation, projective, Order, prefix, suffix, sum_below}
 use Rattle.sc_definitions.specs.Messages.{low_entry, high_entry, first_term, leading_term, message_first, message_leading}
 use Rattle.sc_definitions.proofs.LoopLaws.{IsMessageSoFar}
 use Rattle.sc_definitions.proofs.PlayedLaws.{message-same}
-use Rattle.sc_definitions.proofs.Sums.{sum-same, sum-split}
+use Rattle.sc_definitions.proofs.Sums.{sum-same, sum-split, sum-plus}
+use Rattle.sc_definitions.proofs.Identity.{atom, ◌⊕◌, ◌⊗◌, Agree, identity}
 use Rattle.sc_field.specs.Products.{products, differences, even_rows, odd_rows}
 use Rattle.sc_table.specs.Blocks.{sum_from}
 pub use Rattle.sc_field.proofs.EntryLaws.{part-entry, part-length}
@@ -32,6 +33,27 @@ module _ (o : Ops) (size n half from : ℕ) (whole : size ≡ n) (f w : ℕ → 
   halves-leading f0 f1 w0 w1 f0_is f1_is w0_is w1_is =
       ap (λ k. products o k (differences o f0 f1) (differences o w0 w1)) whole
       ∙ sum-same o n _ _ (λ k low. let a = f0_is k low in let b = f1_is k low in let c = w0_is k low in let d = w1_is k low in cc (a, b, c, d))
+
+  -- the products of a block of both halves of coefficients, each with each: their values at 1
+  pub coefficients-first : IsRing o → (f0 f1 w0 w1 : ℕ → ℕ) → ((k : ℕ) → k < n → f0 k ≡ f (from + k)) → ((k : ℕ) → k < n → f1 k ≡ f (half + (from + k))) →
+      ((k : ℕ) → k < n → w0 k ≡ w (from + k)) → ((k : ℕ) → k < n → w1 k ≡ w (half + (from + k))) →
+      plus o (plus o (products o n f0 w0) (products o n f1 w1)) (plus o (products o n f0 w1) (products o n f1 w0)) ≡ sum_from o from n (first_term projective prefix o half f w)
+  unfolding products sum_from first_term low_entry high_entry Agree
+  coefficients-first ring f0 f1 w0 w1 f0_is f1_is w0_is w1_is =
+      let A = atom 0 in let B = atom 1 in let C = atom 2 in let D = atom 3 in
+      let straight : ℕ → ℕ = λ k. plus o (times o (f0 k) (w0 k)) (times o (f1 k) (w1 k)) in
+      let crossed : ℕ → ℕ = λ k. plus o (times o (f0 k) (w1 k)) (times o (f1 k) (w0 k)) in
+      ap (λ s. plus o s (plus o (products o n f0 w1) (products o n f1 w0))) (sum-plus o ring n (λ k. times o (f0 k) (w0 k)) (λ k. times o (f1 k) (w1 k)))
+      ∙ ap (plus o (sum_below o n straight)) (sum-plus o ring n (λ k. times o (f0 k) (w1 k)) (λ k. times o (f1 k) (w0 k)))
+      ∙ sum-plus o ring n straight crossed
+      ∙ sum-same o n _ _ (λ k low.
+      identity o ring (f0 k ∷ f1 k ∷ w0 k ∷ w1 k ∷ []) ((A ⊗ C ⊕ B ⊗ D) ⊕ (A ⊗ D ⊕ B ⊗ C)) ((A ⊕ B) ⊗ (C ⊕ D)) tt tt refl
+      ∙ (let a = f0_is k low in let b = f1_is k low in let c = w0_is k low in let d = w1_is k low in cc (a, b, c, d)))
+
+  pub coefficients-leading : (f1 w1 : ℕ → ℕ) → ((k : ℕ) → k < n → f1 k ≡ f (half + (from + k))) → ((k : ℕ) → k < n → w1 k ≡ w (half + (from + k))) →
+      products o n f1 w1 ≡ sum_from o from n (leading_term projective prefix o half f w)
+  unfolding products sum_from leading_term high_entry
+  coefficients-leading f1 w1 f_is w_is = sum-same o n _ _ (λ k low. let a = f_is k low in let b = w_is k low in cc (a, b))
 
   -- the products of a block of the even rows
   pub pairs-first : (f' w' : ℕ → ℕ) → ((k : ℕ) → k < n → f' (2 * k) ≡ f (2 * (from + k))) → ((k : ℕ) → k < n → w' (2 * k) ≡ w (2 * (from + k))) →

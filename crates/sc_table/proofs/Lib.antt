@@ -6,6 +6,7 @@ pub mod SelectLaws
 pub mod PowerLaws
 pub mod FoldLaws
 pub mod EvalLaws
+pub mod CoefficientLaws
 pub mod EqualitySteps
 pub mod BlockWeights
 pub mod WeightLaws

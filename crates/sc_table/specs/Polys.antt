@@ -2,7 +2,7 @@
 use Rattle.std.specs.Prelude.{◌≡◌, ℕ, ◌+◌, ◌^◌, ◌<◌, List, [], ◌∷◌, length}
 use Rattle.std.specs.Vec.{with_items}
 use Rattle.sc_definitions.specs.Ring.{Ops}
-use Rattle.sc_definitions.specs.Tables.{evaluation, Order, entries, value, placed, bound_in}
+use Rattle.sc_definitions.specs.Tables.{Basis, evaluation, Order, entries, value_in, placed, bound_in}
 use Rattle.sc_table.specs.declared.poly.Poly.{Poly}
 
 -- the most variables that a table can be made with: 2^40 values of two words each still fit in the addresses there are
@@ -21,11 +21,17 @@ table_of number p = entries number p.evals.items
 abbrev pub with_values : {A : Type 0} → Poly A → List A → Poly A
 with_values p values = record { evals = with_items p.evals values; variables = p.variables; sized = p.sized }
 
--- What `fix_var` does at r: there is one variable less, each row is bound, and the value at the other coordinates is the old one with r placed.
-pub record IsFixed {A : Type 0} (order : Order) (o : Ops) (number : A → ℕ) (r : ℕ) (old new : Poly A) : Type 0 where
+-- What `fix_var` does at r, of a table in a basis: there is one variable less, each row is bound, and the value at the other coordinates is the old one
+-- with r placed.
+pub record IsFixedIn {A : Type 0} (basis : Basis) (order : Order) (o : Ops) (number : A → ℕ) (r : ℕ) (old new : Poly A) : Type 0 where
   pub fewer : variables_of old ≡ variables_of new + 1
-  pub rows : (b : ℕ) → b < 2 ^ variables_of new → table_of number new b ≡ bound_in evaluation order o (variables_of new) r (table_of number old) b
-  pub values : (zs : List ℕ) → length zs ≡ variables_of new → value o (table_of number new) zs ≡ value o (table_of number old) (placed order (r ∷ []) zs)
+  pub rows : (b : ℕ) → b < 2 ^ variables_of new → table_of number new b ≡ bound_in basis order o (variables_of new) r (table_of number old) b
+  pub values : (zs : List ℕ) → length zs ≡ variables_of new →
+      value_in basis o (table_of number new) zs ≡ value_in basis o (table_of number old) (placed order (r ∷ []) zs)
+
+-- of a table of values
+abbrev pub IsFixed : {A : Type 0} → Order → Ops → (A → ℕ) → ℕ → Poly A → Poly A → Type 0
+IsFixed order o number r old new = IsFixedIn evaluation order o number r old new
 
 -- What `fix_var_slice` does at r, of a table f of so many rows: p has one variable less, and each of its rows is bound.
 pub record IsFixedOf {A : Type 0} (order : Order) (o : Ops) (number : A → ℕ) (r : ℕ) (f : ℕ → ℕ) (rows : ℕ) (p : Poly A) : Type 0 where

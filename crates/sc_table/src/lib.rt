@@ -1,8 +1,9 @@
-//! Tables of a field's elements, their values at points, and what a round of the sumcheck protocol sends
-//! and how it binds them.
+//! Tables of a field's elements, their values at points, and what a round of the sumcheck protocol
+//! sends and how it binds them.
 //!
-//! A table of n variables has 2^n entries. Coordinate 1 of a point belongs to the highest bit of a row,
-//! and coordinate n to the lowest. Contracts speak of elements by their numbers, as `sc_field` gives them.
+//! A table of n variables has 2^n entries. Coordinate 1 of a point belongs to the highest bit of a
+//! row, and coordinate n to the lowest. Contracts speak of elements by their numbers, as `sc_field`
+//! gives them.
 #![tactic(auto)]
 
 mod blocks;
@@ -11,6 +12,7 @@ mod lagrange;
 mod laws;
 mod point;
 mod poly;
+mod projective;
 mod slices;
 mod split_eq;
 mod strategy;
@@ -24,6 +26,7 @@ pub use lagrange::{extrapolate_01inf, lagrange_weights_01inf, lagrange_weights_0
 pub use laws::strategy_laws;
 pub use point::Point;
 pub use poly::Poly;
+pub use projective::{eval_slice_projective, fix_prefix_var_slice_projective};
 pub use sc_memory::Row;
 pub use slices::{fix_prefix_var_slice, fix_suffix_var_slice};
 pub use split_eq::SplitEq;

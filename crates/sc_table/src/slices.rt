@@ -30,8 +30,8 @@ pub fn fix_prefix_var_slice<B: Field, A: Algebra<B>>(
     Ok(Poly::new(values))
 }
 
-/// The same where the last variable is bound: each value is lo + (hi - lo) r over neighbours, rows
-/// 2b and 2b + 1.
+/// A table with its last variable bound, in memory of its own: each value is lo + (hi - lo) r over
+/// neighbours, rows 2b and 2b + 1.
 pub fn fix_suffix_var_slice<B: Field, A: Algebra<B>>(
     alloc: Global,
     evals: &[B],

@@ -126,7 +126,8 @@ impl<F, EF: Field> SplitEq<F, EF> {
         self.prefix_sums(alloc, poly, 0)
     }
 
-    /// The same over its last variables.
+    /// The table of values `poly` summed over its last variables, as many as the point has, under
+    /// the weights. It has as many values as a power of two, and no fewer than there are weights.
     pub fn compress_suffix<A: Field>(&self, alloc: Global, poly: &[A]) -> Result<Poly<EF>, NoMemory>
     where
         EF: Algebra<A>,
@@ -141,8 +142,8 @@ impl<F, EF: Field> SplitEq<F, EF> {
         self.suffix_sums(alloc, poly, 0)
     }
 
-    /// As [`SplitEq::compress_prefix`], under the weights moved up by one row: row 0 has the weight
-    /// zero, and row b that of row b - 1.
+    /// The table that [`SplitEq::compress_prefix`] makes, under the weights moved up by one row:
+    /// row 0 has the weight zero, and row b that of row b - 1.
     pub fn compress_prefix_shifted<A: Field>(
         &self,
         alloc: Global,
@@ -161,8 +162,8 @@ impl<F, EF: Field> SplitEq<F, EF> {
         self.prefix_sums(alloc, poly, 1)
     }
 
-    /// As [`SplitEq::compress_suffix`], under the weights moved up by one row: row 0 has the weight
-    /// zero, and row b that of row b - 1.
+    /// The table that [`SplitEq::compress_suffix`] makes, under the weights moved up by one row:
+    /// row 0 has the weight zero, and row b that of row b - 1.
     pub fn compress_suffix_shifted<A: Field>(
         &self,
         alloc: Global,

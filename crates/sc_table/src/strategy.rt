@@ -101,19 +101,38 @@ impl<A: Field> RoundMessage<A> {
         }
     }
 
-    // The message with the share of one place more, at which the two tables have the coefficients e0
-    // and w0 without the round's variable, and e1 and w1 with it.
-    fn with_coefficients<B: Field>(self, e0: B, e1: B, w0: A, w1: A) -> Self
+    // The message with the shares of `rows` places more, from place `from` on, of a round that binds
+    // the first variable of two tables of coefficients, of which each half has `half` rows.
+    fn with_coefficient_halves<B: Field>(
+        self,
+        evals: &[B],
+        weights: &[A],
+        half: usize,
+        from: usize,
+        rows: usize,
+    ) -> Self
     where
         A: Algebra<B>,
+        requires within { from + rows ≤ half }
+        requires evals { half + half ≤ length evals.now }
+        requires weights { half + half ≤ length weights.now }
+        requires few { rows ≤ 512 }
         ensures first { A.number result.c_a
-            ≡ A.number self.c_a +⟨ A.ops ⟩ (A.embedding (B.number e0) +⟨ A.ops ⟩ A.embedding (B.number e1)) *⟨ A.ops ⟩ (A.number w0 +⟨ A.ops ⟩ A.number w1) }
+            ≡ A.number self.c_a +⟨ A.ops ⟩ sum_from A.ops from rows (first_term projective prefix A.ops half
+            (entries (λ x. A.embedding (B.number x)) evals.now) (entries A.number weights.now)) }
         ensures leading { A.number result.c_inf
-            ≡ A.number self.c_inf +⟨ A.ops ⟩ A.embedding (B.number e1) *⟨ A.ops ⟩ A.number w1 }
+            ≡ A.number self.c_inf +⟨ A.ops ⟩ sum_from A.ops from rows (leading_term projective prefix A.ops half
+            (entries (λ x. A.embedding (B.number x)) evals.now) (entries A.number weights.now)) }
     {
+        let high = half + from;
+        let (e0, e1) = (&evals[from..from + rows], &evals[high..high + rows]);
+        let (w0, w1) = (&weights[from..from + rows], &weights[high..high + rows]);
+        let leading = A::dot_base(e1, w1);
+        let straight = A::dot_base(e0, w0).add(leading);
+        let crossed = A::dot_base(e0, w1).add(A::dot_base(e1, w0));
         RoundMessage {
-            c_a: self.c_a.add(w0.add(w1).mul_base(e0.add(e1))),
-            c_inf: self.c_inf.add(w1.mul_base(e1)),
+            c_a: self.c_a.add(straight.add(crossed)),
+            c_inf: self.c_inf.add(leading),
         }
     }
 }
@@ -206,13 +225,11 @@ pub fn sumcheck_coefficients_prefix_projective<B: Field, A: Algebra<B>>(
 {
     let half = evals.len() / 2;
     let mut message = RoundMessage::zero();
-    for i in 0..half {
-        message = message.with_coefficients(
-            evals[i],
-            evals[half + i],
-            weights[i],
-            weights[half + i],
-        );
+    let mut from = 0;
+    while from < half {
+        let rows = (half - from).min(BLOCK);
+        message = message.with_coefficient_halves(evals, weights, half, from, rows);
+        from += rows;
     }
     message
 }

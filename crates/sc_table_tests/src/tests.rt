@@ -3,6 +3,7 @@
 ghost use Rattle.std.specs.Prelude.{◌≡◌, suc, ◌^◌, length, IfOk};
 
 mod kernels;
+mod projective;
 mod split_eq;
 
 use sc_field::{Algebra, Field, NoMemory};
