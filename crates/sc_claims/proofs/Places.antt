@@ -1,7 +1,7 @@
 -- The statement at a place of a list.
 use Rattle.std.proofs.Common.{◌≡◌, ℕ, zero, suc, ◌+◌, ◌<◌, List, [], ◌∷◌, ◌++◌, length, map, take, drop, slice_index, sym, ◌∙◌, ap, refl, arith}
 use Rattle.sc_definitions.specs.Ring.{Ops}
-use Rattle.sc_definitions.specs.Tables.{value}
+use Rattle.sc_definitions.specs.Tables.{Basis, value_in}
 use Rattle.sc_definitions.specs.Statements.{Statement, weight_of}
 use Rattle.sc_claims.specs.Lists.{IsAt}
 use Rattle.sc_claims.specs.Weights.{weight_values, weights_from}
@@ -40,10 +40,10 @@ place-inside (t ∷ ss) zero s at = omega arith
 place-inside (t ∷ ss) (suc i) s at = omega (arith, place-inside ss i s at)
 
 -- the weights from a place on
-pub weights-first : (o : Ops) (row : List ℕ) (ss : List Statement) (i : ℕ) (weight : ℕ) → i < length ss → weight ≡ slice_index (weight_values o row ss) i → weights_from o row ss i ≡ weight ∷ weights_from o row ss (i + 1)
-weights-first o row ss i weight low is =
+pub weights-first : (basis : Basis) (o : Ops) (row : List ℕ) (ss : List Statement) (i : ℕ) (weight : ℕ) → i < length ss → weight ≡ slice_index (weight_values basis o row ss) i → weights_from basis o row ss i ≡ weight ∷ weights_from basis o row ss (i + 1)
+weights-first basis o row ss i weight low is =
     let there = at-place ss i low in
-    let one : Statement → ℕ = λ s. value o (weight_of o s.kind) row in
+    let one : Statement → ℕ = λ s. value_in basis o (weight_of o s.kind) row in
     ap (map one) (left-at ss i there.0 there.1) ∙ ap (λ w. w ∷ map one (drop (i + 1) ss)) (sym (is ∙ read-at one ss i there.0 there.1))
 
 -- what is left after the first is shorter

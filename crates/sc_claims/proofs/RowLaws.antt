@@ -4,7 +4,7 @@ use Rattle.std.proofs.Math.Nat.{add-mul, mul_assoc, add_assoc, mod-eq_of_lt, add
 use Rattle.std.proofs.lemmas.Bool.{cases_lt}
 use Rattle.std.specs.Int.Digits.{number_from_digits_after}
 use Rattle.sc_definitions.specs.Ring.{Ops, IsRing, element}
-use Rattle.sc_definitions.specs.Tables.{prefix, suffix, digits, monomial, value, bound}
+use Rattle.sc_definitions.specs.Tables.{evaluation, prefix, suffix, digits, monomial, value, bound}
 use Rattle.sc_definitions.specs.Statements.{Kind, equality, successor, powers, products, Statement, slot_weight, weight_of, weights_at, batched_weight}
 use Rattle.sc_definitions.proofs.RingLaws.{element-one, element-times}
 use Rattle.sc_definitions.proofs.Power.{element-power}
@@ -120,7 +120,7 @@ module _ (o : Ops) (ring : IsRing o) where
   batch-row c p ss xs row = value-row (batched_weight o c p ss) xs row ∙ element-powers_sum o ring c p (weights_at o ss (row_number xs))
 
   -- the weights of one statement after the other
-  pub weights-row : (xs : List ℕ) (ss : List Statement) → IsRow xs → weight_values o xs ss ≡ weights_at o ss (row_number xs)
+  pub weights-row : (xs : List ℕ) (ss : List Statement) → IsRow xs → weight_values evaluation o xs ss ≡ weights_at o ss (row_number xs)
   weights-row xs [] row = refl
   weights-row xs (s ∷ ss) row =
-      ap (λ w. w ∷ weight_values o xs ss) (weight-row s.kind xs row) ∙ ap (λ ws. weight_of o s.kind (row_number xs) ∷ ws) (weights-row xs ss row)
+      ap (λ w. w ∷ weight_values evaluation o xs ss) (weight-row s.kind xs row) ∙ ap (λ ws. weight_of o s.kind (row_number xs) ∷ ws) (weights-row xs ss row)

@@ -2,10 +2,11 @@
 
 ghost use Rattle.std.specs.Prelude.{◌≡◌, ℕ, ◌+◌, ◌++◌, ◌^◌, ◌<◌, ◌↔◌, List, length, map, slice_index, IsTrue, OnErr, OnOk};
 ghost use Rattle.sc_definitions.specs.Ring.{power, ◌+⟨◌⟩◌, ◌*⟨◌⟩◌};
-ghost use Rattle.sc_definitions.specs.Tables.{entries, value};
+ghost use Rattle.sc_definitions.specs.Tables.{entries, value_in};
 ghost use Rattle.sc_definitions.specs.Statements.{Statement, AllTrueOf, first_false_claim, true_values, claimed_values, weights_at, batched_weight, batched_claim};
 ghost use Rattle.sc_definitions.specs.Lucky.{excess};
 ghost use Rattle.sc_table.specs.Polys.{variables_of, table_of};
+ghost use Rattle.sc_table.specs.Strategy.{basis_of};
 ghost use Rattle.sc_claims.specs.Batches.{gathered, AddsBatch};
 ghost use Rattle.sc_claims.specs.Weights.{weight_values};
 ghost use Rattle.sc_claims.specs.Claimed.{with_value, with_values, all_stated_truly};
@@ -13,7 +14,7 @@ ghost use Rattle.sc_claims.specs.Gains.{GainsFirst};
 
 use sc_definitions::FalseClaim;
 use sc_field::{Algebra, Field, NoMemory};
-use sc_table::{Point, Poly};
+use sc_table::{Basis, Point, Poly};
 
 /// Statements of one kind on tables of one number of variables, in order, each by its number from 0 on.
 pub trait StatementList<EF: Field>: Drop {
@@ -57,11 +58,13 @@ pub trait StatementList<EF: Field>: Drop {
         ensures table { (b : ℕ) → b < 2 ^ arity self.now → table_of EF.number table.new b
             ≡ table_of EF.number table.old b +⟨ EF.ops ⟩ EF.number scale *⟨ EF.ops ⟩ slice_index (weights_at EF.ops (statements self.now) b) index };
 
-    /// The value at a point of a statement's weights, as a table. The point has as many coordinates as the tables have variables.
-    fn weight_at(&self, index: usize, row: &Point<EF>) -> EF
+    /// The value at a point of a statement's weights, as a table in this basis. The point has as many
+    /// coordinates as the tables have variables.
+    fn weight_at(&self, index: usize, basis: Basis, row: &Point<EF>) -> EF
         requires index { index < length (statements self.now) }
         requires arity { length row.now ≡ arity self.now }
-        ensures { EF.number result ≡ slice_index (weight_values EF.ops (map EF.number row.now) (statements self.now)) index };
+        ensures { EF.number result ≡ slice_index (weight_values (basis_of basis) EF.ops
+            (map EF.number row.now) (statements self.now)) index };
 }
 
 /// The first statement that is false of a table, numbered from 0 on, if one is. `rows` are the
@@ -175,8 +178,8 @@ pub fn add_values<EF: Field, S: StatementList<EF>>(
     coefficient
 }
 
-/// As [`add_values`], and the weights are added, with the same factors, to the rows of a table, which
-/// has as many variables as the statements say.
+/// Adds the claimed values to the sum, as [`add_values`] does, and the weights, with the same factors,
+/// to the rows of a table, which has as many variables as the statements say.
 pub fn add_batch<EF: Field, S: StatementList<EF>>(
     statements: &S,
     weights: &mut Poly<EF>,
@@ -200,11 +203,12 @@ pub fn add_batch<EF: Field, S: StatementList<EF>>(
     add_values(statements, sum, challenge, first)
 }
 
-/// As [`add_values`], of the values at `row` of the statements' weights, as tables, in place of the
-/// claimed ones. `row` has as many coordinates as the tables have variables.
+/// Adds to the sum the values at `row` of the statements' weights, as tables in this basis, with the
+/// factors and the answer of [`add_values`]. `row` has as many coordinates as the tables have variables.
 pub fn add_weights_at<EF: Field, S: StatementList<EF>>(
     statements: &S,
     sum: &mut EF,
+    basis: Basis,
     row: &Point<EF>,
     challenge: EF,
     first: EF,
@@ -212,13 +216,14 @@ pub fn add_weights_at<EF: Field, S: StatementList<EF>>(
     requires { length row.now ≡ S.arity statements.now }
     ensures added { (p : ℕ) → EF.number first ≡ power EF.ops (EF.number challenge) p →
         EF.number sum.new ≡ EF.number sum.old
-        +⟨ EF.ops ⟩ value EF.ops (batched_weight EF.ops (EF.number challenge) p (S.statements statements.now)) (map EF.number row.now) }
+        +⟨ EF.ops ⟩ value_in (basis_of basis) EF.ops (batched_weight EF.ops (EF.number challenge) p
+        (S.statements statements.now)) (map EF.number row.now) }
     ensures next { (p : ℕ) → EF.number first ≡ power EF.ops (EF.number challenge) p →
         EF.number result ≡ power EF.ops (EF.number challenge) (p + length (S.statements statements.now)) }
 {
     let mut coefficient = first;
     for i in 0..statements.count() {
-        *sum = sum.add(coefficient.mul(statements.weight_at(i, row)));
+        *sum = sum.add(coefficient.mul(statements.weight_at(i, basis, row)));
         coefficient = coefficient.mul(challenge);
     }
     coefficient

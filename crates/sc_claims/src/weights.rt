@@ -2,11 +2,12 @@
 
 ghost use Rattle.std.specs.Prelude.{◌≡◌, ℕ, ◌^◌, ◌<◌, ◌≤◌, length, map};
 ghost use Rattle.std.specs.Iterator.{YieldsFirstBy, item_count};
+ghost use Rattle.sc_definitions.specs.Tables.{evaluation};
 ghost use Rattle.sc_table.specs.Polys.{variables_of, table_of};
 
 use crate::list::StatementList;
 use sc_field::Field;
-use sc_table::{Point, Poly};
+use sc_table::{Basis, Point, Poly};
 use std::marker::PhantomData;
 
 /// The values at a point of the statements' weights, as tables, one for each statement, in order.
@@ -26,7 +27,7 @@ impl<'a, S: StatementList<EF>, EF: Field> Weights<'a, S, EF> {
     // From the first statement on.
     pub(crate) fn new(statements: &'a S, row: &'a Point<EF>) -> Self
         requires { length row.now ≡ S.arity statements.now }
-        ensures { weights_from EF.ops (map EF.number result.row.now) (S.statements result.statements.now) result.index ≡ weight_values EF.ops (map EF.number row.now) (S.statements statements.now) }
+        ensures { weights_from evaluation EF.ops (map EF.number result.row.now) (S.statements result.statements.now) result.index ≡ weight_values evaluation EF.ops (map EF.number row.now) (S.statements statements.now) }
     {
         Weights {
             statements,
@@ -42,15 +43,17 @@ impl<'a, S: StatementList<EF>, EF: Field> Iterator for Weights<'a, S, EF> {
 
     type Item = EF;
 
-    ghost next_gives = { YieldsFirstBy EF.number (λ w. weights_from EF.ops (map EF.number w.row.now) (S.statements w.statements.now) w.index) };
+    ghost next_gives = { YieldsFirstBy EF.number (λ w. weights_from evaluation EF.ops (map EF.number w.row.now) (S.statements w.statements.now) w.index) };
 
-    ghost remaining = { item_count (λ w. weights_from EF.ops (map EF.number w.row.now) (S.statements w.statements.now) w.index) };
+    ghost remaining = { item_count (λ w. weights_from evaluation EF.ops (map EF.number w.row.now) (S.statements w.statements.now) w.index) };
 
     fn next(&mut self) -> Option<EF> {
         if self.index == self.statements.count() {
             return None;
         }
-        let weight = self.statements.weight_at(self.index, self.row);
+        let weight = self
+            .statements
+            .weight_at(self.index, Basis::Evaluation, self.row);
         self.index += 1;
         Some(weight)
     }

@@ -2,11 +2,12 @@
 
 ghost use Rattle.std.specs.Prelude.{◌≡◌, ℕ, ◌+◌, ◌^◌, ◌<◌, ◌≤◌, All, length, map, IsOk, IfOk, OnOk, OnErr};
 ghost use Rattle.sc_definitions.specs.Ring.{power, ◌+⟨◌⟩◌};
-ghost use Rattle.sc_definitions.specs.Tables.{entries, value};
+ghost use Rattle.sc_definitions.specs.Tables.{entries, value_in};
 ghost use Rattle.sc_definitions.specs.Statements.{first_false_claim, batched_weight, batched_claim};
 ghost use Rattle.sc_definitions.specs.Lucky.{after_zeros, excess};
 ghost use Rattle.sc_field.specs.Powers.{base_of, start_of};
 ghost use Rattle.sc_table.specs.Polys.{most_table_variables, variables_of, table_of};
+ghost use Rattle.sc_table.specs.Strategy.{basis_of};
 ghost use Rattle.sc_statements.specs.Groups.{group_arity, group_statements};
 ghost use Rattle.sc_claims.specs.Batches.{gathered, AddsBatch};
 ghost use Rattle.sc_claims.specs.Claimed.{with_values, all_stated_truly};
@@ -15,7 +16,7 @@ ghost use Rattle.sc_statements.specs.FalseClaims.{capped};
 use crate::statement::Statements;
 use sc_definitions::FalseClaim;
 use sc_field::{ExtensionField, Field, NoMemory, Powers};
-use sc_table::{Point, Poly, Row};
+use sc_table::{Basis, Point, Poly, Row};
 use std::alloc::Global;
 
 /// Groups of statements on one table, in order, and the challenge whose powers batch them.
@@ -53,7 +54,8 @@ impl<F: Field, EF: ExtensionField<F>> Constraint<F, EF> {
         }
     }
 
-    /// The same with the initial power 1, for a batch beside a claim that is there already and has the coefficient one.
+    /// The groups in this order, as [`Constraint::new`] takes them, with the initial power 1: for a batch beside a claim that is there
+    /// already and has the coefficient one.
     pub fn new_with_existing_claim(
         challenge: EF,
         num_variables: usize,
@@ -171,20 +173,20 @@ impl<F: Field, EF: ExtensionField<F>> Constraint<F, EF> {
         Ok((combined, eval))
     }
 
-    /// The value at `row` of the batched weights, as a table. `row` has as many coordinates as the tables
-    /// have variables.
+    /// The value at `row` of the batched weights, as a table in this basis: of values, or of the
+    /// coefficients of monomials. `row` has as many coordinates as the tables have variables.
     ///
     /// It makes no table and takes no memory: it is the sum over all statements of coefficient times the
-    /// value of the statement's own weights.
-    pub fn eval_at(&self, row: &Point<EF>) -> EF
+    /// value of the statement's own weights, each taken coordinate after coordinate.
+    pub fn eval_at(&self, basis: Basis, row: &Point<EF>) -> EF
         requires { length row.now ≡ constraint_arity self.now }
-        ensures { EF.number result ≡ value EF.ops
+        ensures { EF.number result ≡ value_in (basis_of basis) EF.ops
             (batched_weight EF.ops (constraint_challenge EF.number self.now) (constraint_power self.now) (constraint_statements (λ x. EF.embedding (F.number x)) EF.number self.now)) (map EF.number row.now) }
     {
         let mut sum = EF::ZERO;
         let mut coefficient = self.first_coefficient();
         for group in &self.statements {
-            coefficient = group.add_weights_at(&mut sum, row, self.challenge, coefficient);
+            coefficient = group.add_weights_at(&mut sum, basis, row, self.challenge, coefficient);
         }
         sum
     }

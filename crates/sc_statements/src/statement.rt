@@ -2,17 +2,18 @@
 
 ghost use Rattle.std.specs.Prelude.{◌≡◌, ℕ, ◌+◌, ◌++◌, ◌^◌, ◌↔◌, [], length, map, IsTrue, IsOk, IfOk, OnOk};
 ghost use Rattle.sc_definitions.specs.Ring.{power, ◌+⟨◌⟩◌};
-ghost use Rattle.sc_definitions.specs.Tables.{entries, value};
+ghost use Rattle.sc_definitions.specs.Tables.{entries, value_in};
 ghost use Rattle.sc_definitions.specs.Statements.{first_false_claim, batched_weight, batched_claim};
 ghost use Rattle.sc_definitions.specs.Lucky.{excess};
 ghost use Rattle.sc_table.specs.Polys.{variables_of, table_of};
+ghost use Rattle.sc_table.specs.Strategy.{basis_of};
 ghost use Rattle.sc_claims.specs.Batches.{gathered, AddsBatch};
 ghost use Rattle.sc_claims.specs.Claimed.{with_values, all_stated_truly};
 
 use sc_claims::{EqStatement, NextStatement, SelectStatement, list};
 use sc_definitions::FalseClaim;
 use sc_field::{ExtensionField, Field, NoMemory};
-use sc_table::{Point, Poly};
+use sc_table::{Basis, Point, Poly};
 use std::alloc::Global;
 
 /// A group of statements of one kind, in order.
@@ -140,10 +141,12 @@ impl<F: Field, EF: ExtensionField<F>> Statements<F, EF> {
         }
     }
 
-    // Adds the values at `row` of the weights to the sum, with the same factors and the same answer.
+    // Adds the values at `row` of the weights, as tables in this basis, to the sum, with the same
+    // factors and the same answer.
     pub(crate) fn add_weights_at(
         &self,
         sum: &mut EF,
+        basis: Basis,
         row: &Point<EF>,
         challenge: EF,
         first: EF,
@@ -151,19 +154,19 @@ impl<F: Field, EF: ExtensionField<F>> Statements<F, EF> {
         requires { length row.now ≡ group_arity self.now }
         ensures added { (p : ℕ) → EF.number first ≡ power EF.ops (EF.number challenge) p →
             EF.number sum.new ≡ EF.number sum.old
-            +⟨ EF.ops ⟩ value EF.ops (batched_weight EF.ops (EF.number challenge) p (group_statements (λ x. EF.embedding (F.number x)) EF.number self.now)) (map EF.number row.now) }
+            +⟨ EF.ops ⟩ value_in (basis_of basis) EF.ops (batched_weight EF.ops (EF.number challenge) p (group_statements (λ x. EF.embedding (F.number x)) EF.number self.now)) (map EF.number row.now) }
         ensures next { (p : ℕ) → EF.number first ≡ power EF.ops (EF.number challenge) p →
             EF.number result ≡ power EF.ops (EF.number challenge) (p + length (group_statements (λ x. EF.embedding (F.number x)) EF.number self.now)) }
     {
         match self {
             Statements::Eq(statement) => list::add_weights_at(
-                statement, sum, row, challenge, first,
+                statement, sum, basis, row, challenge, first,
             ),
             Statements::Next(statement) => list::add_weights_at(
-                statement, sum, row, challenge, first,
+                statement, sum, basis, row, challenge, first,
             ),
             Statements::Select(statement) => list::add_weights_at(
-                statement, sum, row, challenge, first,
+                statement, sum, basis, row, challenge, first,
             ),
         }
     }

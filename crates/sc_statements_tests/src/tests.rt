@@ -2,6 +2,7 @@
 
 ghost use Rattle.std.specs.Prelude.{◌≡◌, ◌^◌, ◌↔◌, length, map, IsTrue};
 ghost use Rattle.sc_definitions.specs.Statements.{AllTrueOf, powers_sum};
+ghost use Rattle.sc_definitions.specs.Tables.{evaluation};
 ghost use Rattle.sc_table.specs.Polys.{variables_of, table_of};
 ghost use Rattle.sc_claims.specs.EqStatements.{eq_arity, eq_statements};
 ghost use Rattle.sc_claims.specs.Weights.{weight_values};
@@ -82,7 +83,7 @@ fn all_true<EF: Field>(statement: &EqStatement<EF>, table: &Poly<EF>) -> bool
 fn batched_at<EF: Field>(statement: &EqStatement<EF>, row: &Point<EF>, challenge: EF) -> EF
     requires { length row.now ≡ eq_arity statement.now }
     ensures { EF.number result
-        ≡ powers_sum EF.ops (EF.number challenge) 0 (weight_values EF.ops (map EF.number row.now) (eq_statements EF.number statement.now)) }
+        ≡ powers_sum EF.ops (EF.number challenge) 0 (weight_values evaluation EF.ops (map EF.number row.now) (eq_statements EF.number statement.now)) }
 {
     let mut sum = EF::ZERO;
     let mut coefficient = EF::ONE;

@@ -8,3 +8,4 @@ pub mod Written
 pub mod SelectReads
 pub mod NextReads
 pub mod SlotParts
+pub mod CoefficientReads

@@ -3,14 +3,14 @@ use Rattle.std.proofs.Common.{◌≡◌, ℕ, ◌+◌, ◌*◌, ◌^◌, ◌<◌
 use Rattle.std.proofs.lemmas.Nat.{pow_pos}
 use Rattle.std.proofs.lemmas.List.{length-map, map-append, take-append-drop}
 use Rattle.sc_definitions.specs.Ring.{Ops, IsRing, plus, times}
-use Rattle.sc_definitions.specs.Tables.{Order, prefix, suffix, sum_below, entries, weight, eq_product, value, inner}
+use Rattle.sc_definitions.specs.Tables.{Basis, evaluation, projective, Order, prefix, suffix, sum_below, entries, weight, value, value_in, inner}
 use Rattle.sc_definitions.proofs.Sums.{sum-same}
 use Rattle.sc_field.specs.Products.{products}
 use Rattle.sc_table.proofs.EntryLaws.{entry-embedded}
 use Rattle.sc_definitions.specs.Statements.{successor, next_row, successor_weight, slot_weight, weight_of, true_value}
 use Rattle.sc_definitions.proofs.RingLaws.{times_comm}
 use Rattle.sc_definitions.proofs.BlockLaws.{slot-prefix, slot-suffix, value-slot_prefix, value-slot_suffix, true_value-prefix, true_value-suffix}
-use Rattle.sc_definitions.proofs.ValueLaws.{value-weight}
+use Rattle.sc_definitions.proofs.CoefficientValues.{coefficients-slot_first, coefficients-slot_last}
 use Rattle.sc_weights.proofs.Written.{by-blocks}
 
 -- the coordinates of both parts
@@ -60,22 +60,31 @@ module _ (o : Ops) (ring : IsRing o) (order : Order) (ss zs : List ℕ) where
 
   -- ---- values at a point
 
-  value-slot : (order' : Order) (row : List ℕ) → order ≡ order' → value o (weight_of o (successor order ss zs)) row ≡ value o (slot_weight order' o ss zs) row
-  unfolding weight_of value
-  value-slot order' row is = ap (λ k. value o (slot_weight k o ss zs) row) is
+  -- the value in a basis of a slot's weights: the selector's coordinates stand first, or last
+  slot-first : (basis : Basis) (xs ys : List ℕ) → length ss ≡ length xs → length zs ≡ length ys →
+      value_in basis o (weight_of o (successor prefix ss zs)) (xs ++ ys) ≡ times o (value_in basis o (weight o ss) xs) (value_in basis o (successor_weight o zs) ys)
+  unfolding weight_of
+  slot-first evaluation xs ys first second = value-slot_prefix o ring ss zs xs ys first second
+  slot-first projective xs ys first second = coefficients-slot_first o ring ss zs xs ys first second
 
-  pub at-prefix : (xs ys row : List ℕ) (equal next : ℕ) → order ≡ prefix → row ≡ xs ++ ys → length ss ≡ length xs → length zs ≡ length ys → equal ≡ eq_product o ss xs → next ≡ value o (successor_weight o zs) ys →
-      times o equal next ≡ value o (weight_of o (successor order ss zs)) row
-  at-prefix xs ys row equal next is split first second equal_is next_is =
-      ap (λ k. times o k next) (equal_is ∙ sym (value-weight o ring ss xs first)) ∙ ap (times o (value o (weight o ss) xs)) next_is
-      ∙ sym (value-slot prefix row is ∙ ap (value o (slot_weight prefix o ss zs)) split ∙ value-slot_prefix o ring ss zs xs ys first second)
+  slot-last : (basis : Basis) (xs ys : List ℕ) → length ss ≡ length xs → length zs ≡ length ys →
+      value_in basis o (weight_of o (successor suffix ss zs)) (ys ++ xs) ≡ times o (value_in basis o (weight o ss) xs) (value_in basis o (successor_weight o zs) ys)
+  unfolding weight_of
+  slot-last evaluation xs ys first second =
+      value-slot_suffix o ring ss zs ys xs first second ∙ times_comm o ring (value o (successor_weight o zs) ys) (value o (weight o ss) xs)
+  slot-last projective xs ys first second = coefficients-slot_last o ring ss zs ys xs second first
 
-  pub at-suffix : (xs ys row : List ℕ) (equal next : ℕ) → order ≡ suffix → row ≡ ys ++ xs → length ss ≡ length xs → length zs ≡ length ys → equal ≡ eq_product o ss xs → next ≡ value o (successor_weight o zs) ys →
-      times o equal next ≡ value o (weight_of o (successor order ss zs)) row
-  at-suffix xs ys row equal next is split first second equal_is next_is =
-      ap (λ k. times o k next) (equal_is ∙ sym (value-weight o ring ss xs first)) ∙ ap (times o (value o (weight o ss) xs)) next_is
-      ∙ times_comm o ring (value o (weight o ss) xs) (value o (successor_weight o zs) ys)
-      ∙ sym (value-slot suffix row is ∙ ap (value o (slot_weight suffix o ss zs)) split ∙ value-slot_suffix o ring ss zs ys xs first second)
+  pub at-prefix : (basis : Basis) (xs ys row : List ℕ) (equal next : ℕ) → order ≡ prefix → row ≡ xs ++ ys → length ss ≡ length xs → length zs ≡ length ys →
+      equal ≡ value_in basis o (weight o ss) xs → next ≡ value_in basis o (successor_weight o zs) ys → times o equal next ≡ value_in basis o (weight_of o (successor order ss zs)) row
+  at-prefix basis xs ys row equal next is split first second equal_is next_is =
+      ap (λ k. times o k next) equal_is ∙ ap (times o (value_in basis o (weight o ss) xs)) next_is
+      ∙ sym (ap (λ k. value_in basis o (weight_of o (successor k ss zs)) row) is ∙ ap (value_in basis o (weight_of o (successor prefix ss zs))) split ∙ slot-first basis xs ys first second)
+
+  pub at-suffix : (basis : Basis) (xs ys row : List ℕ) (equal next : ℕ) → order ≡ suffix → row ≡ ys ++ xs → length ss ≡ length xs → length zs ≡ length ys →
+      equal ≡ value_in basis o (weight o ss) xs → next ≡ value_in basis o (successor_weight o zs) ys → times o equal next ≡ value_in basis o (weight_of o (successor order ss zs)) row
+  at-suffix basis xs ys row equal next is split first second equal_is next_is =
+      ap (λ k. times o k next) equal_is ∙ ap (times o (value_in basis o (weight o ss) xs)) next_is
+      ∙ sym (ap (λ k. value_in basis o (weight_of o (successor k ss zs)) row) is ∙ ap (value_in basis o (weight_of o (successor suffix ss zs))) split ∙ slot-last basis xs ys first second)
 
 -- a row of two parts
 pub row-parts : {X : Type 0} (number : X → ℕ) (row front back : List X) (k : ℕ) → front ≡ take k row → back ≡ drop k row → map number row ≡ map number front ++ map number back

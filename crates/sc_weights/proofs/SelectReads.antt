@@ -2,7 +2,7 @@
 use Rattle.std.proofs.Common.{◌≡◌, ℕ, ◌^◌, List, map, ap, refl}
 use Rattle.std.specs.Borrow.{Bor}
 use Rattle.sc_definitions.specs.Ring.{Ops, times, power}
-use Rattle.sc_definitions.specs.Tables.{monomial, sum_below, inner, value}
+use Rattle.sc_definitions.specs.Tables.{Basis, monomial, sum_below, inner, value_in}
 use Rattle.sc_definitions.specs.Statements.{weight_of, true_value}
 use Rattle.sc_weights.specs.declared.select.Selector.{Selector}
 use Rattle.sc_weights.specs.declared.select.Selector.TheVariants.{Scalar, Direct}
@@ -18,9 +18,9 @@ module _ (o : Ops) {F : Type 0} (of : F → ℕ) (s : Selector F) where
     unfolding true_value weight_of inner
     true_value-scalar n f = ap (λ t. true_value o n f (selected_kind of t)) is
 
-    pub value-scalar : (xs : List ℕ) → value o (weight_of o (selected_kind of s)) xs ≡ value o (power o (of var)) xs
-    unfolding weight_of value
-    value-scalar xs = ap (λ t. value o (weight_of o (selected_kind of t)) xs) is
+    pub value-scalar : (basis : Basis) (xs : List ℕ) → value_in basis o (weight_of o (selected_kind of s)) xs ≡ value_in basis o (power o (of var)) xs
+    unfolding weight_of
+    value-scalar basis xs = ap (λ t. value_in basis o (weight_of o (selected_kind of t)) xs) is
 
   module _ (point : Bor (List F)) (is : s ≡ Direct point) where
     pub weight_of-direct : (b : ℕ) → weight_of o (selected_kind of s) b ≡ monomial o (map of point.now) b
@@ -31,9 +31,9 @@ module _ (o : Ops) {F : Type 0} (of : F → ℕ) (s : Selector F) where
     unfolding true_value weight_of inner
     true_value-direct n f = ap (λ t. true_value o n f (selected_kind of t)) is
 
-    pub value-direct : (xs : List ℕ) → value o (weight_of o (selected_kind of s)) xs ≡ value o (monomial o (map of point.now)) xs
-    unfolding weight_of value
-    value-direct xs = ap (λ t. value o (weight_of o (selected_kind of t)) xs) is
+    pub value-direct : (basis : Basis) (xs : List ℕ) → value_in basis o (weight_of o (selected_kind of s)) xs ≡ value_in basis o (monomial o (map of point.now)) xs
+    unfolding weight_of
+    value-direct basis xs = ap (λ t. value_in basis o (weight_of o (selected_kind of t)) xs) is
 
 pub inner-is : (o : Ops) (n : ℕ) (f w : ℕ → ℕ) → inner o n f w ≡ sum_below o (2 ^ n) (λ b. times o (f b) (w b))
 unfolding inner

@@ -6,9 +6,10 @@ ghost use Rattle.sc_definitions.specs.Tables.{entries, weight};
 ghost use Rattle.sc_table.specs.Blocks.{block_weight};
 
 use crate::row_weights::RowWeights;
+use crate::values::equality_in;
 use sc_field::{Algebra, Field};
 use sc_table::{
-    BLOCK_COORDINATES, Point, Poly, add_equality, add_scaled, block_weights, eval_slice,
+    BLOCK_COORDINATES, Basis, Point, Poly, add_equality, add_scaled, block_weights, eval_slice,
 };
 
 impl<EF: Field> RowWeights<EF> for Point<EF> {
@@ -27,8 +28,8 @@ impl<EF: Field> RowWeights<EF> for Point<EF> {
         eval_slice(rows, self.as_slice())
     }
 
-    fn value_at(&self, row: &Point<EF>) -> EF {
-        Point::eval_eq(self.as_slice(), row.as_slice())
+    fn value_at(&self, basis: Basis, row: &Point<EF>) -> EF {
+        equality_in(basis, self.as_slice(), row.as_slice())
     }
 }
 

@@ -8,8 +8,9 @@ ghost use Rattle.sc_definitions.specs.Statements.{next_row, successor_weight};
 use crate::equality::add_blocks;
 use crate::row_weights::RowWeights;
 use crate::successor::{add_successor, successor_value};
+use crate::values::{equality_in, successor_in};
 use sc_field::{Algebra, Field};
-use sc_table::{BLOCK_COORDINATES, Point, Poly, VariableOrder, eval_blocks};
+use sc_table::{BLOCK_COORDINATES, Basis, Point, Poly, VariableOrder, eval_blocks};
 
 /// A point whose value is taken through the successor map, in the slot that a selector's
 /// coordinates fix.
@@ -53,7 +54,7 @@ impl<EF: Field> RowWeights<EF> for NextConstraint<EF> {
         }
     }
 
-    fn value_at(&self, row: &Point<EF>) -> EF {
+    fn value_at(&self, basis: Basis, row: &Point<EF>) -> EF {
         let (selector, point) = (self.selector.as_slice(), self.point.as_slice());
         let (slot, rest) = match self.var_order {
             VariableOrder::Prefix => row.as_slice().split_at(selector.len()),
@@ -62,8 +63,7 @@ impl<EF: Field> RowWeights<EF> for NextConstraint<EF> {
                 (slot, rest)
             }
         };
-        let (_carry, done, omega) = Point::eval_next(point, rest);
-        Point::eval_eq(selector, slot).mul(done.add(omega))
+        equality_in(basis, selector, slot).mul(successor_in(basis, point, rest))
     }
 }
 

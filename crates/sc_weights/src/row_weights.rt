@@ -2,12 +2,13 @@
 
 ghost use Rattle.std.specs.Prelude.{◌≡◌, ℕ, ◌^◌, ◌<◌, length, map};
 ghost use Rattle.sc_definitions.specs.Ring.{◌+⟨◌⟩◌, ◌*⟨◌⟩◌};
-ghost use Rattle.sc_definitions.specs.Tables.{entries, value};
+ghost use Rattle.sc_definitions.specs.Tables.{entries, value_in};
 ghost use Rattle.sc_definitions.specs.Statements.{Kind, arity_of, weight_of, true_value};
 ghost use Rattle.sc_table.specs.Polys.{variables_of, table_of};
+ghost use Rattle.sc_table.specs.Strategy.{basis_of};
 
 use sc_field::{Algebra, Field};
-use sc_table::{Point, Poly};
+use sc_table::{Basis, Point, Poly};
 
 /// The weights that a statement has at the rows of a table.
 pub trait RowWeights<EF: Field>: Drop {
@@ -30,8 +31,10 @@ pub trait RowWeights<EF: Field>: Drop {
         ensures { (n : ℕ) → length rows.now ≡ 2 ^ n → EF.number result ≡ true_value EF.ops n
             (λ b. EF.embedding (entries A.number rows.now b)) (kind self.now) };
 
-    /// The value of the weights, as a table, at a point of as many coordinates as the statement's own.
-    fn value_at(&self, row: &Point<EF>) -> EF
+    /// The value of the weights, as a table in this basis, at a point of as many coordinates as the
+    /// statement's own. It takes time linear in their number and no memory.
+    fn value_at(&self, basis: Basis, row: &Point<EF>) -> EF
         requires { arity_of (length row.now) (kind self.now) ≡ length row.now }
-        ensures { EF.number result ≡ value EF.ops (weight_of EF.ops (kind self.now)) (map EF.number row.now) };
+        ensures { EF.number result
+            ≡ value_in (basis_of basis) EF.ops (weight_of EF.ops (kind self.now)) (map EF.number row.now) };
 }

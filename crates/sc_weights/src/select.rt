@@ -5,8 +5,9 @@ ghost use Rattle.sc_definitions.specs.Ring.{power, ◌+⟨◌⟩◌, ◌*⟨◌�
 ghost use Rattle.sc_definitions.specs.Tables.{entries, monomial, sum_below, inner, value};
 
 use crate::row_weights::RowWeights;
+use crate::values::{powers_in, products_in};
 use sc_field::{Algebra, ExtensionField, Field};
-use sc_table::{BLOCK_COORDINATES, Point, Poly, add_scaled};
+use sc_table::{BLOCK_COORDINATES, Basis, Point, Poly, add_scaled};
 
 /// What selects in a table.
 #[derive(Drop)]
@@ -44,10 +45,10 @@ impl<'a, F: Field, EF: ExtensionField<F>> RowWeights<EF> for Selector<'a, F> {
         }
     }
 
-    fn value_at(&self, row: &Point<EF>) -> EF {
+    fn value_at(&self, basis: Basis, row: &Point<EF>) -> EF {
         match self {
-            Selector::Scalar(var) => Point::eval_select(*var, row.as_slice()),
-            Selector::Direct(point) => products_at(point.as_slice(), row.as_slice()),
+            Selector::Scalar(var) => powers_in(basis, *var, row.as_slice()),
+            Selector::Direct(point) => products_in(basis, point.as_slice(), row.as_slice()),
         }
     }
 }
@@ -312,18 +313,4 @@ fn products_value_by_halves<F: Field, A: Field, EF: Algebra<F> + Algebra<A>>(
     let lo: EF = products_value_by_halves(low, rest);
     let hi: EF = products_value_by_halves(high, rest);
     lo.add(hi.mul_base(*first))
-}
-
-// The value at `x` of the products of the coordinates, as a table.
-fn products_at<F: Field, EF: Algebra<F>>(z: &[F], x: &[EF]) -> EF
-    requires { length z.now ≡ length x.now }
-    ensures { EF.number result ≡ value EF.ops (monomial EF.ops (map
-        (λ y. EF.embedding (F.number y)) z.now)) (map EF.number x.now) }
-{
-    let mut product = EF::ONE;
-    for (z_i, x_i) in z.iter().zip(x) {
-        let factor = EF::ONE.add(x_i.mul_base(z_i.sub(F::ONE)));
-        product = product.mul(factor);
-    }
-    product
 }

@@ -4,6 +4,7 @@ ghost use Rattle.std.specs.Prelude.{◌≡◌, ◌+◌, ◌<◌, ◌↔◌, [], 
 ghost use Rattle.std.specs.Iterator.{YieldsFirstBy, item_count};
 ghost use Rattle.sc_definitions.specs.Ring.{power, ◌+⟨◌⟩◌};
 ghost use Rattle.sc_definitions.specs.Statements.{equality, claims, arity_of, AllTrueOf, true_values, claimed_values, weights_at, batched_claim};
+ghost use Rattle.sc_definitions.specs.Tables.{evaluation};
 ghost use Rattle.sc_table.specs.Polys.{variables_of, table_of};
 ghost use Rattle.sc_claims.specs.Batches.{gathered, AddsBatch, WritesBatch, IsUnchanged};
 
@@ -11,7 +12,7 @@ use crate::evaluated::EvaluatedConstraint;
 use crate::list::{StatementList, add_batch, add_values, all_true};
 use crate::weights::{Weights, clear};
 use sc_field::{Algebra, ExtensionField, Field, NoMemory};
-use sc_table::{Point, Poly};
+use sc_table::{Basis, Point, Poly};
 use sc_weights::RowWeights;
 use std::alloc::Global;
 
@@ -81,12 +82,12 @@ impl<EF: Field> EqStatement<EF> {
     /// points. `row` has as many coordinates as the tables have variables.
     pub fn weights_at<'a>(&'a self, row: &'a Point<EF>) -> EqWeights<'a, EF>
         requires { length row.now ≡ eq_arity self.now }
-        ensures values { weights_from EF.ops (map EF.number result.row.now) (eq_statements EF.number result.statements.now) result.index
-            ≡ weight_values EF.ops (map EF.number row.now) (eq_statements EF.number self.now) }
+        ensures values { weights_from evaluation EF.ops (map EF.number result.row.now) (eq_statements EF.number result.statements.now) result.index
+            ≡ weight_values evaluation EF.ops (map EF.number row.now) (eq_statements EF.number self.now) }
 
         // At a point of zeros and ones they are the weights of the row that it is.
         ensures at_rows { IsRow (map EF.number row.now) →
-            weights_from EF.ops (map EF.number result.row.now) (eq_statements EF.number result.statements.now) result.index
+            weights_from evaluation EF.ops (map EF.number result.row.now) (eq_statements EF.number result.statements.now) result.index
             ≡ weights_at EF.ops (eq_statements EF.number self.now) (row_number (map EF.number row.now)) }
     {
         Weights::new(self, row)
@@ -250,8 +251,8 @@ impl<EF: Field> StatementList<EF> for EqStatement<EF> {
         self.constraints[index].weights.add_to(table, scale);
     }
 
-    fn weight_at(&self, index: usize, row: &Point<EF>) -> EF {
-        self.constraints[index].weights.value_at(row)
+    fn weight_at(&self, index: usize, basis: Basis, row: &Point<EF>) -> EF {
+        self.constraints[index].weights.value_at(basis, row)
     }
 }
 

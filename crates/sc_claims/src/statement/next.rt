@@ -3,6 +3,7 @@
 ghost use Rattle.std.specs.Prelude.{◌≡◌, ◌+◌, ◌<◌, ◌↔◌, [], ◌∷◌, ◌++◌, length, map, slice_index, All, IsTrue, IsOk, IfOk, OnOk, OnErr};
 ghost use Rattle.sc_definitions.specs.Ring.{◌+⟨◌⟩◌};
 ghost use Rattle.sc_definitions.specs.Statements.{successor, claims, AllTrueOf, true_values, claimed_values, weights_at, batched_claim};
+ghost use Rattle.sc_definitions.specs.Tables.{evaluation};
 ghost use Rattle.sc_table.specs.Polys.{variables_of, table_of};
 ghost use Rattle.sc_table.specs.Strategy.{order_of};
 ghost use Rattle.sc_claims.specs.Batches.{gathered, AddsBatch};
@@ -11,7 +12,7 @@ use crate::evaluated::EvaluatedConstraint;
 use crate::list::{StatementList, add_batch, add_values, all_true};
 use crate::weights::Weights;
 use sc_field::{Algebra, Field, NoMemory};
-use sc_table::{Point, Poly, VariableOrder};
+use sc_table::{Basis, Point, Poly, VariableOrder};
 use sc_weights::{NextConstraint, RowWeights};
 use std::alloc::Global;
 
@@ -70,12 +71,12 @@ impl<EF: Field> NextStatement<EF> {
     /// successor's value of the point at the rest. `row` has as many coordinates as the tables have variables.
     pub fn weights_at<'a>(&'a self, row: &'a Point<EF>) -> NextWeights<'a, EF>
         requires { length row.now ≡ next_arity self.now }
-        ensures values { weights_from EF.ops (map EF.number result.row.now) (next_statements EF.number result.statements.now) result.index
-            ≡ weight_values EF.ops (map EF.number row.now) (next_statements EF.number self.now) }
+        ensures values { weights_from evaluation EF.ops (map EF.number result.row.now) (next_statements EF.number result.statements.now) result.index
+            ≡ weight_values evaluation EF.ops (map EF.number row.now) (next_statements EF.number self.now) }
 
         // At a point of zeros and ones they are the weights of the row that it is.
         ensures at_rows { IsRow (map EF.number row.now) →
-            weights_from EF.ops (map EF.number result.row.now) (next_statements EF.number result.statements.now) result.index
+            weights_from evaluation EF.ops (map EF.number result.row.now) (next_statements EF.number result.statements.now) result.index
             ≡ weights_at EF.ops (next_statements EF.number self.now) (row_number (map EF.number row.now)) }
     {
         Weights::new(self, row)
@@ -225,7 +226,7 @@ impl<EF: Field> StatementList<EF> for NextStatement<EF> {
         self.constraints[index].weights.add_to(table, scale);
     }
 
-    fn weight_at(&self, index: usize, row: &Point<EF>) -> EF {
-        self.constraints[index].weights.value_at(row)
+    fn weight_at(&self, index: usize, basis: Basis, row: &Point<EF>) -> EF {
+        self.constraints[index].weights.value_at(basis, row)
     }
 }

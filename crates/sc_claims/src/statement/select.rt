@@ -4,13 +4,14 @@ ghost use Rattle.std.specs.Prelude.{◌≡◌, ◌+◌, ◌<◌, ◌↔◌, [], 
 ghost use Rattle.std.specs.Iterator.{YieldsFirstBy, item_count};
 ghost use Rattle.sc_definitions.specs.Ring.{◌+⟨◌⟩◌};
 ghost use Rattle.sc_definitions.specs.Statements.{powers, products, claims, arity_of, AllTrueOf, true_values, claimed_values, weights_at, batched_claim};
+ghost use Rattle.sc_definitions.specs.Tables.{evaluation};
 ghost use Rattle.sc_table.specs.Polys.{variables_of, table_of};
 ghost use Rattle.sc_claims.specs.Batches.{gathered, AddsBatch};
 
 use crate::list::{StatementList, add_batch, add_values, all_true};
 use crate::weights::Weights;
 use sc_field::{Algebra, ExtensionField, Field, NoMemory};
-use sc_table::{Point, Poly};
+use sc_table::{Basis, Point, Poly};
 use sc_weights::{RowWeights, Selector};
 use std::alloc::Global;
 
@@ -120,12 +121,12 @@ impl<F: Field, EF: ExtensionField<F>> SelectStatement<F, EF> {
     /// The value at `row` of each statement's weight table, in order. `row` has as many coordinates as the tables have variables.
     pub fn weights_at<'a>(&'a self, row: &'a Point<EF>) -> SelectWeights<'a, F, EF>
         requires { length row.now ≡ select_arity self.now }
-        ensures values { weights_from EF.ops (map EF.number result.row.now) (select_statements (λ x. EF.embedding (F.number x)) EF.number result.statements.now) result.index
-            ≡ weight_values EF.ops (map EF.number row.now) (select_statements (λ x. EF.embedding (F.number x)) EF.number self.now) }
+        ensures values { weights_from evaluation EF.ops (map EF.number result.row.now) (select_statements (λ x. EF.embedding (F.number x)) EF.number result.statements.now) result.index
+            ≡ weight_values evaluation EF.ops (map EF.number row.now) (select_statements (λ x. EF.embedding (F.number x)) EF.number self.now) }
 
         // At a point of zeros and ones they are the weights of the row that it is.
         ensures at_rows { IsRow (map EF.number row.now) →
-            weights_from EF.ops (map EF.number result.row.now) (select_statements (λ x. EF.embedding (F.number x)) EF.number result.statements.now) result.index
+            weights_from evaluation EF.ops (map EF.number result.row.now) (select_statements (λ x. EF.embedding (F.number x)) EF.number result.statements.now) result.index
             ≡ weights_at EF.ops (select_statements (λ x. EF.embedding (F.number x)) EF.number self.now) (row_number (map EF.number row.now)) }
     {
         Weights::new(self, row)
@@ -282,8 +283,8 @@ impl<F: Field, EF: ExtensionField<F>> StatementList<EF> for SelectStatement<F, E
         self.selector(index).add_to(table, scale);
     }
 
-    fn weight_at(&self, index: usize, row: &Point<EF>) -> EF {
-        self.selector(index).value_at(row)
+    fn weight_at(&self, index: usize, basis: Basis, row: &Point<EF>) -> EF {
+        self.selector(index).value_at(basis, row)
     }
 }
 

@@ -10,6 +10,7 @@ use super::{claims, elements, four, point};
 use sc_field::{ExtensionField, Field};
 use sc_small_fields::F65537;
 use sc_statements::{Constraint, StatementList, Statements};
+use sc_table::Basis;
 use sc_tests_common::of;
 use std::process::Abort;
 
@@ -93,22 +94,22 @@ fn assert_claims<R: Abort + AllocGlobal>(
 fn statements_claim_given_values(rt: HostRuntime) {
     let mut constraint = seven(&rt);
     assert_claims(&rt, &constraint, &FIRST);
-    let weight = constraint.eval_at(&point(&rt, &[3, 4]));
+    let weight = constraint.eval_at(Basis::Evaluation, &point(&rt, &[3, 4]));
     let values = elements(&rt, &GIVEN);
     assert_eq!(rt; count(&rt, &constraint), values.len());
     constraint.claim_values(&values);
     assert_claims(&rt, &constraint, &GIVEN);
-    assert!(rt; constraint.eval_at(&point(&rt, &[3, 4])) == weight);
+    assert!(rt; constraint.eval_at(Basis::Evaluation, &point(&rt, &[3, 4])) == weight);
 }
 
 #[test]
 fn statements_claim_their_true_values(rt: HostRuntime) {
     let (mut constraint, table) = (seven(&rt), four(&rt));
-    let weight = constraint.eval_at(&point(&rt, &[3, 4]));
+    let weight = constraint.eval_at(Basis::Evaluation, &point(&rt, &[3, 4]));
     constraint.claim_truth(table.as_slice());
     assert_claims(&rt, &constraint, &TRUE);
     assert_eq!(rt; constraint.first_false(table.as_slice()), None);
-    assert!(rt; constraint.eval_at(&point(&rt, &[3, 4])) == weight);
+    assert!(rt; constraint.eval_at(Basis::Evaluation, &point(&rt, &[3, 4])) == weight);
 }
 
 #[test]

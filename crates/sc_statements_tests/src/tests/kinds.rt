@@ -13,7 +13,7 @@ use sc_small_fields::F65537;
 use sc_statements::{
     Claim, Constraint, NextStatement, SelectStatement, StatementList, Statements, Weights,
 };
-use sc_table::{Point, Poly, VariableOrder};
+use sc_table::{Basis, Point, Poly, VariableOrder};
 use sc_tests_common::{have_numbers, of};
 use std::process::Abort;
 
@@ -348,11 +348,11 @@ fn assert_batch<R: Abort + AllocGlobal>(
 fn groups_of_several_kinds_are_batched(rt: HostRuntime) {
     let constraint = Constraint::new(of(10), 2, both_kinds(&rt));
     assert_batch(&rt, &constraint, (0, 493), &[10, 22, 37, 82]);
-    let at = constraint.eval_at(&point(&rt, &[3, 4])).index();
-    assert_eq!(rt;
-        (at, constraint.first_false(four(&rt).as_slice())),
-        (535, None)
-    );
+    let point = point(&rt, &[3, 4]);
+    let at = constraint.eval_at(Basis::Evaluation, &point).index();
+    let of_coefficients = constraint.eval_at(Basis::Projective, &point).index();
+    assert_eq!(rt; (at, of_coefficients), (535, 1193));
+    assert_eq!(rt; constraint.first_false(four(&rt).as_slice()), None);
 }
 
 #[test]

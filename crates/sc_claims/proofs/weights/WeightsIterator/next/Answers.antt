@@ -1,5 +1,6 @@
 use Rattle.std.proofs.Common.{◌≡◌, ℕ, ◌+◌, ◌<◌, ◌≤◌, length, map, ap, arith}
 use Rattle.std.proofs.Math.ListN.{drop_of_length-le}
+use Rattle.sc_definitions.specs.Tables.{evaluation}
 use Rattle.sc_claims.specs.Weights.{weight_values}
 use Rattle.sc_claims.proofs.Places.{weights-first, shorter-left}
 use Rattle.sc_claims.proofs.weights.WeightsIterator.next.Goals as goal
@@ -23,7 +24,7 @@ returns-then-self-count-clause-steps g c =
     let self = c.args.self.now in
     let ss = g.S.StatementList.statements self.statements.now in
     let past : length ss ≤ self.index = omega (arith, c.if-self-count.true, c.count.ensures) in
-    let none = ap (weight_values f.ops (map f.number self.row.now)) (drop_of_length-le ss past) in
+    let none = ap (weight_values evaluation f.ops (map f.number self.row.now)) (drop_of_length-le ss past) in
     (none, none)
 
 -- the place is below the end
@@ -56,7 +57,7 @@ returns-clause-steps g c =
     let f = g.EF.Field in
     let self = c.args.self.now in
     let ss = g.S.StatementList.statements self.statements.now in
-    weights-first f.ops (map f.number self.row.now) ss self.index (f.number c.weight_at-weight.result)
+    weights-first evaluation f.ops (map f.number self.row.now) ss self.index (f.number c.weight_at-weight.result)
     (below-end self.index c.count.result (length ss) c.if-self-count.false c.count.ensures self.within) c.weight_at-weight.ensures
 
 -- a weight fewer is left

@@ -1,4 +1,5 @@
 use Rattle.std.proofs.Common.{refl, ap, ◌∙◌, arith}
+use Rattle.sc_table.specs.Strategy.{basis_of}
 use Rattle.sc_statements.specs.Groups.{group_statements}
 use Rattle.sc_claims.proofs.BatchSteps.{IsSummed-none}
 use Rattle.sc_statements.proofs.GroupValues.{value-group, value-groups}
@@ -13,11 +14,11 @@ loop-group-init g c =
 pub loop-group-preserved : goal.loop-group-preserved
 loop-group-preserved g c =
     let f = g.EF.Field in
-    value-group (group_statements (λ x. g.EF.Algebra.embedding (g.F.Field.number x)) f.number) f.ops g.met.EF.Field.is_field.ring _ _ _ c.deref-group-items.result.now c.loop-group.group-index c.group-item.result
+    value-group (group_statements (λ x. g.EF.Algebra.embedding (g.F.Field.number x)) f.number) f.ops g.met.EF.Field.is_field.ring (basis_of c.args.basis) _ _ _ c.deref-group-items.result.now c.loop-group.group-index c.group-item.result
     c.loop-group.invariant c.loop-group-test.true c.group-item.is c.add_weights_at-coefficient.ensures.added c.add_weights_at-coefficient.ensures.next
 
 pub returns : goal.returns
 returns g c =
     let f = g.EF.Field in
-    value-groups (group_statements (λ x. g.EF.Algebra.embedding (g.F.Field.number x)) f.number) f.ops g.met.EF.Field.is_field.ring _ _ _ c.deref-group-items.result.now _ c.loop-group.group-index _ _ _
+    value-groups (group_statements (λ x. g.EF.Algebra.embedding (g.F.Field.number x)) f.number) f.ops g.met.EF.Field.is_field.ring (basis_of c.args.basis) _ _ _ c.deref-group-items.result.now _ c.loop-group.group-index _ _ _
     c.loop-group.invariant refl c.deref-group-items.ensures.value c.loop-group-test.false

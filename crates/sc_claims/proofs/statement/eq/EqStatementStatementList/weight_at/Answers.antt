@@ -1,7 +1,8 @@
 use Rattle.std.proofs.Common.{◌∙◌, map, ◌≡◌, length, sym, refl}
 use Rattle.std.proofs.lemmas.List.{length-map}
-use Rattle.sc_definitions.specs.Tables.{value}
+use Rattle.sc_definitions.specs.Tables.{value_in}
 use Rattle.sc_definitions.specs.Statements.{weight_of}
+use Rattle.sc_table.specs.Strategy.{basis_of}
 use Rattle.sc_claims.specs.EqStatements.{point_kind}
 use Rattle.sc_definitions.proofs.Lists.{read_has}
 use Rattle.sc_claims.proofs.Evaluations.{read-evaluated, place-inside}
@@ -11,7 +12,7 @@ pub returns : goal.returns
 returns g c =
     let f = g.EF.Field in
     c.value_at.ensures
-    ∙ read-evaluated (point_kind f.number) f.number (λ s. value f.ops (weight_of f.ops s.kind) (map f.number c.args.row.now)) c.args.self.now.constraints.items c.args.index c.index.result.now c.requires.index c.index.ensures
+    ∙ read-evaluated (point_kind f.number) f.number (λ s. value_in (basis_of c.args.basis) f.ops (weight_of f.ops s.kind) (map f.number c.args.row.now)) c.args.self.now.constraints.items c.args.index c.index.result.now c.requires.index c.index.ensures
 
 -- the place is in the list
 pub index-requires : goal.index-requires

@@ -1,6 +1,6 @@
 use Rattle.std.proofs.Common.{map}
 use Rattle.sc_weights.proofs.ProductSteps.{IsPassed}
-use Rattle.sc_weights.proofs.select.products_at.Given as goal
+use Rattle.sc_weights.proofs.values.products_at.Given as goal
 
 abbrev pub invariant-loop-z_i : goal.invariant-loop-z_i
 invariant-loop-z_i g l =

@@ -4,7 +4,7 @@ use Rattle.std.proofs.lemmas.Slice.Zip.{Zip-more, either_empty_from_Zip}
 use Rattle.sc_definitions.specs.Ring.{plus, times, minus}
 use Rattle.sc_definitions.proofs.Maps.{map-minus}
 use Rattle.sc_weights.proofs.ProductSteps.{IsPassed, passed-none, passed-more, passed-all}
-use Rattle.sc_weights.proofs.select.products_at.Goals as goal
+use Rattle.sc_weights.proofs.values.products_at.Goals as goal
 
 pub loop-z_i-init : goal.loop-z_i-init
 loop-z_i-init g c =
