@@ -1,56 +1,15 @@
 -- A round that turns a false claim into the true one certifies that its challenge was lucky.
-use Rattle.std.proofs.Common.{◌≡◌, ◌≢◌, ℕ, suc, ◌+◌, ◌<◌, ◌≤◌, List, [], ◌∷◌, ◌++◌, All, length, map, Some, None, Vec, Global, refl, sym, ◌∙◌, ap, subst, arith, ⊎_elim}
-use Rattle.std.proofs.lemmas.Bool.{cases_eq}
+use Rattle.std.proofs.Common.{◌≡◌, ◌≢◌, ℕ, suc, ◌+◌, ◌<◌, ◌≤◌, List, [], ◌∷◌, All, length, map, Some, None, Vec, Global, sym, ◌∙◌, ap, subst, arith}
 use Rattle.std.proofs.lemmas.List.{length-map}
 use Rattle.std.proofs.lemmas.List.Elements.{All-head, All-tail}
-use Rattle.std.proofs.lemmas.Option.{same_Some}
 use Rattle.sc_definitions.specs.Ring.{Ops, IsField, element}
 use Rattle.sc_definitions.specs.Rounds.{claim_along}
 use Rattle.sc_definitions.specs.Interpolation.{next_through}
 use Rattle.sc_definitions.specs.Products.{values_product, product_claim}
-use Rattle.sc_definitions.specs.Lucky.{Course, product_course, Turn, first_turn, IsTurn}
+use Rattle.sc_definitions.specs.Lucky.{product_course, Turn, first_turn, IsTurn}
 use Rattle.sc_definitions.proofs.RingLaws.{element-small}
 use Rattle.sc_definitions.proofs.ProductLaws.{product_claim-end}
-use Rattle.sc_definitions.proofs.TurnLaws.{turn-here, turn-later}
-use Rattle.sc_definitions.proofs.LuckyLaws.{AllSend, Certifies, turns, products_certify, IsWide}
-
-module _ (o : Ops) (k : Course) (Sends : List ℕ → Type 0) (width : ℕ) (c : Certifies o k Sends width) where
-  turn-next : (i r : ℕ) (rs : List ℕ) (t : Turn) → IsTurn o width (suc i) rs t → IsTurn o width i (r ∷ rs) t
-  turn-next i r rs t later = record {
-    place = suc later.place;
-    round = omega (arith, later.round);
-    challenge = later.challenge;
-    drawn = later.drawn;
-    certificate = later.certificate;
-    coefficients = later.coefficients;
-  }
-
-  -- the first round that turns a false claim is certified
-  pub first-certified : (i claim : ℕ) (messages : List (List ℕ)) (before rs : List ℕ) (t : Turn) → AllSend Sends messages →
-      element o claim ≢ k.true_after before (length messages) → first_turn k i claim messages before rs ≡ Some t → IsTurn o width i rs t
-  unfolding first_turn
-  first-certified i claim [] before rs t send wrong is = cc
-  first-certified i claim (message ∷ messages) before [] t send wrong is = cc
-  first-certified i claim (message ∷ messages) before (r ∷ rs) t send wrong is =
-      let m = length messages in
-      let here : Turn = record { round = i; polynomial = k.excess claim message before m } in
-      ⊎_elim
-      (λ now.
-      let certified = c.round claim message before m r send.0 wrong now in
-      subst (IsTurn o width i (r ∷ rs)) (same_Some _ _ (sym (turn-here k i claim message messages before r rs now) ∙ is))
-      (record {
-        place = 0;
-        round = omega arith;
-        challenge = r;
-        drawn = refl;
-        certificate = certified.0;
-        coefficients = certified.1;
-      }))
-      (λ later.
-      turn-next i r rs t
-      (first-certified (suc i) (k.next claim message r) messages (before ++ r ∷ []) rs t send.1 (λ e. later (sym (c.next_element claim message r) ∙ e))
-      (sym (turn-later k i claim message messages before r rs later) ∙ is)))
-      (cases_eq (k.next claim message r) (k.true_after (before ++ r ∷ []) m))
+use Rattle.sc_definitions.proofs.LuckyLaws.{AllSend, turns, first-certified, products_certify, IsWide}
 
 -- messages of as many values each
 all-wide : {X : Type 0} (number : X → ℕ) (n : ℕ) (ms : List (Vec X Global)) → All (λ m. length m.items ≡ n) ms →

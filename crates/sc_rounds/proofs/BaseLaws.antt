@@ -4,7 +4,7 @@ use Rattle.std.proofs.lemmas.Bool.{eqb-true, eq-eqb}
 use Rattle.std.proofs.lemmas.List.{length-map}
 use Rattle.sc_definitions.specs.declared.events.Event.{Event}
 use Rattle.sc_definitions.specs.Ring.{Ops, IsRing}
-use Rattle.sc_definitions.specs.Tables.{evaluation, Order, IsOffered, entries, rows_of, inner, bound_in}
+use Rattle.sc_definitions.specs.Tables.{Basis, Order, IsOffered, entries, rows_of, inner, bound_in}
 use Rattle.sc_definitions.specs.Messages.{message_of}
 use Rattle.sc_definitions.specs.Rounds.{next_claim}
 use Rattle.sc_definitions.specs.Transcript.{round_of}
@@ -13,16 +13,17 @@ use Rattle.sc_definitions.specs.Standings.{Setting, Standing, half_rows, IsRound
 use Rattle.sc_definitions.proofs.Lengths.{pow-same}
 use Rattle.sc_definitions.proofs.StandingLaws.{IsSized, length-entries_of, rows-entries_of, played_none}
 use Rattle.sc_table.specs.declared.poly.Poly.{Poly}
+use Rattle.sc_table.specs.declared.strategy.Basis.{Basis as BasisTag}
 use Rattle.sc_table.specs.declared.strategy.VariableOrder.{VariableOrder}
-use Rattle.sc_table.specs.Strategy.{order_of}
-use Rattle.sc_table.specs.Polys.{variables_of, table_of, IsFixedOf}
+use Rattle.sc_table.specs.Strategy.{basis_of, order_of}
+use Rattle.sc_table.specs.Polys.{variables_of, table_of}
 use Rattle.sc_table.proofs.EntryLaws.{entry-embedded}
 use Rattle.sc_transcript.specs.declared.error.SumcheckError.{SumcheckError}
 use Rattle.sc_transcript.specs.declared.error.SumcheckError.TheVariants.{NoMemory, NoWitness}
 use Rattle.sc_transcript.specs.declared.rounds.BatchShape.{BatchShape}
 use Rattle.sc_transcript.specs.Drivers.{Driver, HasRoundLeft, IsDone}
 use Rattle.sc_rounds.specs.declared.product_polynomial.ProductPolynomial.{ProductPolynomial}
-use Rattle.sc_rounds.specs.Products.{numbers_of, variables_in, order_in, evals_in, weights_in}
+use Rattle.sc_rounds.specs.Products.{numbers_of, variables_in, basis_in, order_in, evals_in, weights_in}
 use Rattle.sc_rounds.specs.Provers.{shown_of}
 use Rattle.sc_definitions.specs.Shown.{Shown, message_shown, with_bound, setting_at, standing_at}
 use Rattle.sc_rounds.specs.BaseProducts.{based, BaseAgrees}
@@ -52,29 +53,29 @@ base_round {o} {c} {s} {hist} {hist'} {w} {w'} {values} witness {r} message left
     let next : s.variables ≡ suc n = omega (arith, left) in
     moves (setting_at c o s) (standing_at s hist w) (standing_at (with_bound o s r) hist' w') values witness r sent wire more
     (record { evals = length-entries_of n _; weights = length-entries_of n _ })
-    (message ∙ ap (λ k. message_of evaluation s.order o (half_rows k) (rows_of s.evals) (rows_of s.weights)) next)
-    (rows-entries_of n _) (rows-entries_of n _) (ap (λ v. next_claim evaluation o s.claim v r) (sym message))
+    (message ∙ ap (λ k. message_of s.basis s.order o (half_rows k) (rows_of s.evals) (rows_of s.weights)) next)
+    (rows-entries_of n _) (rows-entries_of n _) (ap (λ v. next_claim s.basis o s.claim v r) (sym message))
 
 -- the pair of the bound tables shows what is bound
 pub base_bound : {F EF : Type 0} (o : Ops) (number : EF → ℕ) (p : ProductPolynomial F EF) (claim : EF) (s : Shown) (r : ℕ) →
-    order_in p ≡ s.order → s.variables ≡ variables_in p + 1 →
-    ((b : ℕ) → b < 2 ^ variables_in p → evals_in number p b ≡ bound_in evaluation s.order o (variables_in p) r (rows_of s.evals) b) →
-    ((b : ℕ) → b < 2 ^ variables_in p → weights_in number p b ≡ bound_in evaluation s.order o (variables_in p) r (rows_of s.weights) b) →
-    number claim ≡ next_claim evaluation o s.claim (message_shown o s) r → shown_of number p claim ≡ with_bound o s r
+    basis_in p ≡ s.basis → order_in p ≡ s.order → s.variables ≡ variables_in p + 1 →
+    ((b : ℕ) → b < 2 ^ variables_in p → evals_in number p b ≡ bound_in s.basis s.order o (variables_in p) r (rows_of s.evals) b) →
+    ((b : ℕ) → b < 2 ^ variables_in p → weights_in number p b ≡ bound_in s.basis s.order o (variables_in p) r (rows_of s.weights) b) →
+    number claim ≡ next_claim s.basis o s.claim (message_shown o s) r → shown_of number p claim ≡ with_bound o s r
 unfolding entries rows_of
-base_bound o number p claim s r order fewer evals weights is =
+base_bound o number p claim s r basis order fewer evals weights is =
     let m = variables_in p in
     let less : m ≡ s.variables - 1 = omega (arith, fewer) in
-    let e = bound_list o s.order s.variables m r s.evals (numbers_of number p.evals) fewer (pair_rows number p).0 evals in
-    let w = bound_list o s.order s.variables m r s.weights (numbers_of number p.weights) fewer (pair_rows number p).1 weights in
-    λ i. record { order = order i; variables = less i; evals = e i; weights = w i; claim = is i }
+    let e = bound_list o s.basis s.order s.variables m r s.evals (numbers_of number p.evals) fewer (pair_rows number p).0 evals in
+    let w = bound_list o s.basis s.order s.variables m r s.weights (numbers_of number p.weights) fewer (pair_rows number p).1 weights in
+    λ i. record { basis = basis i; order = order i; variables = less i; evals = e i; weights = w i; claim = is i }
 
 -- A table of base elements and its weights are bound at r: e and w' are what is left of them.
-pub record AreBound {EF : Type 0} (o : Ops) (number : EF → ℕ) (order : Order) (r : ℕ) (f : ℕ → ℕ) (w e w' : Poly EF) : Type 0 where
+pub record AreBound {EF : Type 0} (o : Ops) (number : EF → ℕ) (basis : Basis) (order : Order) (r : ℕ) (f : ℕ → ℕ) (w e w' : Poly EF) : Type 0 where
   pub fewer : variables_of w ≡ variables_of w' + 1
   pub same : variables_of e ≡ variables_of w'
-  pub evals : (b : ℕ) → b < 2 ^ variables_of e → table_of number e b ≡ bound_in evaluation order o (variables_of e) r f b
-  pub weights : (b : ℕ) → b < 2 ^ variables_of w' → table_of number w' b ≡ bound_in evaluation order o (variables_of w') r (table_of number w) b
+  pub evals : (b : ℕ) → b < 2 ^ variables_of e → table_of number e b ≡ bound_in basis order o (variables_of e) r f b
+  pub weights : (b : ℕ) → b < 2 ^ variables_of w' → table_of number w' b ≡ bound_in basis order o (variables_of w') r (table_of number w) b
 
 -- both tables have one variable less
 pub one_fewer : (n v w u : ℕ) → n ≡ 2 ^ w → n ≡ 2 ^ (v + 1) → w ≡ u + 1 → v ≡ u
@@ -83,37 +84,39 @@ one_fewer n v w u before is less =
     omega (arith, same, less)
 
 -- the weights were bound in their place, and then moved to less memory
-pub are_bound : {EF : Type 0} (o : Ops) (number : EF → ℕ) (order : Order) (r rows : ℕ) (f : ℕ → ℕ) (w bound e w' : Poly EF) → rows ≡ 2 ^ variables_of w →
+pub are_bound : {EF : Type 0} (o : Ops) (number : EF → ℕ) (basis : Basis) (order : Order) (r rows : ℕ) (f : ℕ → ℕ) (w bound e w' : Poly EF) → rows ≡ 2 ^ variables_of w →
     variables_of w ≡ variables_of bound + 1 →
-    ((b : ℕ) → b < 2 ^ variables_of bound → table_of number bound b ≡ bound_in evaluation order o (variables_of bound) r (table_of number w) b) →
-    variables_of w' ≡ variables_of bound → table_of number w' ≡ table_of number bound → IsFixedOf order o number r f rows e → AreBound o number order r f w e w'
-are_bound o number order r rows f w bound e w' size fewer rows_are moved same fixed = record {
+    ((b : ℕ) → b < 2 ^ variables_of bound → table_of number bound b ≡ bound_in basis order o (variables_of bound) r (table_of number w) b) →
+    variables_of w' ≡ variables_of bound → table_of number w' ≡ table_of number bound →
+    rows ≡ 2 ^ (variables_of e + 1) → ((b : ℕ) → b < 2 ^ variables_of e → table_of number e b ≡ bound_in basis order o (variables_of e) r f b) →
+    AreBound o number basis order r f w e w'
+are_bound o number basis order r rows f w bound e w' size fewer rows_are moved same halved fixed = record {
   fewer = fewer ∙ ap (λ k. k + 1) (sym moved);
-  same = one_fewer _ _ _ _ size fixed.fewer fewer ∙ sym moved;
-  evals = fixed.rows_are;
+  same = one_fewer _ _ _ _ size halved fewer ∙ sym moved;
+  evals = fixed;
   weights = λ b low. ap (λ t. t b) same ∙ rows_are b (subst (λ k. b < 2 ^ k) moved low)
-      ∙ ap (λ k. bound_in evaluation order o k r (table_of number w) b) (sym moved);
+      ∙ ap (λ k. bound_in basis order o k r (table_of number w) b) (sym moved);
 }
 
 -- the pair of both shows what is bound
 pub base_pair : {F EF : Type 0} (o : Ops) (number : EF → ℕ) (h : ℕ → ℕ) (read : F → ℕ) → h 0 ≡ 0 →
-    (order : VariableOrder) (xs : List F) (w e w' : Poly EF) (sum claim : EF) (r : ℕ) (p : ProductPolynomial F EF) →
-    AreBound o number (order_of order) r (λ b. h (entries read xs b)) w e w' →
-    variables_in p ≡ variables_of e → order_in p ≡ order_of order → evals_in number p ≡ table_of number e → weights_in number p ≡ table_of number w' →
-    number claim ≡ next_claim evaluation o (number sum) (message_shown o (based (λ x. h (read x)) number order xs w sum)) r →
-    shown_of number p claim ≡ with_bound o (based (λ x. h (read x)) number order xs w sum) r
+    (basis : BasisTag) (order : VariableOrder) (xs : List F) (w e w' : Poly EF) (sum claim : EF) (r : ℕ) (p : ProductPolynomial F EF) →
+    AreBound o number (basis_of basis) (order_of order) r (λ b. h (entries read xs b)) w e w' →
+    variables_in p ≡ variables_of e → basis_in p ≡ basis_of basis → order_in p ≡ order_of order → evals_in number p ≡ table_of number e → weights_in number p ≡ table_of number w' →
+    number claim ≡ next_claim (basis_of basis) o (number sum) (message_shown o (based (λ x. h (read x)) number basis order xs w sum)) r →
+    shown_of number p claim ≡ with_bound o (based (λ x. h (read x)) number basis order xs w sum) r
 unfolding entries rows_of
-base_pair o number h read zero_kept order xs w e w' sum claim r p are count order_is evals weights is =
-    let s = based (λ x. h (read x)) number order xs w sum in
+base_pair o number h read zero_kept basis order xs w e w' sum claim r p are count basis_is order_is evals weights is =
+    let s = based (λ x. h (read x)) number basis order xs w sum in
     let v = variables_in p in
     let f : ℕ → ℕ = λ b. h (entries read xs b) in
     let size : v ≡ variables_of w' = count ∙ are.same in
-    base_bound o number p claim s r order_is (are.fewer ∙ ap (λ k. k + 1) (sym size))
+    base_bound o number p claim s r basis_is order_is (are.fewer ∙ ap (λ k. k + 1) (sym size))
     (λ b low. ap (λ t. t b) evals ∙ are.evals b (subst (λ k. b < 2 ^ k) count low)
-    ∙ ap (λ k. bound_in evaluation (order_of order) o k r f b) (sym count)
-    ∙ ap (λ t. bound_in evaluation (order_of order) o v r t b) (sym (image_entries h read xs zero_kept)))
+    ∙ ap (λ k. bound_in (basis_of basis) (order_of order) o k r f b) (sym count)
+    ∙ ap (λ t. bound_in (basis_of basis) (order_of order) o v r t b) (sym (image_entries h read xs zero_kept)))
     (λ b low. ap (λ t. t b) weights ∙ are.weights b (subst (λ k. b < 2 ^ k) size low)
-    ∙ ap (λ k. bound_in evaluation (order_of order) o k r (table_of number w) b) (sym size)) is
+    ∙ ap (λ k. bound_in (basis_of basis) (order_of order) o k r (table_of number w) b) (sym size)) is
 
 -- what holds of an error holds of a result that passes it on
 pub err_as : {X E : Type 0} (r : Result X E) (e : E) (P : E → Type 0) → IsErrAnd r (λ x. x ≡ e) → P e → IfErr r P

@@ -2,12 +2,12 @@
 use Rattle.std.proofs.Common.{◌≡◌, ℕ, zero, suc, ◌-◌, ◌^◌, ◌<◌, List, [], ◌∷◌, length, map, Option, Some, None, refl, ap, sym, ◌∙◌, subst, arith}
 use Rattle.std.proofs.lemmas.List.{length-map}
 use Rattle.sc_definitions.specs.Ring.{Ops, IsRing, IsRingMap, IsRepresentation}
-use Rattle.sc_definitions.specs.Tables.{evaluation, Order, prefix, suffix, entries, rows_of, bound, bound_low, bound_in}
+use Rattle.sc_definitions.specs.Tables.{Basis, evaluation, projective, Order, prefix, suffix, entries, rows_of, bound, bound_low, bound_coefficients, bound_in}
 use Rattle.sc_definitions.specs.Standings.{entries_of}
 use Rattle.sc_definitions.proofs.RingLaws.{size_pos, plus_below}
 use Rattle.sc_definitions.proofs.StandingLaws.{length-entries_of, rows-entries_of, entries-is}
 use Rattle.sc_rounds.specs.declared.product_polynomial.ProductPolynomial.{ProductPolynomial}
-use Rattle.sc_rounds.specs.Products.{numbers_of, variables_in, order_in}
+use Rattle.sc_rounds.specs.Products.{numbers_of, variables_in, basis_in, order_in}
 use Rattle.sc_rounds.specs.Provers.{number_if_some, IsLeftFor, left_of, bound_now, held_shown}
 use Rattle.sc_definitions.specs.Shown.{Shown, imaged, IsTrueClaim}
 use Rattle.sc_definitions.proofs.MappedRounds.{image_rows, image_bound, below_entries, represented_sum}
@@ -20,17 +20,18 @@ rows_below size positive [] all k = positive
 rows_below size positive (x ∷ xs) all zero = all zero (omega arith)
 rows_below size positive (x ∷ xs) all (suc k) = rows_below size positive xs (λ j low. all (suc j) (omega (arith, low))) k
 
-bound_below : (o : Ops) → IsRing o → (order : Order) (m r : ℕ) (f : ℕ → ℕ) (k : ℕ) → bound_in evaluation order o m r f k < o.size
-unfolding bound bound_low
-bound_below o ring prefix m r f k = plus_below o ring _ _
-bound_below o ring suffix m r f k = plus_below o ring _ _
+bound_below : (o : Ops) → IsRing o → (basis : Basis) (order : Order) (m r : ℕ) (f : ℕ → ℕ) (k : ℕ) → bound_in basis order o m r f k < o.size
+unfolding bound bound_low bound_coefficients
+bound_below o ring evaluation prefix m r f k = plus_below o ring _ _
+bound_below o ring evaluation suffix m r f k = plus_below o ring _ _
+bound_below o ring projective order m r f k = plus_below o ring _ _
 
-bound_rows_below : (o : Ops) → IsRing o → (order : Order) (m r : ℕ) (f : ℕ → ℕ) (k : ℕ) → rows_of (entries_of m (bound_in evaluation order o m r f)) k < o.size
-bound_rows_below o ring order m r f =
-    let g = bound_in evaluation order o m r f in
+bound_rows_below : (o : Ops) → IsRing o → (basis : Basis) (order : Order) (m r : ℕ) (f : ℕ → ℕ) (k : ℕ) → rows_of (entries_of m (bound_in basis order o m r f)) k < o.size
+bound_rows_below o ring basis order m r f =
+    let g = bound_in basis order o m r f in
     rows_below o.size (size_pos o ring) (entries_of m g)
     (λ k low. let row : k < 2 ^ m = subst (λ n. k < n) (length-entries_of m g) low in
-    subst (λ n. n < o.size) (sym (rows-entries_of m g k row)) (bound_below o ring order m r f k))
+    subst (λ n. n < o.size) (sym (rows-entries_of m g k row)) (bound_below o ring basis order m r f k))
 
 -- what a pair shows has elements alone
 pub held_below : {F EF : Type 0} (o : Ops) → IsRing o → (h : ℕ → ℕ) → (b : Ops) → IsRing b → IsRingMap o b h → (number : EF → ℕ) → ((x : EF) → number x < o.size) →
@@ -42,31 +43,31 @@ held_below o ring h b rb image number below p s None = record {
   claim = below s;
 }
 held_below o ring h b rb image number below p s (Some r) = record {
-  evals = bound_rows_below o ring (order_in p) (variables_in p - 1) (number r) (rows_of (numbers_of number p.evals));
-  weights = bound_rows_below o ring (order_in p) (variables_in p - 1) (number r) (rows_of (numbers_of number p.weights));
+  evals = bound_rows_below o ring (basis_in p) (order_in p) (variables_in p - 1) (number r) (rows_of (numbers_of number p.evals));
+  weights = bound_rows_below o ring (basis_in p) (order_in p) (variables_in p - 1) (number r) (rows_of (numbers_of number p.weights));
   claim = below s;
 }
 
 -- the list of the images of a bound table
-image_entries : (a b : Ops) → (ra : IsRing a) (rb : IsRing b) (h : ℕ → ℕ) (image : IsRingMap a b h) (order : Order) (n r : ℕ) (xs : List ℕ) → ((k : ℕ) → rows_of xs k < a.size) → r < a.size →
-    map h (entries_of n (bound_in evaluation order a n r (rows_of xs))) ≡ entries_of n (bound_in evaluation order b n (h r) (rows_of (map h xs)))
-image_entries a b ra rb h image order n r xs below low =
-    let ys = entries_of n (bound_in evaluation order a n r (rows_of xs)) in
+image_entries : (a b : Ops) → (ra : IsRing a) (rb : IsRing b) (h : ℕ → ℕ) (image : IsRingMap a b h) (basis : Basis) (order : Order) (n r : ℕ) (xs : List ℕ) → ((k : ℕ) → rows_of xs k < a.size) → r < a.size →
+    map h (entries_of n (bound_in basis order a n r (rows_of xs))) ≡ entries_of n (bound_in basis order b n (h r) (rows_of (map h xs)))
+image_entries a b ra rb h image basis order n r xs below low =
+    let ys = entries_of n (bound_in basis order a n r (rows_of xs)) in
     entries-is n (map h ys) _ (length-map ys h ∙ length-entries_of n _)
-    (image_bound a b ra rb h image order n r (h r) (rows_of xs) (rows_of ys) _ _ below low refl (image_rows a b ra rb h image xs) (image_rows a b ra rb h image ys) (rows-entries_of n _))
+    (image_bound a b ra rb h image basis order n r (h r) (rows_of xs) (rows_of ys) _ _ below low refl (image_rows a b ra rb h image xs) (image_rows a b ra rb h image ys) (rows-entries_of n _))
 
 module _ (a b : Ops) (ra : IsRing a) (rb : IsRing b) (h : ℕ → ℕ) (image : IsRingMap a b h) where
   -- a list with a held challenge bound, and its images
-  image_now : {X Y : Type 0} (number : X → ℕ) (other : Y → ℕ) → ((x : X) → number x < a.size) → (order : Order) (n : ℕ) (held : Option X) (held' : Option Y) (xs : List ℕ) → ((k : ℕ) → rows_of xs k < a.size) →
+  image_now : {X Y : Type 0} (number : X → ℕ) (other : Y → ℕ) → ((x : X) → number x < a.size) → (basis : Basis) (order : Order) (n : ℕ) (held : Option X) (held' : Option Y) (xs : List ℕ) → ((k : ℕ) → rows_of xs k < a.size) →
       number_if_some (λ x. h (number x)) held ≡ number_if_some other held' →
-      map h (bound_now a number order n held xs) ≡ bound_now b other order n held' (map h xs)
-  image_now number other low order n None None xs below same = refl
-  image_now number other low order n (Some r) (Some r') xs below same =
+      map h (bound_now a number basis order n held xs) ≡ bound_now b other basis order n held' (map h xs)
+  image_now number other low basis order n None None xs below same = refl
+  image_now number other low basis order n (Some r) (Some r') xs below same =
       let r_is : h (number r) ≡ other r' = cc same in
-      image_entries a b ra rb h image order (n - 1) (number r) xs below (low r)
-      ∙ ap (λ t. entries_of (n - 1) (bound_in evaluation order b (n - 1) t (rows_of (map h xs)))) r_is
-  image_now number other low order n None (Some r') xs below same = cc
-  image_now number other low order n (Some r) None xs below same = cc
+      image_entries a b ra rb h image basis order (n - 1) (number r) xs below (low r)
+      ∙ ap (λ t. entries_of (n - 1) (bound_in basis order b (n - 1) t (rows_of (map h xs)))) r_is
+  image_now number other low basis order n None (Some r') xs below same = cc
+  image_now number other low basis order n (Some r) None xs below same = cc
 
   left_now : {X Y : Type 0} (number : X → ℕ) (other : Y → ℕ) → (n : ℕ) (held : Option X) (held' : Option Y) → number_if_some number held ≡ number_if_some other held' → left_of n held ≡ left_of n held'
   left_now number other n None None same = refl
@@ -76,22 +77,23 @@ module _ (a b : Ops) (ra : IsRing a) (rb : IsRing b) (h : ℕ → ℕ) (image : 
 
   -- what the images show, by the images of the stored tables, the challenge and the claim
   pub image_held : {F X G Y : Type 0} (number : X → ℕ) (other : Y → ℕ) → ((x : X) → number x < a.size) → (p : ProductPolynomial F X) (q : ProductPolynomial G Y)
-      (held : Option X) (held' : Option Y) (s : X) (s' : Y) → order_in p ≡ order_in q → variables_in p ≡ variables_in q →
+      (held : Option X) (held' : Option Y) (s : X) (s' : Y) → basis_in p ≡ basis_in q → order_in p ≡ order_in q → variables_in p ≡ variables_in q →
       map h (numbers_of number p.evals) ≡ numbers_of other q.evals → map h (numbers_of number p.weights) ≡ numbers_of other q.weights →
       number_if_some (λ x. h (number x)) held ≡ number_if_some other held' → h (number s) ≡ other s' →
       imaged h (held_shown a number p held s) ≡ held_shown b other q held' s'
   unfolding entries rows_of
-  image_held number other low p q held held' s s' order size evals weights same claim =
+  image_held number other low p q held held' s s' basis order size evals weights same claim =
       let n = variables_in p in
-      let now : List ℕ → List ℕ = bound_now b other (order_in p) n held' in
+      let now : List ℕ → List ℕ = bound_now b other (basis_in p) (order_in p) n held' in
       let table : (xs ys : List ℕ) → ((k : ℕ) → rows_of xs k < a.size) → map h xs ≡ ys →
-      map h (bound_now a number (order_in p) n held xs) ≡ bound_now b other (order_in q) (variables_in q) held' ys =
-      λ xs ys below is. image_now number other low (order_in p) n held held' xs below same
-      ∙ ap now is ∙ ap (λ t. bound_now b other t n held' ys) order ∙ ap (λ k. bound_now b other (order_in q) k held' ys) size in
+      map h (bound_now a number (basis_in p) (order_in p) n held xs) ≡ bound_now b other (basis_in q) (order_in q) (variables_in q) held' ys =
+      λ xs ys below is. image_now number other low (basis_in p) (order_in p) n held held' xs below same
+      ∙ ap now is ∙ ap (λ t. bound_now b other t (order_in p) n held' ys) basis ∙ ap (λ t. bound_now b other (basis_in q) t n held' ys) order
+      ∙ ap (λ k. bound_now b other (basis_in q) (order_in q) k held' ys) size in
       let E = table (numbers_of number p.evals) (numbers_of other q.evals) (below_entries a b ra rb h image number low p.evals.evals.items) evals in
       let W = table (numbers_of number p.weights) (numbers_of other q.weights) (below_entries a b ra rb h image number low p.weights.evals.items) weights in
       let V = left_now (λ x. h (number x)) other n held held' same ∙ ap (λ k. left_of k held') size in
-      λ i. record { order = order i; variables = V i; evals = E i; weights = W i; claim = claim i }
+      λ i. record { basis = basis i; order = order i; variables = V i; evals = E i; weights = W i; claim = claim i }
 
 -- a claim whose image is true is true
 pub true_back : (e r : Ops) (ring_e : IsRing e) (ring : IsRing r) (from to : ℕ → ℕ) → (rep : IsRepresentation e r from to) → (s : Shown) → IsBelow r s →

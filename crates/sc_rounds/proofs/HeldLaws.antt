@@ -1,15 +1,15 @@
 -- A pair of tables under a claim, where a challenge is held or none.
 use Rattle.std.proofs.Common.{◌≡◌, ℕ, suc, ◌+◌, ◌-◌, ◌^◌, ◌<◌, List, [], ◌∷◌, length, Option, Some, None, refl, ap, sym, ◌∙◌, subst, arith}
 use Rattle.sc_definitions.specs.Ring.{Ops, IsRing, plus, times}
-use Rattle.sc_definitions.specs.Tables.{evaluation, Order, entries, rows_of, inner, bound_in}
+use Rattle.sc_definitions.specs.Tables.{Basis, Order, IsOffered, entries, rows_of, inner, bound_in}
 use Rattle.sc_definitions.specs.Messages.{message_of}
 use Rattle.sc_definitions.specs.Rounds.{next_claim}
 use Rattle.sc_definitions.specs.Standings.{half_rows, entries_of}
 use Rattle.sc_definitions.proofs.StandingLaws.{length-entries_of, rows-entries_of, entries-is}
 use Rattle.sc_rounds.specs.declared.product_polynomial.ProductPolynomial.{ProductPolynomial}
-use Rattle.sc_rounds.specs.Products.{numbers_of, variables_in, order_in, pair_message, BindsPair}
-use Rattle.sc_rounds.specs.Provers.{shown_of, IsLeftFor, left_of, held_shown, number_if_some}
-use Rattle.sc_definitions.specs.Shown.{Shown, message_shown, with_bound, sum_with, IsTrueClaim, with_added, with_scaled, honest_shown, imaged}
+use Rattle.sc_rounds.specs.Products.{numbers_of, variables_in, basis_in, order_in, pair_message, BindsPair}
+use Rattle.sc_rounds.specs.Provers.{shown_of, IsLeftFor, left_of, held_shown, stored_of, number_if_some}
+use Rattle.sc_definitions.specs.Shown.{Shown, settled_as, message_shown, with_bound, sum_with, IsTrueClaim, with_added, with_scaled, honest_shown, imaged}
 use Rattle.sc_table.proofs.HonestLaws.{honest_pair-first}
 use mathlib.Core.List.{map-id}
 use Rattle.sc_definitions.proofs.Sums.{sum-same, times-sum}
@@ -18,12 +18,12 @@ use Rattle.sc_rounds.proofs.PairRounds.{pair_rows}
 use Rattle.sc_definitions.proofs.PairMoves.{sum_after}
 use Rattle.sc_definitions.proofs.StatementLaws.{inner-parts_of}
 
-pub bound_list : (o : Ops) (order : Order) (n m r : ℕ) (xs ys : List ℕ) → n ≡ m + 1 → length ys ≡ 2 ^ m →
-    ((b : ℕ) → b < 2 ^ m → rows_of ys b ≡ bound_in evaluation order o m r (rows_of xs) b) →
-    ys ≡ entries_of (n - 1) (bound_in evaluation order o (n - 1) r (rows_of xs))
-bound_list o order n m r xs ys fewer size bound =
+pub bound_list : (o : Ops) (basis : Basis) (order : Order) (n m r : ℕ) (xs ys : List ℕ) → n ≡ m + 1 → length ys ≡ 2 ^ m →
+    ((b : ℕ) → b < 2 ^ m → rows_of ys b ≡ bound_in basis order o m r (rows_of xs) b) →
+    ys ≡ entries_of (n - 1) (bound_in basis order o (n - 1) r (rows_of xs))
+bound_list o basis order n m r xs ys fewer size bound =
     let less : m ≡ n - 1 = omega (arith, fewer) in
-    entries-is m ys _ size bound ∙ ap (λ k. entries_of k (bound_in evaluation order o k r (rows_of xs))) less
+    entries-is m ys _ size bound ∙ ap (λ k. entries_of k (bound_in basis order o k r (rows_of xs))) less
 
 module _ {F EF : Type 0} (o : Ops) (number : EF → ℕ) where
   -- what is shown where none is held
@@ -38,10 +38,10 @@ module _ {F EF : Type 0} (o : Ops) (number : EF → ℕ) where
       let n = variables_in p in
       let m = variables_in p' in
       let less : m ≡ n - 1 = omega (arith, b.fewer) in
-      let evals = bound_list o (order_in p) n m (number r) (numbers_of number p.evals) (numbers_of number p'.evals) b.fewer (pair_rows number p').0 b.evals in
-      let weights = bound_list o (order_in p) n m (number r) (numbers_of number p.weights) (numbers_of number p'.weights) b.fewer (pair_rows number p').1 b.weights in
+      let evals = bound_list o (basis_in p) (order_in p) n m (number r) (numbers_of number p.evals) (numbers_of number p'.evals) b.fewer (pair_rows number p').0 b.evals in
+      let weights = bound_list o (basis_in p) (order_in p) n m (number r) (numbers_of number p.weights) (numbers_of number p'.weights) b.fewer (pair_rows number p').1 b.weights in
       let bound : shown_of number p' s ≡ held_shown o number p (Some r) s =
-      λ i. record { order = b.order i; variables = less i; evals = evals i; weights = weights i; claim = number s } in
+      λ i. record { basis = b.basis i; order = b.order i; variables = less i; evals = evals i; weights = weights i; claim = number s } in
       bound ∙ ap (λ h. held_shown o number p h s) (sym is)
 
   -- as many entries are shown as rows are left
@@ -58,24 +58,24 @@ module _ {F EF : Type 0} (o : Ops) (number : EF → ℕ) where
 
   -- what is shown where a challenge is held that was drawn on a message
   pub bound_shown : (p : ProductPolynomial F EF) (s s' r : EF) (held : Option EF) (message : List ℕ) → held ≡ None →
-      message ≡ message_shown o (held_shown o number p held s) → number s' ≡ next_claim evaluation o (number s) message (number r) →
+      message ≡ message_shown o (held_shown o number p held s) → number s' ≡ next_claim (basis_in p) o (number s) message (number r) →
       held_shown o number p (Some r) s' ≡ with_bound o (held_shown o number p held s) (number r)
   bound_shown p s s' r held message none is claim =
       let pair = shown_of number p s in
-      let e : number s' ≡ next_claim evaluation o (number s) (message_shown o pair) (number r) =
-      claim ∙ ap (λ v. next_claim evaluation o (number s) v (number r)) (is ∙ ap (message_shown o) (none_held p s held none)) in
+      let e : number s' ≡ next_claim (basis_in p) o (number s) (message_shown o pair) (number r) =
+      claim ∙ ap (λ v. next_claim (basis_in p) o (number s) v (number r)) (is ∙ ap (message_shown o) (none_held p s held none)) in
       let bound : held_shown o number p (Some r) s' ≡ with_bound o pair (number r) =
-      λ i. record { order = order_in p; variables = variables_in p - 1; evals = (with_bound o pair (number r)).evals; weights = (with_bound o pair (number r)).weights; claim = e i } in
+      λ i. record { basis = basis_in p; order = order_in p; variables = variables_in p - 1; evals = (with_bound o pair (number r)).evals; weights = (with_bound o pair (number r)).weights; claim = e i } in
       bound ∙ ap (λ t. with_bound o t (number r)) (sym (none_held p s held none))
 
 -- the claim with the next variable bound is true
-pub true_bound : (o : Ops) → IsRing o → (s : Shown) (r : ℕ) → 0 < s.variables → IsTrueClaim o s → IsTrueClaim o (with_bound o s r)
-true_bound o ring s r left true_claim =
+pub true_bound : (o : Ops) → IsRing o → (s : Shown) → IsOffered s.basis s.order → (r : ℕ) → 0 < s.variables → IsTrueClaim o s → IsTrueClaim o (with_bound o s r)
+true_bound o ring s offered r left true_claim =
     let m = s.variables - 1 in
     let more : s.variables ≡ m + 1 = omega (arith, left) in
     let next : s.variables ≡ suc m = omega (arith, left) in
-    sum_after s.order o ring s.variables m (rows_of s.evals) (rows_of s.weights) s.claim (message_shown o s) r _ _ _ more true_claim
-    (ap (λ k. message_of evaluation s.order o (half_rows k) (rows_of s.evals) (rows_of s.weights)) next)
+    sum_after s.basis s.order offered o ring s.variables m (rows_of s.evals) (rows_of s.weights) s.claim (message_shown o s) r _ _ _ more true_claim
+    (ap (λ k. message_of s.basis s.order o (half_rows k) (rows_of s.evals) (rows_of s.weights)) next)
     (rows-entries_of m _) (rows-entries_of m _) refl
 
 -- a variable is left for a challenge where one was left before it
@@ -98,6 +98,11 @@ settled_pair o number p s held t none kept = sym (none_held o number p s held no
 -- no variable is wanted where none is held
 pub none_wanted : {X : Type 0} (n : ℕ) (held : Option X) → held ≡ None → IsLeftFor held n
 none_wanted n held none r is = nothing_held r (sym none ∙ is)
+
+-- what is kept where no challenge is held
+pub stored_settled : {F EF : Type 0} (o : Ops) (number : EF → ℕ) (p : ProductPolynomial F EF) (s : EF) (held : Option EF) (t : Shown) →
+    held ≡ None → held_shown o number p held s ≡ t → stored_of number p held ≡ settled_as t
+stored_settled o number p s held t none kept = ap (stored_of number p) none ∙ ap settled_as (settled_pair o number p s held t none kept)
 
 -- ---- claims that are moved stay true
 
@@ -125,12 +130,12 @@ module _ (o : Ops) (ring : IsRing o) where
 -- ---- what readers ask
 
 -- what an honest round sends is the message of what is shown
-pub honest_message : (o : Ops) → IsRing o → (s : Shown) → 0 < s.variables → honest_shown o s ≡ message_shown o s
-honest_message o ring s left =
+pub honest_message : (o : Ops) → IsRing o → (s : Shown) → IsOffered s.basis s.order → 0 < s.variables → honest_shown o s ≡ message_shown o s
+honest_message o ring s offered left =
     let m = s.variables - 1 in
     let next : suc m ≡ s.variables = omega (arith, left) in
-    honest_pair-first evaluation s.order tt o ring (rows_of s.evals) (rows_of s.weights) m
-    ∙ ap (λ k. message_of evaluation s.order o (half_rows k) (rows_of s.evals) (rows_of s.weights)) next
+    honest_pair-first s.basis s.order offered o ring (rows_of s.evals) (rows_of s.weights) m
+    ∙ ap (λ k. message_of s.basis s.order o (half_rows k) (rows_of s.evals) (rows_of s.weights)) next
 
 -- images under no map
 pub imaged_same : (s : Shown) → imaged (λ n. n) s ≡ s

@@ -1,8 +1,10 @@
 pub mod PairRounds
 pub mod HeldLaws
+pub mod TurnPairs
 pub mod HeldImages
 pub mod RepresentedLaws
 pub mod BaseLaws
 pub mod TakenLaws
 pub mod ShownLaws
 pub mod MovedEntries
+pub mod PlacedRounds

@@ -10,7 +10,7 @@ use Rattle.sc_table.specs.Polys.{variables_of, table_of}
 use Rattle.sc_table.specs.declared.poly.Poly.{Poly}
 use Rattle.sc_claims.specs.Batches.{gathered, AddsBatch}
 use Rattle.sc_rounds.specs.declared.product_polynomial.ProductPolynomial.{ProductPolynomial}
-use Rattle.sc_rounds.specs.Products.{numbers_of, variables_in, order_in, evals_in, weights_in, sum_in}
+use Rattle.sc_rounds.specs.Products.{numbers_of, variables_in, basis_in, order_in, evals_in, weights_in, sum_in}
 use Rattle.sc_rounds.specs.Provers.{Stated, shown_of, weight_of, claim_of}
 use Rattle.sc_definitions.specs.Shown.{sum_with, IsTrueClaim, with_added, with_scaled}
 use Rattle.sc_rounds.proofs.PairRounds.{pair_rows}
@@ -42,30 +42,30 @@ same_entries number p xs size same =
 
 module _ {F EF : Type 0} (number : EF → ℕ) where
   -- values are added to the weights and to the claim
-  pub shown_added : (o : Ops) (p p' : ProductPolynomial F EF) (s s' : EF) (v : ℕ → ℕ) (c : ℕ) → variables_in p' ≡ variables_in p → order_in p' ≡ order_in p →
+  pub shown_added : (o : Ops) (p p' : ProductPolynomial F EF) (s s' : EF) (v : ℕ → ℕ) (c : ℕ) → variables_in p' ≡ variables_in p → basis_in p' ≡ basis_in p → order_in p' ≡ order_in p →
       evals_in number p' ≡ evals_in number p → ((b : ℕ) → b < 2 ^ variables_in p → weights_in number p' b ≡ plus o (weights_in number p b) (v b)) →
       number s' ≡ plus o (number s) c → shown_of number p' s' ≡ with_added o (shown_of number p s) v c
   unfolding entries rows_of
-  shown_added o p p' s s' v c variables order evals weights claim =
+  shown_added o p p' s s' v c variables basis order evals weights claim =
       let same = same_lists number _ _ p.evals.evals.items p'.evals.evals.items (pair_rows number p).0 (pair_rows number p').0 variables evals in
       let more = entries-is (variables_in p) (numbers_of number p'.weights) _ ((pair_rows number p').1 ∙ ap (λ n. 2 ^ n) variables) weights in
-      λ i. record { order = order i; variables = variables i; evals = same i; weights = more i; claim = claim i }
+      λ i. record { basis = basis i; order = order i; variables = variables i; evals = same i; weights = more i; claim = claim i }
 
   -- the weights and the claim are multiplied
-  pub shown_scaled : (o : Ops) (p p' : ProductPolynomial F EF) (s s' : EF) (k : ℕ) → variables_in p' ≡ variables_in p → order_in p' ≡ order_in p →
+  pub shown_scaled : (o : Ops) (p p' : ProductPolynomial F EF) (s s' : EF) (k : ℕ) → variables_in p' ≡ variables_in p → basis_in p' ≡ basis_in p → order_in p' ≡ order_in p →
       evals_in number p' ≡ evals_in number p → ((b : ℕ) → b < 2 ^ variables_in p → weights_in number p' b ≡ times o (weights_in number p b) k) →
       number s' ≡ times o (number s) k → shown_of number p' s' ≡ with_scaled o (shown_of number p s) k
   unfolding entries rows_of
-  shown_scaled o p p' s s' k variables order evals weights claim =
+  shown_scaled o p p' s s' k variables basis order evals weights claim =
       let same = same_lists number _ _ p.evals.evals.items p'.evals.evals.items (pair_rows number p).0 (pair_rows number p').0 variables evals in
       let more = entries-is (variables_in p) (numbers_of number p'.weights) _ ((pair_rows number p').1 ∙ ap (λ n. 2 ^ n) variables) weights in
-      λ i. record { order = order i; variables = variables i; evals = same i; weights = more i; claim = claim i }
+      λ i. record { basis = basis i; order = order i; variables = variables i; evals = same i; weights = more i; claim = claim i }
 
   -- a constraint is taken in
-  pub shown_taken : (o : Ops) (p p' : ProductPolynomial F EF) (s s' : EF) (c : Stated) → variables_in p' ≡ variables_in p → order_in p' ≡ order_in p →
+  pub shown_taken : (o : Ops) (p p' : ProductPolynomial F EF) (s s' : EF) (c : Stated) → variables_in p' ≡ variables_in p → basis_in p' ≡ basis_in p → order_in p' ≡ order_in p →
       evals_in number p' ≡ evals_in number p → AddsBatch o (variables_in p) c.challenge c.power c.statements (gathered (weights_in number p) (number s)) (gathered (weights_in number p') (number s')) →
       shown_of number p' s' ≡ with_added o (shown_of number p s) (weight_of o c) (claim_of o c)
-  shown_taken o p p' s s' c variables order evals added = shown_added o p p' s s' (weight_of o c) (claim_of o c) variables order evals added.weights added.sum
+  shown_taken o p p' s s' c variables basis order evals added = shown_added o p p' s s' (weight_of o c) (claim_of o c) variables basis order evals added.weights added.sum
 
   -- sums by the tables as functions
   pub sum_shown : (o : Ops) (p : ProductPolynomial F EF) (s : EF) (w : ℕ → ℕ) → sum_with o (shown_of number p s) w ≡ inner o (variables_in p) (evals_in number p) w

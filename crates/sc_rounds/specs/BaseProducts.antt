@@ -3,15 +3,17 @@ use Rattle.std.specs.Prelude.{◌≡◌, ℕ, ◌^◌, List, length, map}
 use Rattle.sc_definitions.specs.Ring.{Ops}
 use Rattle.sc_definitions.specs.Tables.{entries, inner}
 use Rattle.sc_table.specs.declared.poly.Poly.{Poly}
+use Rattle.sc_table.specs.declared.strategy.Basis.{Basis}
 use Rattle.sc_table.specs.declared.strategy.VariableOrder.{VariableOrder}
 use Rattle.sc_table.specs.Polys.{variables_of, table_of}
-use Rattle.sc_table.specs.Strategy.{order_of}
+use Rattle.sc_table.specs.Strategy.{basis_of, order_of}
 use Rattle.sc_rounds.specs.Products.{numbers_of}
 use Rattle.sc_definitions.specs.Shown.{Shown}
 
 -- what a prover of the images of base elements shows, where `of` is an image's number
-abbrev pub based : {F EF : Type 0} → (F → ℕ) → (EF → ℕ) → VariableOrder → List F → Poly EF → EF → Shown
-based of number order evals weights claim = record {
+abbrev pub based : {F EF : Type 0} → (F → ℕ) → (EF → ℕ) → Basis → VariableOrder → List F → Poly EF → EF → Shown
+based of number basis order evals weights claim = record {
+  basis = basis_of basis;
   order = order_of order;
   variables = variables_of weights;
   evals = map of evals;

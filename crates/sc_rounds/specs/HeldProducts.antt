@@ -2,7 +2,6 @@
 use Rattle.std.specs.Prelude.{◌≡◌, ℕ, List, map, Option, Some}
 use Rattle.std.specs.declared.cmp.PartialEq.{Ghosts as PartialEqOf}
 use Rattle.sc_definitions.specs.Ring.{Ops}
-use Rattle.sc_definitions.specs.declared.events.Event.{Event}
 use Rattle.sc_definitions.specs.Events.{Extension}
 use Rattle.sc_definitions.specs.Channels.{Channel, Wire}
 use Rattle.sc_definitions.specs.Standings.{Setting, Standing}
@@ -11,7 +10,6 @@ use Rattle.sc_challenger.specs.Parties.{Party}
 use Rattle.sc_challenger.specs.declared.challenger.Challenger.{Ghosts as ChallengerOf}
 use Rattle.sc_transcript.specs.declared.driver.RoundShape.{Ghosts as RoundShapeOf}
 use Rattle.sc_transcript.specs.declared.driver.Transcript.{Transcript}
-use Rattle.sc_transcript.specs.declared.transcript.SumcheckShape.{SumcheckShape}
 use Rattle.sc_transcript.specs.declared.data.SumcheckData.{SumcheckData}
 use Rattle.sc_transcript.specs.Drivers.{channel_of}
 use Rattle.sc_transcript.specs.Transcripts.{driver_in}
@@ -42,9 +40,9 @@ module _ {F EF : Type 0} {e : FieldOf EF} {q : PartialEqOf EF} where
   abbrev pub image_stored_in : (ℕ → ℕ) → HeldProduct F EF e q → Stored
   image_stored_in h t = stored_of (λ x. h (e.number x)) t.poly t.held
 
--- the batch of a shape that is asked of it, over a channel and an extension of a degree, from a challenger's history and a wire on
-abbrev pub batch_asked : Channel → Ops → Shown → Party → Wire → ℕ → SumcheckShape → Batch
-batch_asked c o s party sent degree shape = batch_at (setting_at c o s) (standing_at s party.history sent) degree shape
+-- the batch of so many rounds that is asked of it, over a channel and an extension of a degree, from a challenger's history and a wire on
+abbrev pub batch_asked : Channel → Ops → Shown → Party → Wire → ℕ → ℕ → Batch
+batch_asked c o s party sent degree rounds = batch_at (setting_at c o s) (standing_at s party.history sent) degree rounds
 
 module _ {C F EG S P : Type 0} {c : ChallengerOf C F} {f : FieldOf F} {q : PartialEqOf F} {r : RoundShapeOf S} where
   -- what stays where it is played in a transcript

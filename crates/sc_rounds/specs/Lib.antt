@@ -1,5 +1,6 @@
 pub mod Products
 pub mod Standings
+pub mod Placed
 pub mod Provers
 pub mod HeldProducts
 pub mod BaseProducts

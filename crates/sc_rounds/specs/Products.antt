@@ -1,11 +1,11 @@
 -- A pair of tables, by the numbers of its entries.
 use Rattle.std.specs.Prelude.{◌≡◌, ℕ, ◌+◌, ◌^◌, ◌<◌, List, map}
 use Rattle.sc_definitions.specs.Ring.{Ops}
-use Rattle.sc_definitions.specs.Tables.{evaluation, Order, inner, bound_in}
+use Rattle.sc_definitions.specs.Tables.{Basis, Order, inner, bound_in}
 use Rattle.sc_definitions.specs.Messages.{message_of}
 use Rattle.sc_definitions.specs.Standings.{half_rows}
 use Rattle.sc_table.specs.Polys.{variables_of, table_of}
-use Rattle.sc_table.specs.Strategy.{order_of}
+use Rattle.sc_table.specs.Strategy.{basis_of, order_of}
 use Rattle.sc_table.specs.declared.poly.Poly.{Poly}
 use Rattle.sc_rounds.specs.declared.product_polynomial.ProductPolynomial.{ProductPolynomial}
 
@@ -16,6 +16,10 @@ numbers_of number p = map number p.evals.items
 -- how many variables both tables have
 abbrev pub variables_in : {F EF : Type 0} → ProductPolynomial F EF → ℕ
 variables_in p = variables_of p.evals
+
+-- what the entries of both are
+abbrev pub basis_in : {F EF : Type 0} → ProductPolynomial F EF → Basis
+basis_in p = basis_of p.basis
 
 -- which variable a round binds
 abbrev pub order_in : {F EF : Type 0} → ProductPolynomial F EF → Order
@@ -35,13 +39,14 @@ sum_in o number p = inner o (variables_in p) (evals_in number p) (weights_in num
 
 -- the message of a round on the two
 abbrev pub pair_message : {F EF : Type 0} → Ops → (EF → ℕ) → ProductPolynomial F EF → List ℕ
-pair_message o number p = message_of evaluation (order_in p) o (half_rows (variables_in p)) (evals_in number p) (weights_in number p)
+pair_message o number p = message_of (basis_in p) (order_in p) o (half_rows (variables_in p)) (evals_in number p) (weights_in number p)
 
 -- Both tables have the variable that comes next bound at r.
 pub record BindsPair {F EF : Type 0} (o : Ops) (number : EF → ℕ) (r : ℕ) (old new : ProductPolynomial F EF) : Type 0 where
+  pub basis : basis_in new ≡ basis_in old
   pub order : order_in new ≡ order_in old
   pub fewer : variables_in old ≡ variables_in new + 1
   pub evals : (b : ℕ) → b < 2 ^ variables_in new →
-      evals_in number new b ≡ bound_in evaluation (order_in old) o (variables_in new) r (evals_in number old) b
+      evals_in number new b ≡ bound_in (basis_in old) (order_in old) o (variables_in new) r (evals_in number old) b
   pub weights : (b : ℕ) → b < 2 ^ variables_in new →
-      weights_in number new b ≡ bound_in evaluation (order_in old) o (variables_in new) r (weights_in number old) b
+      weights_in number new b ≡ bound_in (basis_in old) (order_in old) o (variables_in new) r (weights_in number old) b

@@ -1,10 +1,8 @@
 -- What clauses see of the two provers.
-use Rattle.std.specs.Prelude.{List, Option}
+use Rattle.std.specs.Prelude.{ℕ, List, Option, Some, None}
 use Rattle.sc_challenger.specs.Parties.{Party, channel_by}
 use Rattle.std.specs.declared.cmp.PartialEq.{Ghosts as PartialEqOf}
 use Rattle.sc_definitions.specs.declared.events.Event.{Event}
-use Rattle.sc_definitions.specs.Events.{Rules}
-use Rattle.sc_definitions.specs.Channels.{channel}
 use Rattle.sc_definitions.specs.Standings.{Standing}
 use Rattle.sc_field.specs.declared.field.Field.{Ghosts as FieldOf}
 use Rattle.sc_field.specs.declared.algebra.Algebra.{Ghosts as AlgebraOf}
@@ -12,12 +10,11 @@ use Rattle.sc_field.specs.declared.algebra.ExtensionField.{Ghosts as ExtensionOf
 use Rattle.sc_field.specs.declared.representation.FromTable.{Ghosts as FromTableOf}
 use Rattle.sc_statements.specs.declared.constraint.Constraint.{Constraint}
 use Rattle.sc_transcript.specs.Data.{wire_in}
-use Rattle.sc_transcript.specs.declared.transcript.SumcheckShape.{SumcheckShape}
 use Rattle.sc_transcript.specs.declared.data.SumcheckData.{SumcheckData}
 use Rattle.sc_rounds.specs.declared.strategy.SumcheckProver.{SumcheckProver}
 use Rattle.sc_rounds.specs.declared.strategy.repr.ReprSumcheckProver.{ReprSumcheckProver}
 use Rattle.sc_rounds.specs.Provers.{Stated, held_shown, stored_of, stated, stated_if_some, IsTrueConstraint, IsTrueIfSome, with_taken}
-use Rattle.sc_definitions.specs.Shown.{Shown, Stored, imaged, setting_at, standing_at}
+use Rattle.sc_definitions.specs.Shown.{Shown, Stored, imaged, settled_as, setting_at, standing_at}
 use Rattle.sc_transcript.specs.Batches.{Batch, batch_at}
 
 module _ {F EF : Type 0} {f : FieldOf F} {p : PartialEqOf F} {x : ExtensionOf EF F} {a : AlgebraOf EF F} {e : FieldOf EF} {q : PartialEqOf EF} where
@@ -49,10 +46,16 @@ module _ {F EF : Type 0} {f : FieldOf F} {p : PartialEqOf F} {x : ExtensionOf EF
   abbrev pub standing_of : SumcheckProver F EF f p x a e q → SumcheckData F EF → List Event → Standing
   standing_of s d h = standing_at (shown_by s) h (wire_in f.number e.number d)
 
-  -- the batch of a shape, with a constraint if there is one, that is asked of it where a challenger answers by these rules and has this history
-  abbrev pub batch_of : SumcheckProver F EF f p x a e q → Option (Constraint F EF) → SumcheckData F EF → Party → SumcheckShape → Batch
-  batch_of s c d party shape =
-      batch_at (setting_at (channel_by party x.extension f.ops.size shape.pow_bits) e.ops (shown_by s)) (standing_at (shown_with s c) party.history (wire_in f.number e.number d)) x.DEGREE shape
+  -- what is kept of it then: where one is taken in, the tables are settled first
+  abbrev pub stored_with : SumcheckProver F EF f p x a e q → Option (Constraint F EF) → Stored
+  stored_with s None = stored_by s
+  stored_with s (Some c) = settled_as (shown_with s (Some c))
+
+  -- the batch of so many rounds at a difficulty, with a constraint if there is one, that is asked of it where a challenger answers by these rules and has
+  -- this history
+  abbrev pub batch_of : SumcheckProver F EF f p x a e q → Option (Constraint F EF) → SumcheckData F EF → Party → ℕ → ℕ → Batch
+  batch_of s c d party rounds bits =
+      batch_at (setting_at (channel_by party x.extension f.ops.size bits) e.ops (shown_by s)) (standing_at (shown_with s c) party.history (wire_in f.number e.number d)) x.DEGREE rounds
 
 module _ {F EF R : Type 0} {f : FieldOf F} {p : PartialEqOf F} {x : ExtensionOf EF F} {a : AlgebraOf EF F} {e : FieldOf EF} {q : PartialEqOf EF}
     {t : FromTableOf R EF} {r : FieldOf R} {k : PartialEqOf R} where
@@ -68,7 +71,7 @@ module _ {F EF R : Type 0} {f : FieldOf F} {p : PartialEqOf F} {x : ExtensionOf 
   abbrev pub image_standing_of : ReprSumcheckProver F EF R f p x a e q t r k → SumcheckData F EF → List Event → Standing
   image_standing_of s d h = standing_at (image_shown_by s) h (wire_in f.number e.number d)
 
-  -- the batch of a shape that is asked of it
-  abbrev pub image_batch_of : ReprSumcheckProver F EF R f p x a e q t r k → SumcheckData F EF → Party → SumcheckShape → Batch
-  image_batch_of s d party shape =
-      batch_at (setting_at (channel_by party x.extension f.ops.size shape.pow_bits) e.ops (image_shown_by s)) (image_standing_of s d party.history) x.DEGREE shape
+  -- the batch of so many rounds at a difficulty that is asked of it
+  abbrev pub image_batch_of : ReprSumcheckProver F EF R f p x a e q t r k → SumcheckData F EF → Party → ℕ → ℕ → Batch
+  image_batch_of s d party rounds bits =
+      batch_at (setting_at (channel_by party x.extension f.ops.size bits) e.ops (image_shown_by s)) (image_standing_of s d party.history) x.DEGREE rounds

@@ -1,18 +1,19 @@
 -- What a prover shows, and constraints that it takes in.
 use Rattle.std.specs.Prelude.{◌≡◌, ℕ, ◌-◌, ◌<◌, List, Option, Some, None}
 use Rattle.sc_definitions.specs.Ring.{Ops, ◌+⟨◌⟩◌, ◌*⟨◌⟩◌}
-use Rattle.sc_definitions.specs.Tables.{evaluation, Order, rows_of, bound_in}
+use Rattle.sc_definitions.specs.Tables.{Basis, Order, rows_of, bound_in}
 use Rattle.sc_definitions.specs.Statements.{Statement, batched_weight, batched_claim}
 use Rattle.sc_definitions.specs.Standings.{entries_of}
 use Rattle.sc_statements.specs.declared.constraint.Constraint.{Constraint}
 use Rattle.sc_statements.specs.Constraints.{constraint_arity, constraint_challenge, constraint_power, constraint_statements}
 use Rattle.sc_rounds.specs.declared.product_polynomial.ProductPolynomial.{ProductPolynomial}
-use Rattle.sc_rounds.specs.Products.{numbers_of, variables_in, order_in}
+use Rattle.sc_rounds.specs.Products.{numbers_of, variables_in, basis_in, order_in}
 use Rattle.sc_definitions.specs.Shown.{Shown, Stored, sum_with, weights_plus}
 
 -- what a pair of tables and a claim show
 abbrev pub shown_of : {F EF : Type 0} → (EF → ℕ) → ProductPolynomial F EF → EF → Shown
 shown_of number p claim = record {
+  basis = basis_in p;
   order = order_in p;
   variables = variables_in p;
   evals = numbers_of number p.evals;
@@ -37,17 +38,18 @@ left_of n None = n
 left_of n (Some r) = n - 1
 
 -- the entries of a table of n variables, with a challenge bound that is held
-abbrev pub bound_now : {X : Type 0} → Ops → (X → ℕ) → Order → ℕ → Option X → List ℕ → List ℕ
-bound_now o number order n None xs = xs
-bound_now o number order n (Some r) xs = entries_of (n - 1) (bound_in evaluation order o (n - 1) (number r) (rows_of xs))
+abbrev pub bound_now : {X : Type 0} → Ops → (X → ℕ) → Basis → Order → ℕ → Option X → List ℕ → List ℕ
+bound_now o number basis order n None xs = xs
+bound_now o number basis order n (Some r) xs = entries_of (n - 1) (bound_in basis order o (n - 1) (number r) (rows_of xs))
 
 -- what a pair of tables and a claim show where a challenge is held or none
 abbrev pub held_shown : {F EF : Type 0} → Ops → (EF → ℕ) → ProductPolynomial F EF → Option EF → EF → Shown
 held_shown o number p held claim = record {
+  basis = basis_in p;
   order = order_in p;
   variables = left_of (variables_in p) held;
-  evals = bound_now o number (order_in p) (variables_in p) held (numbers_of number p.evals);
-  weights = bound_now o number (order_in p) (variables_in p) held (numbers_of number p.weights);
+  evals = bound_now o number (basis_in p) (order_in p) (variables_in p) held (numbers_of number p.evals);
+  weights = bound_now o number (basis_in p) (order_in p) (variables_in p) held (numbers_of number p.weights);
   claim = number claim;
 }
 

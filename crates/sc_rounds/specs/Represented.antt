@@ -1,7 +1,7 @@
 -- Two tables of which the second holds images in a representation.
 use Rattle.std.specs.Prelude.{◌≡◌, ℕ}
 use Rattle.sc_definitions.specs.Ring.{Ops}
-use Rattle.sc_definitions.specs.Tables.{inner}
+use Rattle.sc_definitions.specs.Tables.{evaluation, inner}
 use Rattle.sc_table.specs.Polys.{variables_of, table_of}
 use Rattle.sc_table.specs.Strategy.{order_of}
 use Rattle.sc_table.specs.declared.poly.Poly.{Poly}
@@ -14,9 +14,10 @@ pub record TablesAgree {A B : Type 0} (o : Ops) (number : A → ℕ) (represente
   pub variables : variables_of evals ≡ variables_of weights
   pub true_sum : sum ≡ inner o (variables_of evals) (table_of number evals) (table_of represented weights)
 
--- what a prover on them shows, in an order and with a claim
+-- what a prover on them, which are tables of values, shows, in an order and with a claim
 abbrev pub tables_shown : {A B : Type 0} → (A → ℕ) → (B → ℕ) → VariableOrder → Poly A → Poly B → ℕ → Shown
 tables_shown number represented order evals weights claim = record {
+  basis = evaluation;
   order = order_of order;
   variables = variables_of evals;
   evals = numbers_of number evals;

@@ -6,7 +6,6 @@ use Rattle.sc_definitions.specs.Ring.{Ops}
 use Rattle.sc_definitions.specs.Events.{Extension}
 use Rattle.sc_field.specs.declared.field.Field.{Ghosts as FieldOf}
 use Rattle.sc_challenger.specs.declared.challenger.Challenger.{Ghosts as ChallengerOf}
-use Rattle.sc_definitions.specs.Tables.{evaluation}
 use Rattle.sc_definitions.specs.Channels.{Channel, Wire}
 use Rattle.sc_definitions.specs.Standings.{Setting, Standing}
 use Rattle.sc_transcript.specs.declared.driver.RoundShape.{Ghosts as RoundShapeOf}
@@ -16,11 +15,11 @@ use Rattle.sc_transcript.specs.Drivers.{channel_of}
 use Rattle.sc_transcript.specs.Transcripts.{driver_in}
 use Rattle.sc_transcript.specs.Data.{wire_in}
 use Rattle.sc_rounds.specs.declared.product_polynomial.ProductPolynomial.{ProductPolynomial}
-use Rattle.sc_rounds.specs.Products.{variables_in, order_in}
+use Rattle.sc_rounds.specs.Products.{variables_in, basis_in, order_in}
 
--- what stays: a channel, a ring, values, and the pair's order
+-- what stays: a channel, a ring, and the pair's basis and order
 abbrev pub setting_in : {F EF : Type 0} → Channel → Ops → ProductPolynomial F EF → Setting
-setting_in c o p = record { channel = c; ops = o; basis = evaluation; order = order_in p }
+setting_in c o p = record { channel = c; ops = o; basis = basis_in p; order = order_in p }
 
 -- what moves: the pair's entries and a sum, by their numbers, a history and a wire
 abbrev pub standing_in : {F EF : Type 0} → (EF → ℕ) → ProductPolynomial F EF → EF → List Event → Wire → Standing

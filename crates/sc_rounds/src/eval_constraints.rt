@@ -7,7 +7,7 @@ ghost use Rattle.sc_statements.specs.ConstraintValues.{last_of, constraints_valu
 
 use sc_field::{ExtensionField, Field, NoMemory};
 use sc_statements::Constraint;
-use sc_table::{Point, VariableOrder};
+use sc_table::{Basis, Point, VariableOrder};
 use std::alloc::Global;
 
 /// An order in which challenges bind variables, as it says at which of them a constraint's weights have their value.
@@ -42,7 +42,7 @@ impl EvalConstraints for VariableOrder {
         let mut sum = EF::ZERO;
         for constraint in constraints {
             let point = last_point(alloc, self, challenge, constraint.num_variables())?;
-            sum = sum.add(constraint.eval_at(&point));
+            sum = sum.add(constraint.eval_at(Basis::Evaluation, &point));
         }
         Ok(sum)
     }

@@ -22,13 +22,13 @@ ghost use Rattle.std.specs.Prelude.{
 ghost use Rattle.sc_definitions.specs.Tables.{entries};
 ghost use Rattle.sc_rounds.specs.Products.{variables_in, sum_in};
 ghost use Rattle.sc_rounds.specs.Provers.{IsLeftFor, shown_of, held_shown};
-ghost use Rattle.sc_definitions.specs.Shown.{sum_with, IsTrueClaim, with_added};
+ghost use Rattle.sc_definitions.specs.Shown.{KeepsForm, sum_with, IsTrueClaim, with_added};
 
 use crate::product_polynomial::ProductPolynomial;
 use sc_challenger::Challenger;
 use sc_field::{ExtensionField, Field, IntoTranscriptField, with_room};
 use sc_statements::Constraint;
-use sc_table::{Basis, Point, RoundMessage};
+use sc_table::{Point, RoundMessage};
 use sc_transcript::{ProverTranscript, SumcheckData, SumcheckError, SumcheckShape};
 use std::alloc::Global;
 
@@ -142,7 +142,8 @@ impl<F: Field, EF: ExtensionField<F>> HeldProduct<F, EF> {
         ensures poly { pair_in self.new ≡ pair_in self.old }
         ensures held { held_in self.new ≡ Some r }
     {
-        self.sum = Basis::Evaluation.reduce_claim(message.c_a, message.c_inf, r, self.sum);
+        let basis = self.poly.basis();
+        self.sum = basis.reduce_claim(message.c_a, message.c_inf, r, self.sum);
         self.held = Some(r);
     }
 
@@ -151,9 +152,10 @@ impl<F: Field, EF: ExtensionField<F>> HeldProduct<F, EF> {
         requires rows { length delta.now ≡ 2 ^ (shown_in self.old).variables }
         requires sum { EF.number sum_delta
             ≡ sum_with EF.ops (shown_in self.old) (entries EF.number delta.now) }
-        ensures { shown_in self.new
+        ensures added { shown_in self.new
             ≡ with_added EF.ops (shown_in self.old) (entries EF.number delta.now)
             (EF.number sum_delta) }
+        ensures settled { held_in self.new ≡ None }
     {
         self.settle();
         self.poly.add_weights(delta);
@@ -162,7 +164,8 @@ impl<F: Field, EF: ExtensionField<F>> HeldProduct<F, EF> {
 
     // Multiplies the weights and the claim by a value.
     pub(crate) fn scale(&mut self, scale: EF)
-        ensures { shown_in self.new ≡ with_scaled EF.ops (shown_in self.old) (EF.number scale) }
+        ensures scaled { shown_in self.new ≡ with_scaled EF.ops (shown_in self.old) (EF.number scale) }
+        ensures settled { held_in self.new ≡ None }
     {
         self.settle();
         self.poly.scale_weights(scale);
@@ -173,9 +176,10 @@ impl<F: Field, EF: ExtensionField<F>> HeldProduct<F, EF> {
     pub(crate) fn take_in(&mut self, alloc: Global, constraint: &Constraint<F, EF>)
         requires { IsTrueConstraint EF.ops (shown_in self.old)
             (stated (λ x. EF.embedding (F.number x)) EF.number constraint.now) }
-        ensures { shown_in self.new
+        ensures taken { shown_in self.new
             ≡ with_taken EF.ops (shown_in self.old)
             (Some (stated (λ x. EF.embedding (F.number x)) EF.number constraint.now)) }
+        ensures settled { held_in self.new ≡ None }
     {
         self.settle();
         self.poly.combine(alloc, &mut self.sum, constraint).unwrap();
@@ -197,7 +201,7 @@ impl<F: Field, EF: ExtensionField<F>> HeldProduct<F, EF> {
         requires variables { 0 < (shown_in self.old).variables }
         requires left { HasRoundLeft (driver_in transcript.old) }
         ensures continues { Continues (driver_in transcript.old) (driver_in transcript.new) }
-        ensures order { (shown_in self.new).order ≡ (shown_in self.old).order }
+        ensures form { KeepsForm (shown_in self.old) (shown_in self.new) }
         ensures counts { CountsOne (driver_in transcript.old) (driver_in transcript.new) result }
         ensures round { Moves EG.number
             (setting_over EG.extension EG.ops (shown_in self.old) transcript.old)
@@ -223,8 +227,8 @@ impl<F: Field, EF: ExtensionField<F>> HeldProduct<F, EF> {
     }
 
     // Plays so many rounds of a transcript as it has left, and appends their challenges to those of
-    // the rounds before them, in a list that has room for all. It says what that leaves of all these
-    // rounds, from wherever they began.
+    // the rounds before them, in a list that has room for all. It says what that leaves of all
+    // these rounds, from wherever they began.
     pub(crate) fn play<G: Field, EG: ExtensionField<G>, C: Challenger<G>>(
         &mut self,
         sumcheck_data: &mut SumcheckData<G, EG>,
@@ -240,7 +244,7 @@ impl<F: Field, EF: ExtensionField<F>> HeldProduct<F, EF> {
         requires count { vec_len challenges.old ≡ (driver_in transcript.old).played }
         requires room { (driver_in transcript.old).shape.num_rounds ≤ vec_capacity challenges.old }
         ensures continues { Continues (driver_in transcript.old) (driver_in transcript.new) }
-        ensures order { (shown_in self.new).order ≡ (shown_in self.old).order }
+        ensures form { KeepsForm (shown_in self.old) (shown_in self.new) }
         ensures left { (shown_in self.new).variables + (driver_in transcript.new).played
             ≡ (shown_in self.old).variables + (driver_in transcript.old).played }
         ensures rounds { GoesOn
@@ -252,7 +256,7 @@ impl<F: Field, EF: ExtensionField<F>> HeldProduct<F, EF> {
         ensures holds { IfOk result (λ _. HoldsIfMore
             (course_over EG.extension EG.ops EG.number
             (image_in EF.to_number self.old) transcript.old sumcheck_data.old challenges.old.items)
-            (map EG.number challenges.new.items) (image_stored_in EF.to_number self.new)) }
+            (image_stored_in EF.to_number self.old) (map EG.number challenges.new.items) (image_stored_in EF.to_number self.new)) }
     {
         for _round in challenges.len()..transcript.shape().num_rounds {
             match self.round::<G, EG, C>(sumcheck_data, transcript) {
@@ -263,33 +267,36 @@ impl<F: Field, EF: ExtensionField<F>> HeldProduct<F, EF> {
         Ok(())
     }
 
-    // Seeds a transcript and plays a batch of rounds in it, as `play`, whose challenges it answers.
+    // Seeds a transcript and plays a batch of so many rounds in it, as `play`, whose challenges it
+    // answers.
     pub(crate) fn play_batch<G: Field, EG: ExtensionField<G>, C: Challenger<G>>(
         &mut self,
         alloc: Global,
         sumcheck_data: &mut SumcheckData<G, EG>,
         challenger: &mut C,
-        shape: SumcheckShape,
+        rounds: usize,
+        pow_bits: usize,
     ) -> Result<Point<EG>, SumcheckError>
     where
         EF: IntoTranscriptField<EG>,
-        requires variables { shape.num_rounds ≤ (shown_in self.old).variables }
-        requires difficulty { shape.pow_bits ≤ (C.party challenger.old).rules.max_bits }
+        requires variables { rounds ≤ (shown_in self.old).variables }
+        requires difficulty { pow_bits ≤ (C.party challenger.old).rules.max_bits }
         ensures rules { (C.party challenger.new).rules ≡ (C.party challenger.old).rules }
-        ensures order { (shown_in self.new).order ≡ (shown_in self.old).order }
+        ensures form { KeepsForm (shown_in self.old) (shown_in self.new) }
         ensures batch { LeavesBatch (map EG.number)
-            (batch_asked (channel_by (C.party challenger.old) EG.extension G.ops.size shape.pow_bits)
+            (batch_asked (channel_by (C.party challenger.old) EG.extension G.ops.size pow_bits)
             EG.ops (image_in EF.to_number self.old) (C.party challenger.old)
-            (wire_in G.number EG.number sumcheck_data.old) EG.DEGREE shape)
+            (wire_in G.number EG.number sumcheck_data.old) EG.DEGREE rounds)
             (standing_at (image_in EF.to_number self.new) (C.party challenger.new).history
             (wire_in G.number EG.number sumcheck_data.new)) result }
         ensures holds { IfOk result (λ rs. HoldsBatch
-            (batch_asked (channel_by (C.party challenger.old) EG.extension G.ops.size shape.pow_bits)
+            (batch_asked (channel_by (C.party challenger.old) EG.extension G.ops.size pow_bits)
             EG.ops (image_in EF.to_number self.old) (C.party challenger.old)
-            (wire_in G.number EG.number sumcheck_data.old) EG.DEGREE shape)
-            (map EG.number rs) (image_stored_in EF.to_number self.new)) }
+            (wire_in G.number EG.number sumcheck_data.old) EG.DEGREE rounds)
+            (image_stored_in EF.to_number self.old) (map EG.number rs) (image_stored_in EF.to_number self.new)) }
     {
-        let mut challenges = with_room(alloc, shape.num_rounds)?;
+        let shape = SumcheckShape::new(rounds, pow_bits, self.poly.basis());
+        let mut challenges = with_room(alloc, rounds)?;
         shape.seed::<G, EG, C>(alloc, challenger)?;
         let mut transcript = ProverTranscript::over(challenger, shape);
         match self.play::<G, EG, C>(sumcheck_data, &mut transcript, &mut challenges) {

@@ -13,7 +13,7 @@ mod strategy;
 mod turns;
 
 pub use eval_constraints::EvalConstraints;
-pub use laws::{batch_in_step, replay_laws};
+pub use laws::{batch_in_step, placed_laws, replay_laws};
 pub use product_polynomial::ProductPolynomial;
 pub use sc_transcript::{
     ProverTranscript, SumcheckData, SumcheckError, SumcheckShape, VerifierTranscript, shape_laws,

@@ -20,12 +20,13 @@ ghost use Rattle.std.specs.Prelude.{
 };
 ghost use Rattle.std.specs.Borrow.{sem};
 ghost use Rattle.std.specs.Io.BufRead.{Rests};
-ghost use Rattle.sc_definitions.specs.Tables.{entries, rows_of, value};
+ghost use Rattle.sc_definitions.specs.Tables.{entries, rows_of, value_in};
 ghost use Rattle.sc_table.specs.Polys.{variables_of};
-ghost use Rattle.sc_table.specs.Strategy.{order_of};
+ghost use Rattle.sc_table.specs.Strategy.{basis_of, order_of};
 ghost use Rattle.sc_rounds.specs.Products.{sum_in, numbers_of};
 ghost use Rattle.sc_rounds.specs.Provers.{shown_of, held_shown, number_if_some};
 ghost use Rattle.sc_definitions.specs.Shown.{
+  KeepsForm,
   honest_shown,
   with_bound,
   with_scaled,
@@ -40,7 +41,7 @@ use sc_challenger::Challenger;
 use sc_field::{ExtensionField, Field, NoMemory};
 use sc_statements::Constraint;
 use sc_table::{Basis, Point, Poly, RoundMessage, VariableOrder};
-use sc_transcript::{SumcheckData, SumcheckError, SumcheckShape};
+use sc_transcript::{SumcheckData, SumcheckError};
 use std::alloc::Global;
 
 mod base;
@@ -62,7 +63,6 @@ pub struct SumcheckProver<F: Field, EF: ExtensionField<F>> {
 }
 
 impl<F: Field, EF: ExtensionField<F>> SumcheckProver<F, EF> {
-    ghost use Rattle.sc_transcript.specs.Shapes.{shape_of};
     ghost use Rattle.sc_transcript.specs.Batches.{LeavesBatch, HoldsBatch};
     ghost use Rattle.sc_rounds.specs.HeldProducts.{Holds};
     ghost use Rattle.sc_rounds.specs.ProverViews.{
@@ -71,6 +71,7 @@ impl<F: Field, EF: ExtensionField<F>> SumcheckProver<F, EF> {
       IsTrueOf,
       IsNoneOrTrueOf,
       shown_with,
+      stored_with,
       standing_of,
       batch_of,
     };
@@ -109,6 +110,13 @@ impl<F: Field, EF: ExtensionField<F>> SumcheckProver<F, EF> {
         ensures { result ≡ (shown_by self.now).variables }
     {
         self.rounds.num_variables()
+    }
+
+    /// What the entries of its tables are.
+    pub fn basis(&self) -> Basis
+        ensures { basis_of result ≡ (shown_by self.now).basis }
+    {
+        self.rounds.poly.basis()
     }
 
     /// The order in which rounds bind the variables.
@@ -159,7 +167,8 @@ impl<F: Field, EF: ExtensionField<F>> SumcheckProver<F, EF> {
 
     /// Multiplies the weights and the claim by a value. The evaluations stay.
     pub fn scale_weights_and_claim(&mut self, scale: EF)
-        ensures { shown_by self.new ≡ with_scaled EF.ops (shown_by self.old) (EF.number scale) }
+        ensures scaled { shown_by self.new ≡ with_scaled EF.ops (shown_by self.old) (EF.number scale) }
+        ensures settled { (stored_by self.new).held ≡ None }
     {
         self.rounds.scale(scale);
     }
@@ -167,6 +176,7 @@ impl<F: Field, EF: ExtensionField<F>> SumcheckProver<F, EF> {
     /// The bound evaluations, in memory of their own.
     pub fn evals(&mut self, alloc: Global) -> Result<Poly<EF>, NoMemory>
         ensures kept { shown_by self.new ≡ shown_by self.old }
+        ensures settled { (stored_by self.new).held ≡ None }
         ensures variables { IfOk result (λ p. variables_of p ≡ (shown_by self.old).variables) }
         ensures table { IfOk result (λ p. numbers_of EF.number p ≡ (shown_by self.old).evals) }
     {
@@ -177,6 +187,7 @@ impl<F: Field, EF: ExtensionField<F>> SumcheckProver<F, EF> {
     /// The bound weights, in memory of their own.
     pub fn weights(&mut self, alloc: Global) -> Result<Poly<EF>, NoMemory>
         ensures kept { shown_by self.new ≡ shown_by self.old }
+        ensures settled { (stored_by self.new).held ≡ None }
         ensures variables { IfOk result (λ p. variables_of p ≡ (shown_by self.old).variables) }
         ensures table { IfOk result (λ p. numbers_of EF.number p ≡ (shown_by self.old).weights) }
     {
@@ -184,12 +195,14 @@ impl<F: Field, EF: ExtensionField<F>> SumcheckProver<F, EF> {
         self.rounds.poly.weights(alloc)
     }
 
-    /// The value of the bound table of evaluations alone, at a point of as many coordinates as
-    /// variables are left.
+    /// The value of the bound table of evaluations alone, in the prover's basis, at a point of as
+    /// many coordinates as variables are left.
     pub fn eval(&mut self, point: &Point<EF>) -> EF
         requires { length point.now ≡ (shown_by self.old).variables }
         ensures kept { shown_by self.new ≡ shown_by self.old }
-        ensures number { EF.number result ≡ value EF.ops (rows_of (shown_by self.old).evals) (map EF.number point.now) }
+        ensures settled { (stored_by self.new).held ≡ None }
+        ensures number { EF.number result
+            ≡ value_in (shown_by self.old).basis EF.ops (rows_of (shown_by self.old).evals) (map EF.number point.now) }
     {
         self.rounds.settle();
         self.rounds.poly.eval(point)
@@ -203,6 +216,7 @@ impl<F: Field, EF: ExtensionField<F>> SumcheckProver<F, EF> {
         c: &Constraint<F, EF>,
     ) -> Result<bool, NoMemory>
         ensures kept { shown_by self.new ≡ shown_by self.old }
+        ensures settled { (stored_by self.new).held ≡ None }
         ensures exact { IfOk result (λ is_true. IsTrue is_true ↔ IsTrueOf self.old c.now) }
     {
         self.rounds.settle();
@@ -211,16 +225,17 @@ impl<F: Field, EF: ExtensionField<F>> SumcheckProver<F, EF> {
             return Ok(false);
         }
         let (evals, weights) = (poly.evals(alloc)?, poly.weights(alloc)?);
-        let mut combined = ProductPolynomial::new_unpacked(poly.order(), evals, weights);
+        let mut combined = ProductPolynomial::new_in(poly.basis(), poly.order(), evals, weights);
         let mut sum = self.rounds.sum;
         combined.combine(alloc, &mut sum, c)?;
         Ok(SumcheckProver::sum_is_true(&combined, sum))
     }
 
     /// The bound evaluations, row 0 first. Once they are given back the prover shows what it showed
-    /// before.
+    /// before, and holds no challenge.
     pub fn evals_view(&mut self) -> &[EF]
-        ensures* kept { sem 𝓛 (Rests (the_row F.row EF.row _ _ _ _ _ _) self.entry (λ after. shown_by after ≡ shown_by self.old)) }
+        ensures* kept { sem 𝓛 (Rests (the_row F.row EF.row _ _ _ _ _ _) self.entry
+            (λ after. (shown_by after ≡ shown_by self.old) × ((stored_by after).held ≡ None))) }
         ensures numbers { map EF.number result.now ≡ (shown_by self.old).evals }
         ensures size { length result.now ≡ 2 ^ (shown_by self.old).variables }
     {
@@ -233,6 +248,7 @@ impl<F: Field, EF: ExtensionField<F>> SumcheckProver<F, EF> {
     pub fn delta_is_true(&mut self, weights_delta: &[EF], sum_delta: EF) -> bool
         requires { length weights_delta.now ≡ 2 ^ (shown_by self.old).variables }
         ensures kept { shown_by self.new ≡ shown_by self.old }
+        ensures settled { (stored_by self.new).held ≡ None }
         ensures exact { IsTrue result ↔
             (EF.number sum_delta
             ≡ sum_with EF.ops (shown_by self.old) (entries EF.number weights_delta.now)) }
@@ -247,9 +263,10 @@ impl<F: Field, EF: ExtensionField<F>> SumcheckProver<F, EF> {
         requires rows { length weights_delta.now ≡ 2 ^ (shown_by self.old).variables }
         requires sum { EF.number sum_delta
             ≡ sum_with EF.ops (shown_by self.old) (entries EF.number weights_delta.now) }
-        ensures { shown_by self.new
+        ensures added { shown_by self.new
             ≡ with_added EF.ops (shown_by self.old) (entries EF.number weights_delta.now)
             (EF.number sum_delta) }
+        ensures settled { (stored_by self.new).held ≡ None }
     {
         self.rounds.add(weights_delta, sum_delta);
     }
@@ -276,26 +293,27 @@ impl<F: Field, EF: ExtensionField<F>> SumcheckProver<F, EF> {
         requires difficulty { pow_bits ≤ (C.party challenger.old).rules.max_bits }
         requires constraint { IsNoneOrTrueOf self.old constraint }
         ensures rules { (C.party challenger.new).rules ≡ (C.party challenger.old).rules }
-        ensures order { (shown_by self.new).order ≡ (shown_by self.old).order }
+        ensures form { KeepsForm (shown_by self.old) (shown_by self.new) }
         ensures batch { LeavesBatch (map EF.number)
-            (batch_of self.old constraint sumcheck_data.old (C.party challenger.old) (shape_of folding_factor pow_bits Basis.Evaluation))
+            (batch_of self.old constraint sumcheck_data.old (C.party challenger.old) folding_factor pow_bits)
             (standing_of self.new sumcheck_data.new (C.party challenger.new).history) result }
 
-        // The last challenge is held, and the stored tables have all others bound.
+        // The last challenge is held, and the stored tables have all others bound. Where no round
+        // is asked for, all that is kept stays, but for a constraint that is taken in.
         ensures holds { IfOk result (λ rs. HoldsBatch
-            (batch_of self.old constraint sumcheck_data.old (C.party challenger.old) (shape_of folding_factor pow_bits Basis.Evaluation))
-            (map EF.number rs) (stored_by self.new)) }
+            (batch_of self.old constraint sumcheck_data.old (C.party challenger.old) folding_factor pow_bits)
+            (stored_with self.old constraint) (map EF.number rs) (stored_by self.new)) }
     {
         self.take_in_if_some(alloc, constraint);
-        let shape = SumcheckShape::new(folding_factor, pow_bits, Basis::Evaluation);
         self.rounds
-            .play_batch::<F, EF, C>(alloc, sumcheck_data, challenger, shape)
+            .play_batch::<F, EF, C>(alloc, sumcheck_data, challenger, folding_factor, pow_bits)
     }
 
     // Takes in a constraint, if there is one, which is true.
     fn take_in_if_some(&mut self, alloc: Global, constraint: Option<Constraint<F, EF>>)
         requires { IsNoneOrTrueOf self.old constraint }
-        ensures { shown_by self.new ≡ shown_with self.old constraint }
+        ensures shown { shown_by self.new ≡ shown_with self.old constraint }
+        ensures stored { stored_by self.new ≡ stored_with self.old constraint }
     {
         if let Some(constraint) = constraint {
             self.rounds.take_in(alloc, &constraint);

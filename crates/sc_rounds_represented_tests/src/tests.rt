@@ -10,7 +10,7 @@ use sc_rounds::{
     ProductPolynomial, ReprSumcheckProver, SumcheckData, SumcheckError, SumcheckProver,
 };
 use sc_sixteen::{Poly16, Tower16};
-use sc_table::{Point, Poly, VariableOrder};
+use sc_table::{Basis, Point, Poly, VariableOrder};
 use sc_tests_common::{are_pairs, elements, have_numbers, of};
 use std::alloc::Global;
 
@@ -79,9 +79,21 @@ fn plain(alloc: Global, batches: &Batches) -> Result<SumcheckProver<Tower16, Tow
     Ok(SumcheckProver::new(pair, sum))
 }
 
+// The prover on the images of one on elements, if its tables are of values.
+fn on_images(
+    alloc: Global,
+    prover: SumcheckProver<Tower16, Tower16>,
+) -> Result<Option<Prover>, NoMemory> {
+    let basis = prover.basis();
+    match basis {
+        Basis::Evaluation => Ok(Some(ReprSumcheckProver::new(alloc, prover)?)),
+        Basis::Projective => Ok(None),
+    }
+}
+
 // The same on the images.
-fn represented(alloc: Global, batches: &Batches) -> Result<Prover, NoMemory> {
-    ReprSumcheckProver::new(alloc, plain(alloc, batches)?)
+fn represented(alloc: Global, batches: &Batches) -> Result<Option<Prover>, NoMemory> {
+    on_images(alloc, plain(alloc, batches)?)
 }
 
 // Plays a batch of at most as many rounds as there are variables, at a difficulty that the
@@ -245,7 +257,8 @@ static BATCHES: [Batches; 4] = [
 #[test]
 fn batches_on_images_follow_on_each_other(rt: HostRuntime) {
     for batches in &BATCHES {
-        let mut prover = represented(rt.alloc(), batches).expect(&rt, "an answer");
+        let prover = represented(rt.alloc(), batches).expect(&rt, "an answer");
+        let mut prover = prover.expect(&rt, "values");
         assert!(rt; (prover.claimed_sum().index(), prover.num_variables()) == (2, 2));
         let mut data = SumcheckData::new(rt.alloc());
         let mut challenger = scripted(rt.alloc(), &[]).expect(&rt, "an answer");
@@ -276,10 +289,8 @@ fn a_held_challenge_is_carried_across(rt: HostRuntime) {
         let mut challenger = scripted(rt.alloc(), &[]).expect(&rt, "an answer");
         let drawn = play_plain(rt.alloc(), &mut elements, &mut data, &mut challenger, 1, 0);
         assert!(rt; drew(&drawn, &[2]));
-        let mut prover: Prover = ReprSumcheckProver::new(rt.alloc(), elements).expect(
-            &rt,
-            "an answer",
-        );
+        let prover = on_images(rt.alloc(), elements).expect(&rt, "an answer");
+        let mut prover = prover.expect(&rt, "values");
         assert!(rt; (held(&prover), prover.num_variables()) == (Some(2), 1));
         let drawn = play(rt.alloc(), &mut prover, &mut data, &mut challenger, 1, 0);
         assert!(rt; drew(&drawn, &[4]));
@@ -309,7 +320,9 @@ fn is_played(
     batches: &Batches,
     challenger: &mut ScriptedChallenger<Tower16>,
 ) -> Result<bool, NoMemory> {
-    let mut prover = represented(alloc, batches)?;
+    let Some(mut prover) = represented(alloc, batches)? else {
+        return Ok(false);
+    };
     let mut data = SumcheckData::new(alloc);
     let drawn = play(alloc, &mut prover, &mut data, challenger, 2, 1);
     Ok(drew(&drawn, &[2, 4]) && is_data(&data, batches.messages, &[5, 6]))
@@ -385,7 +398,8 @@ fn weights_may_be_images_already(rt: HostRuntime) {
 // The first test is passed by 5 alone, and the second by none.
 #[test]
 fn no_witness_stops_a_batch_on_images(rt: HostRuntime) {
-    let mut prover = represented(rt.alloc(), &BATCHES[0]).expect(&rt, "an answer");
+    let prover = represented(rt.alloc(), &BATCHES[0]).expect(&rt, "an answer");
+    let mut prover = prover.expect(&rt, "values");
     let mut data = SumcheckData::new(rt.alloc());
     let mut challenger = scripted(rt.alloc(), &[5]).expect(&rt, "an answer");
     let refused = play(rt.alloc(), &mut prover, &mut data, &mut challenger, 2, 1);

@@ -66,20 +66,29 @@ fn stands(
     )
 }
 
-// The pair of the table 1, 2, 3, 4 and of these four weights.
+// What the entries of two tables are, and which variable a round binds.
+type Form = (Basis, VariableOrder);
+
+// The pair of the table 1, 2, 3, 4 and of these four weights; coefficients are bound by the first
+// variable.
 fn pair_of(
     alloc: Global,
-    order: VariableOrder,
+    form: Form,
     weights: &[u64],
 ) -> Result<ProductPolynomial<F65537, F65537>, NoMemory>
     requires { length weights.now ≡ 4 }
     ensures { IfOk result (λ p. variables_in p ≡ 2) }
 {
-    let evals = table(alloc, &[1, 2, 3, 4])?;
-    Ok(ProductPolynomial::new_unpacked(order, evals, table(alloc, weights)?))
+    let (evals, weights) = (table(alloc, &[1, 2, 3, 4])?, table(alloc, weights)?);
+    let (basis, order) = form;
+    Ok(match basis {
+        Basis::Evaluation => ProductPolynomial::new_unpacked(order, evals, weights),
+        Basis::Projective => ProductPolynomial::new_projective(evals, weights),
+    })
 }
 
-// Plays a batch of one round on a pair, without a test, where it has a variable and that sum, and answers its challenge.
+// Plays a batch of one round on a pair, without a test, where it has a variable and that sum, and
+// answers its challenge.
 fn play_one(
     alloc: Global,
     challenger: &mut ScriptedChallenger<F65537>,
@@ -90,7 +99,7 @@ fn play_one(
     if pair.num_variables() == 0 || !SumcheckProver::sum_is_true(pair, *sum) {
         return Ok(None);
     }
-    let shape = SumcheckShape::new(1, 0, Basis::Evaluation);
+    let shape = SumcheckShape::new(1, 0, pair.basis());
     let mut transcript = ProverTranscript::new(alloc, challenger, shape)?;
     match pair.round(data, &mut transcript, sum) {
         Ok(challenge) => {
@@ -104,16 +113,21 @@ fn play_one(
     }
 }
 
-// An order, what is sent in it, and of each round the challenge and how the pair stands after it.
+// A form, the value of the table in it at (0, 1), what is sent, and of each round the challenge and
+// how the pair stands after it.
 struct Play {
-    order: VariableOrder,
+    form: Form,
+    at_row_one: u64,
     sent: &'static [Pair],
     after: &'static [(u64, Standing)],
 }
 
-static PLAYS: [Play; 2] = [
+// Of coefficients, at 3 they are 10 + 14 y and the weights y, whose product has 14 for the sum of
+// its coefficients.
+static PLAYS: [Play; 3] = [
     Play {
-        order: VariableOrder::Prefix,
+        form: (Basis::Evaluation, VariableOrder::Prefix),
+        at_row_one: 2,
         sent: &[(2, 65535), (0, 65535)],
         after: &[
             (
@@ -137,7 +151,8 @@ static PLAYS: [Play; 2] = [
         ],
     },
     Play {
-        order: VariableOrder::Suffix,
+        form: (Basis::Evaluation, VariableOrder::Suffix),
+        at_row_one: 2,
         sent: &[(0, 1), (12, 65531)],
         after: &[
             (
@@ -160,32 +175,57 @@ static PLAYS: [Play; 2] = [
             ),
         ],
     },
+    Play {
+        form: (Basis::Projective, VariableOrder::Prefix),
+        at_row_one: 3,
+        sent: &[(6, 0), (24, 14)],
+        after: &[
+            (
+                3,
+                Standing {
+                    variables: 1,
+                    evals: &[10, 14],
+                    weights: &[0, 1],
+                    sum: 14,
+                },
+            ),
+            (
+                4,
+                Standing {
+                    variables: 0,
+                    evals: &[66],
+                    weights: &[4],
+                    sum: 264,
+                },
+            ),
+        ],
+    },
 ];
 
-// The order, the number of variables, and the value at a point of as many coordinates.
+// The form, the number of variables, and the value at a point of as many coordinates.
 fn outline(
     pair: &ProductPolynomial<F65537, F65537>,
     at: &Point<F65537>,
-) -> (VariableOrder, usize, Option<u64>) {
+) -> (Form, usize, Option<u64>) {
     let variables = pair.num_variables();
     let value = if at.num_variables() == variables {
         Some(pair.eval(at).index())
     } else {
         None
     };
-    (pair.order(), variables, value)
+    ((pair.basis(), pair.order()), variables, value)
 }
 
 #[test]
 fn a_pair_is_bound_at_the_challenges(rt: HostRuntime) {
     for play in &PLAYS {
         let mut challenger = scripted(rt.alloc(), &[3, 4], &[]).expect(&rt, "an answer");
-        let mut pair = pair_of(rt.alloc(), play.order, &[0, 1, 0, 0]).expect(&rt, "an answer");
+        let mut pair = pair_of(rt.alloc(), play.form, &[0, 1, 0, 0]).expect(&rt, "an answer");
         let mut data = SumcheckData::new(rt.alloc());
         let mut sum = pair.dot_product();
         assert_eq!(rt; sum.index(), 2);
         let row_one = point(rt.alloc(), &[0, 1]).expect(&rt, "an answer");
-        assert!(rt; outline(&pair, &row_one) == (play.order, 2, Some(2)));
+        assert!(rt; outline(&pair, &row_one) == (play.form, 2, Some(play.at_row_one)));
         for (challenge, standing) in play.after {
             let drawn = play_one(rt.alloc(), &mut challenger, &mut pair, &mut data, &mut sum);
             assert!(rt; drawn == Ok(Some(of(*challenge))));

@@ -1,7 +1,7 @@
 -- A batch of rounds, one round after the other.
 use Rattle.std.proofs.Common.{◌≡◌, ℕ, suc, ◌+◌, ◌<◌, List, [], ◌∷◌, ◌++◌, refl, ap, ◌∙◌, inl, inr, subst, arith, Result, Ok, Err, IsErrAnd, ◌≤◌}
 use Rattle.sc_definitions.specs.Ring.{Ops, IsRing}
-use Rattle.sc_definitions.specs.Tables.{evaluation, Order, IsOffered}
+use Rattle.sc_definitions.specs.Tables.{Basis, Order, IsOffered}
 use Rattle.sc_definitions.specs.Channels.{Channel, NoWitnessFound}
 use Rattle.sc_definitions.specs.Standings.{Setting, Standing, IsRound, IsPlayed, IsRoundWithoutWitness, message_in}
 use Rattle.sc_definitions.proofs.StandingLaws.{played_more}
@@ -15,15 +15,16 @@ use Rattle.sc_definitions.specs.Shown.{Stored, HoldsIfAny}
 
 -- ---- rounds, by other names of what they move
 
-pub same_setting : {c c' : Channel} {o : Ops} {order order' : Order} → c ≡ c' → order ≡ order' →
-    ◌≡◌ {A = Setting} (record { channel = c; ops = o; basis = evaluation; order = order }) (record { channel = c'; ops = o; basis = evaluation; order = order' })
-same_setting ec eo = rw (ec, eo) refl
+pub same_setting : {c c' : Channel} {o : Ops} {basis basis' : Basis} {order order' : Order} → c ≡ c' → basis ≡ basis' → order ≡ order' →
+    ◌≡◌ {A = Setting} (record { channel = c; ops = o; basis = basis; order = order }) (record { channel = c'; ops = o; basis = basis'; order = order' })
+same_setting ec eb eo = rw (ec, eb, eo) refl
 
 pub played_at : {s s' : Setting} {t t' : Standing} {u u' : Standing} {rs rs' : List ℕ} → s ≡ s' → t ≡ t' → u ≡ u' → rs ≡ rs' → IsPlayed s t u rs → IsPlayed s' t' u' rs'
 played_at es et eu er p = rw (← es, ← et, ← eu, ← er) p
 
 -- what is held, by other names of the rounds
-pub holds_at : {s s' : Setting} {t t' : Standing} {rs rs' : List ℕ} {kept : Stored} → s ≡ s' → t ≡ t' → rs ≡ rs' → HoldsIfAny s t rs kept → HoldsIfAny s' t' rs' kept
+pub holds_at : {s s' : Setting} {t t' : Standing} {rs rs' : List ℕ} {before kept : Stored} → s ≡ s' → t ≡ t' → rs ≡ rs' →
+    HoldsIfAny s t before rs kept → HoldsIfAny s' t' before rs' kept
 holds_at es et er p = rw (← es, ← et, ← er) p
 
 -- a batch that got no memory before it began
@@ -38,8 +39,9 @@ pub batch_as : {X : Type 0} (result : Result X SumcheckError) (challenges : X �
 batch_as result challenges b b' u u' eb eu p = subst (λ v. LeavesBatch challenges b' v result) eu (subst (λ d. LeavesBatch challenges d u result) eb p)
 
 -- what is held after a batch, by another name of it
-pub holds_as : (b b' : Batch) (rs : List ℕ) (kept : Stored) → b ≡ b' → HoldsBatch b rs kept → HoldsBatch b' rs kept
-holds_as b b' rs kept eb p = subst (λ d. HoldsBatch d rs kept) eb p
+pub holds_as : (b b' : Batch) (before before' : Stored) (rs : List ℕ) (kept : Stored) → b ≡ b' → before ≡ before' →
+    HoldsBatch b before rs kept → HoldsBatch b' before' rs kept
+holds_as b b' before before' rs kept eb ek p = subst (λ k. HoldsBatch b' k rs kept) ek (subst (λ d. HoldsBatch d before rs kept) eb p)
 
 -- no challenge yet, by another name
 pub as_none : (s : Setting) (t : Standing) (rs : List ℕ) → rs ≡ [] → IsPlayed s t t [] → IsPlayed s t t rs
@@ -112,9 +114,10 @@ pub enough_left : (n m v p : ℕ) → n ≡ m → m ≤ v → p ≡ 0 → n ≤ 
 enough_left n m v p size enough none = omega arith
 
 -- what is held where no round was played before
-pub held_if_any : {s : Setting} {t : Standing} {rs all : List ℕ} {kept : Stored} → rs ≡ [] → IsPlayed s t t [] → HoldsIfMore (record { setting = s; now = t; drawn = rs }) all kept → HoldsIfAny s t all kept
+pub held_if_any : {s : Setting} {t : Standing} {rs all : List ℕ} {before kept : Stored} → rs ≡ [] → IsPlayed s t t [] →
+    HoldsIfMore (record { setting = s; now = t; drawn = rs }) before all kept → HoldsIfAny s t before all kept
 held_if_any {s} {t} {rs} none played holds = elim (holds t (as_none s t rs none played)) [
-  | inl same ↦ inl (same ∙ none)
+  | inl same ↦ inl (same.0 ∙ none, same.1)
   | inr last ↦ inr last
 ]
 

@@ -2,13 +2,12 @@
 use Rattle.std.specs.Prelude.{◌≡◌, ◌⊎◌, ℕ, ◌+◌, ◌<◌, ◌≤◌, List, ◌++◌, Result, Ok, Err}
 use Rattle.sc_definitions.specs.declared.events.Event.{Event}
 use Rattle.sc_definitions.specs.Events.{words}
+use Rattle.sc_definitions.specs.Seeds.{quadratic_seed}
 use Rattle.sc_definitions.specs.Channels.{Wire}
 use Rattle.sc_definitions.specs.Standings.{Setting, Standing, IsRound, IsHonestRound, IsPlayed, IsPlayedInPart, IsRoundWithoutWitness, IsPlayedWithoutWitness}
 use Rattle.sc_definitions.specs.Shown.{Stored, HoldsLast, HoldsIfAny}
 use Rattle.sc_transcript.specs.declared.error.SumcheckError.{SumcheckError}
 use Rattle.sc_transcript.specs.declared.error.SumcheckError.TheVariants.{NoWitness, NoMemory}
-use Rattle.sc_transcript.specs.declared.transcript.SumcheckShape.{SumcheckShape}
-use Rattle.sc_transcript.specs.Shapes.{seed_of}
 use Rattle.sc_transcript.specs.Drivers.{Driver, HasRoundLeft, IsDone, TakesRoom}
 
 -- why round i is refused, and what that leaves
@@ -57,13 +56,13 @@ pub record Batch : Type 0 where
   pub start : Standing
   pub rounds : ℕ
 
--- the batch of a shape, over an extension of a degree
-abbrev pub batch_at : Setting → Standing → ℕ → SumcheckShape → Batch
-batch_at s t degree shape = record {
+-- the batch of so many rounds, over an extension of a degree; its seed tells the basis of what stays
+abbrev pub batch_at : Setting → Standing → ℕ → ℕ → Batch
+batch_at s t degree rounds = record {
   setting = s;
   taken = t;
-  start = record t { history = t.history ++ words (seed_of degree shape) };
-  rounds = shape.num_rounds;
+  start = record t { history = t.history ++ words (quadratic_seed degree s.basis s.channel.bits rounds) };
+  rounds = rounds;
 }
 
 -- It was played whole: each round binds a variable, and rs are their challenges.
@@ -122,16 +121,16 @@ pub record UnderWay : Type 0 where
   pub now : Standing
   pub drawn : List ℕ
 
--- What is kept after a batch was played whole with the challenges rs: the last one is held, if there is one.
-abbrev pub HoldsBatch : Batch → List ℕ → Stored → Type 0
-HoldsBatch b rs stored = HoldsIfAny b.setting b.start rs stored
+-- What is kept after a batch was played whole with the challenges rs: the last one is held, if there is one, and else all stays as it was kept before.
+abbrev pub HoldsBatch : Batch → Stored → List ℕ → Stored → Type 0
+HoldsBatch b before rs stored = HoldsIfAny b.setting b.start before rs stored
 
 -- What rounds leave together with those before them, from wherever these began.
 abbrev pub GoesOn : {X K : Type 0} → UnderWay → UnderWay → Driver K → Result X SumcheckError → Type 0
 GoesOn before after d result =
     (start : Standing) → IsPlayed before.setting start before.now before.drawn → PlaysAll before.setting start after.now after.drawn d result
 
--- Where a round was played among them, the last challenge of all is held.
-abbrev pub HoldsIfMore : UnderWay → List ℕ → Stored → Type 0
-HoldsIfMore before all stored =
-    (start : Standing) → IsPlayed before.setting start before.now before.drawn → (all ≡ before.drawn) ⊎ HoldsLast before.setting start all stored
+-- Where a round was played among them, the last challenge of all is held, and else all stays as it was kept before.
+abbrev pub HoldsIfMore : UnderWay → Stored → List ℕ → Stored → Type 0
+HoldsIfMore before kept all stored = (start : Standing) → IsPlayed before.setting start before.now before.drawn →
+    ((all ≡ before.drawn) × (stored ≡ kept)) ⊎ HoldsLast before.setting start all stored

@@ -16,9 +16,11 @@ ghost use Rattle.std.specs.Prelude.{
   vec_capacity,
 };
 ghost use Rattle.sc_definitions.specs.Ring.{◌*⟨◌⟩◌};
-ghost use Rattle.sc_definitions.specs.Tables.{entries, sum_below};
+ghost use Rattle.sc_definitions.specs.Tables.{IsOffered, entries, sum_below};
+ghost use Rattle.sc_definitions.specs.Offers.{IsOffered-prop};
 ghost use Rattle.sc_table.specs.Polys.{variables_of};
-ghost use Rattle.sc_definitions.specs.Shown.{IsTrueClaim};
+ghost use Rattle.sc_table.specs.Strategy.{basis_of, order_of};
+ghost use Rattle.sc_definitions.specs.Shown.{KeepsForm, IsTrueClaim};
 ghost use Rattle.sc_rounds.specs.BaseProducts.{based, BaseAgrees};
 
 use crate::held_product::HeldProduct;
@@ -38,13 +40,15 @@ use std::alloc::Global;
 /// into one of half as many rows.
 #[derive(Drop)]
 pub struct BaseProduct<'a, F: Field, EF: ExtensionField<F>> {
+    basis: Basis,
     order: VariableOrder,
     evals: &'a [F],
     weights: Poly<EF>,
     sum: EF,
     ghost same: { length evals.now ≡ 2 ^ variables_of weights },
     ghost true_sum: { IsTrueClaim EF.ops
-        (based (λ x. EF.embedding (F.number x)) EF.number order evals.now weights sum) },
+        (based (λ x. EF.embedding (F.number x)) EF.number basis order evals.now weights sum) },
+    ghost offered: { IsOffered (basis_of basis) (order_of order) } by { IsOffered-prop (basis_of basis) (order_of order) },
 }
 
 impl<'a, F: Field, EF: ExtensionField<F>> BaseProduct<'a, F, EF> {
@@ -52,7 +56,6 @@ impl<'a, F: Field, EF: ExtensionField<F>> BaseProduct<'a, F, EF> {
     ghost use Rattle.sc_transcript.specs.Data.{wire_in};
     ghost use Rattle.sc_transcript.specs.Drivers.{Continues, HasRoundLeft, IsDone};
     ghost use Rattle.sc_transcript.specs.Transcripts.{driver_in};
-    ghost use Rattle.sc_transcript.specs.Shapes.{shape_of};
     ghost use Rattle.sc_transcript.specs.Batches.{
       IsHalted,
       CountsOne,
@@ -66,15 +69,24 @@ impl<'a, F: Field, EF: ExtensionField<F>> BaseProduct<'a, F, EF> {
     ghost use Rattle.sc_rounds.specs.HeldProducts.{shown_in, setting_over, standing_over};
     ghost use Rattle.sc_rounds.specs.BaseViews.{base_shown, base_batch_of};
 
-    /// The table, which has as many rows as the weights, with a claim that is true, as
-    /// [`BaseProduct::tables_agree`] tests.
-    pub fn new(order: VariableOrder, evals: &'a [F], weights: Poly<EF>, sum: EF) -> Self
-        requires { BaseAgrees EF.ops (λ x. EF.embedding (F.number x)) EF.number evals.now weights
-            (EF.number sum) }
+    /// The table, in a basis that is offered with this order, which has as many rows as the
+    /// weights, with a claim that is true, as [`BaseProduct::tables_agree`] tests.
+    pub fn new(
+        basis: Basis,
+        order: VariableOrder,
+        evals: &'a [F],
+        weights: Poly<EF>,
+        sum: EF,
+    ) -> Self
+        // The projective basis only with prefix order.
+        requires offered { IsOffered (basis_of basis) (order_of order) }
+        requires agree { BaseAgrees EF.ops (λ x. EF.embedding (F.number x)) EF.number evals.now
+            weights (EF.number sum) }
         ensures { base_shown result
-            ≡ based (λ x. EF.embedding (F.number x)) EF.number order evals.now weights sum }
+            ≡ based (λ x. EF.embedding (F.number x)) EF.number basis order evals.now weights sum }
     {
         BaseProduct {
+            basis,
             order,
             evals,
             weights,
@@ -118,16 +130,16 @@ impl<'a, F: Field, EF: ExtensionField<F>> BaseProduct<'a, F, EF> {
         requires variables { folding_factor ≤ (base_shown self).variables }
         requires difficulty { pow_bits ≤ (C.party challenger.old).rules.max_bits }
         ensures rules { (C.party challenger.new).rules ≡ (C.party challenger.old).rules }
-        ensures order { IfOk result
-            (λ p. (shown_by p.0).order ≡ (base_shown self.entry).order) }
+        ensures form { IfOk result
+            (λ p. KeepsForm (base_shown self.entry) (shown_by p.0)) }
         ensures whole { IfOk result (λ p. PlaysWhole
-            (base_batch_of self.entry sumcheck_data.old (C.party challenger.old) (shape_of folding_factor pow_bits Basis.Evaluation))
+            (base_batch_of self.entry sumcheck_data.old (C.party challenger.old) folding_factor pow_bits)
             (standing_of p.0 sumcheck_data.new (C.party challenger.new).history) (map EF.number p.1)) }
         ensures refused { IfErr result (BreaksOffAt
-            (base_batch_of self.entry sumcheck_data.old (C.party challenger.old) (shape_of folding_factor pow_bits Basis.Evaluation))
+            (base_batch_of self.entry sumcheck_data.old (C.party challenger.old) folding_factor pow_bits)
             (C.party challenger.new).history (wire_in F.number EF.number sumcheck_data.new)) }
     {
-        let shape = SumcheckShape::new(folding_factor, pow_bits, Basis::Evaluation);
+        let shape = SumcheckShape::new(folding_factor, pow_bits, self.basis);
         let mut challenges = with_room(alloc, folding_factor)?;
         shape.seed::<F, EF, C>(alloc, challenger)?;
         let mut transcript = ProverTranscript::over(challenger, shape);
@@ -159,7 +171,7 @@ impl<'a, F: Field, EF: ExtensionField<F>> BaseProduct<'a, F, EF> {
         requires empty { challenges.old.items ≡ [] }
         requires room { (driver_in transcript.old).shape.num_rounds ≤ vec_capacity challenges.old }
         ensures continues { Continues (driver_in transcript.old) (driver_in transcript.new) }
-        ensures order { IfOk result (λ t. (shown_in t).order ≡ (base_shown self.entry).order) }
+        ensures form { IfOk result (λ t. KeepsForm (base_shown self.entry) (shown_in t)) }
         ensures played { IfOk result (λ t. PlaysFrom
             (setting_over EF.extension EF.ops (base_shown self.entry) transcript.old)
             (standing_over EF.number (base_shown self.entry) transcript.old sumcheck_data.old)
@@ -213,8 +225,8 @@ impl<'a, F: Field, EF: ExtensionField<F>> BaseProduct<'a, F, EF> {
         ensures { EF.number result.c_a ∷ EF.number result.c_inf ∷ []
             ≡ message_shown EF.ops (base_shown self.now) }
     {
-        self.order
-            .sumcheck_coefficients::<F, EF>(self.evals, self.weights.as_slice())
+        self.basis
+            .sumcheck_coefficients::<F, EF>(self.order, self.evals, self.weights.as_slice())
     }
 
     // Binds the variable that comes next, and moves the claim to what the message of the tables
@@ -233,16 +245,17 @@ impl<'a, F: Field, EF: ExtensionField<F>> BaseProduct<'a, F, EF> {
             (λ t. shown_in t ≡ with_bound EF.ops (base_shown self.entry) (EF.number r)) }
     {
         let BaseProduct {
+            basis,
             order,
             evals,
             mut weights,
             sum,
         } = self;
-        order.fix_var::<EF, EF>(&mut weights, r);
+        basis.fix_var::<EF, EF>(order, &mut weights, r);
         weights.shrink_to_fit();
-        let evals = order.fix_var_slice::<F, EF>(alloc, evals, r)?;
-        let sum = Basis::Evaluation.reduce_claim(message.c_a, message.c_inf, r, sum);
-        let poly = ProductPolynomial::new_unpacked(order, evals, weights);
+        let evals = basis.fix_var_slice::<F, EF>(alloc, order, evals, r)?;
+        let sum = basis.reduce_claim(message.c_a, message.c_inf, r, sum);
+        let poly = ProductPolynomial::new_in(basis, order, evals, weights);
         Ok(HeldProduct::new(poly, sum))
     }
 }

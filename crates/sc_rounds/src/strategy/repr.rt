@@ -1,25 +1,29 @@
-//! The prover whose tables are held in a representation of the field in which the transcript is written.
+//! The prover whose tables are held in a representation of the field in which the transcript is
+//! written.
 ghost use Rattle.std.specs.Prelude.{◌≡◌, ◌↔◌, ℕ, ◌≤◌, None, Err, IfOk, IfErr, OnErr, IsTrue, map};
 ghost use Rattle.sc_table.specs.Polys.{variables_of, table_of};
 ghost use Rattle.sc_rounds.specs.Products.{numbers_of};
 ghost use Rattle.sc_rounds.specs.Provers.{held_shown, number_if_some};
-ghost use Rattle.sc_definitions.specs.Shown.{IsTrueClaim};
+ghost use Rattle.sc_definitions.specs.Tables.{evaluation};
+ghost use Rattle.sc_definitions.specs.Shown.{KeepsForm, IsTrueClaim};
 
 use crate::held_product::HeldProduct;
 use crate::product_polynomial::{ProductPolynomial, dot};
 use crate::strategy::SumcheckProver;
 use sc_challenger::Challenger;
 use sc_field::{ExtensionField, Field, IntoTranscriptField, NoMemory};
-use sc_table::{Basis, Point, Poly, VariableOrder};
-use sc_transcript::{SumcheckData, SumcheckError, SumcheckShape};
+use sc_table::{Point, Poly, VariableOrder};
+use sc_transcript::{SumcheckData, SumcheckError};
 use std::alloc::Global;
 use std::marker::PhantomData;
 
-/// A [`SumcheckProver`] whose two tables and claim are held in a field `R` that represents the extension `EF`. Only the transcript sees `EF`: the two
-/// values of a message cross over before they are absorbed, and each challenge crosses back before it is bound.
+/// A [`SumcheckProver`] whose two tables and claim are held in a field `R` that represents the
+/// extension `EF`. Only the transcript sees `EF`: the two values of a message cross over before
+/// they are absorbed, and each challenge crosses back before it is bound.
 ///
-/// A representation keeps sums and products, so the messages, the challenges, the history, the claims and the numbers of variables are those of a
-/// `SumcheckProver` on the tables of the represented elements. What differs is what a multiplication costs.
+/// A representation keeps sums and products, so the messages, the challenges, the history, the
+/// claims and the numbers of variables are those of a `SumcheckProver` on the tables of the
+/// represented elements. What differs is what a multiplication costs.
 #[derive(Drop)]
 pub struct ReprSumcheckProver<F: Field, EF: ExtensionField<F>, R: IntoTranscriptField<EF>> {
     rounds: HeldProduct<R, R>,
@@ -29,7 +33,6 @@ pub struct ReprSumcheckProver<F: Field, EF: ExtensionField<F>, R: IntoTranscript
 }
 
 impl<F: Field, EF: ExtensionField<F>, R: IntoTranscriptField<EF>> ReprSumcheckProver<F, EF, R> {
-    ghost use Rattle.sc_transcript.specs.Shapes.{shape_of};
     ghost use Rattle.sc_transcript.specs.Batches.{LeavesBatch, HoldsBatch};
     ghost use Rattle.sc_rounds.specs.ProverViews.{
       shown_by,
@@ -41,8 +44,10 @@ impl<F: Field, EF: ExtensionField<F>, R: IntoTranscriptField<EF>> ReprSumcheckPr
     };
     ghost use Rattle.sc_rounds.specs.Represented.{TablesAgree, tables_shown};
 
-    /// The same prover with its tables and its claim in `R`. A prover that is refused is given up.
+    /// A prover over `R` in the place of this one: with its tables, which are of values as
+    /// [`SumcheckProver::basis`] tells, and its claim. A prover that is refused is given up.
     pub fn new(alloc: Global, prover: SumcheckProver<F, EF>) -> Result<Self, NoMemory>
+        requires { (shown_by prover).basis ≡ evaluation }
         ensures shown { IfOk result (λ p. image_shown_by p ≡ shown_by prover) }
 
         // A challenge that is held is carried across.
@@ -63,8 +68,8 @@ impl<F: Field, EF: ExtensionField<F>, R: IntoTranscriptField<EF>> ReprSumcheckPr
         })
     }
 
-    /// The prover on evaluations in `EF` and weights that are in `R` already, of as many variables, and a claim that is true, as
-    /// [`ReprSumcheckProver::tables_agree`] tests.
+    /// The prover on evaluations in `EF` and weights that are in `R` already, of as many variables,
+    /// and a claim that is true, as [`ReprSumcheckProver::tables_agree`] tests.
     pub fn from_tables(
         alloc: Global,
         order: VariableOrder,
@@ -74,7 +79,8 @@ impl<F: Field, EF: ExtensionField<F>, R: IntoTranscriptField<EF>> ReprSumcheckPr
     ) -> Result<Self, NoMemory>
         requires { TablesAgree EF.ops EF.number (λ x. R.to_number (R.number x)) evals weights
             (EF.number sum) }
-        ensures { IfOk result (λ p. image_shown_by p ≡ tables_shown EF.number (λ x. R.to_number (R.number x)) order evals weights (EF.number sum)) }
+        ensures shown { IfOk result (λ p. image_shown_by p ≡ tables_shown EF.number (λ x. R.to_number (R.number x)) order evals weights (EF.number sum)) }
+        ensures outstanding { IfOk result (λ p. (image_stored_by p).held ≡ None) }
     {
         let evals = represented(alloc, evals)?;
         let poly = ProductPolynomial::new_unpacked(order, evals, weights);
@@ -84,8 +90,8 @@ impl<F: Field, EF: ExtensionField<F>, R: IntoTranscriptField<EF>> ReprSumcheckPr
         })
     }
 
-    /// Whether evaluations in `EF` and weights in `R` have as many variables, and the sum over all rows of evaluation times represented weight is this
-    /// one. It takes no memory.
+    /// Whether evaluations in `EF` and weights in `R` have as many variables, and the sum over all
+    /// rows of evaluation times represented weight is this one. It takes no memory.
     pub fn tables_agree(evals: &Poly<EF>, weights: &Poly<R>, sum: EF) -> bool
         ensures { IsTrue result ↔ TablesAgree EF.ops EF.number (λ x. R.to_number (R.number x)) evals.now weights.now (EF.number sum) }
     {
@@ -128,6 +134,7 @@ impl<F: Field, EF: ExtensionField<F>, R: IntoTranscriptField<EF>> ReprSumcheckPr
     /// The bound evaluations, as they are held, in memory of their own.
     pub fn evals(&mut self, alloc: Global) -> Result<Poly<R>, NoMemory>
         ensures kept { image_shown_by self.new ≡ image_shown_by self.old }
+        ensures settled { (image_stored_by self.new).held ≡ None }
         ensures variables { IfOk result (λ p. variables_of p ≡ (image_shown_by self.old).variables) }
         ensures table { IfOk result (λ p. numbers_of (λ x. R.to_number (R.number x)) p ≡ (image_shown_by self.old).evals) }
     {
@@ -138,6 +145,7 @@ impl<F: Field, EF: ExtensionField<F>, R: IntoTranscriptField<EF>> ReprSumcheckPr
     /// The bound weights, as they are held, in memory of their own.
     pub fn weights(&mut self, alloc: Global) -> Result<Poly<R>, NoMemory>
         ensures kept { image_shown_by self.new ≡ image_shown_by self.old }
+        ensures settled { (image_stored_by self.new).held ≡ None }
         ensures variables { IfOk result (λ p. variables_of p ≡ (image_shown_by self.old).variables) }
         ensures table { IfOk result (λ p. numbers_of (λ x. R.to_number (R.number x)) p ≡ (image_shown_by self.old).weights) }
     {
@@ -145,10 +153,12 @@ impl<F: Field, EF: ExtensionField<F>, R: IntoTranscriptField<EF>> ReprSumcheckPr
         self.rounds.poly.weights(alloc)
     }
 
-    /// Plays a batch of rounds, one for each of the next `folding_factor` variables, at a difficulty of at most the challenger's
-    /// [`Challenger::max_bits`], and answers their challenges in drawing order.
+    /// Plays a batch of rounds, one for each of the next `folding_factor` variables, at a
+    /// difficulty of at most the challenger's [`Challenger::max_bits`], and answers their
+    /// challenges in drawing order.
     ///
-    /// The refusals, and what stands after each, are those of [`SumcheckProver::compute_sumcheck_polynomials`] without a constraint.
+    /// The refusals, and what stands after each, are those of
+    /// [`SumcheckProver::compute_sumcheck_polynomials`] without a constraint.
     pub fn compute_sumcheck_polynomials<C: Challenger<F>>(
         &mut self,
         alloc: Global,
@@ -160,19 +170,19 @@ impl<F: Field, EF: ExtensionField<F>, R: IntoTranscriptField<EF>> ReprSumcheckPr
         requires variables { folding_factor ≤ (image_shown_by self.old).variables }
         requires difficulty { pow_bits ≤ (C.party challenger.old).rules.max_bits }
         ensures rules { (C.party challenger.new).rules ≡ (C.party challenger.old).rules }
-        ensures order { (image_shown_by self.new).order ≡ (image_shown_by self.old).order }
+        ensures form { KeepsForm (image_shown_by self.old) (image_shown_by self.new) }
         ensures batch { LeavesBatch (map EF.number)
-            (image_batch_of self.old sumcheck_data.old (C.party challenger.old) (shape_of folding_factor pow_bits Basis.Evaluation))
+            (image_batch_of self.old sumcheck_data.old (C.party challenger.old) folding_factor pow_bits)
             (image_standing_of self.new sumcheck_data.new (C.party challenger.new).history) result }
 
-        // The last challenge is held, and the stored tables have all others bound.
+        // The last challenge is held, and the stored tables have all others bound. Where no round
+        // is asked for, all that is kept stays.
         ensures holds { IfOk result (λ rs. HoldsBatch
-            (image_batch_of self.old sumcheck_data.old (C.party challenger.old) (shape_of folding_factor pow_bits Basis.Evaluation))
-            (map EF.number rs) (image_stored_by self.new)) }
+            (image_batch_of self.old sumcheck_data.old (C.party challenger.old) folding_factor pow_bits)
+            (image_stored_by self.old) (map EF.number rs) (image_stored_by self.new)) }
     {
-        let shape = SumcheckShape::new(folding_factor, pow_bits, Basis::Evaluation);
         self.rounds
-            .play_batch::<F, EF, C>(alloc, sumcheck_data, challenger, shape)
+            .play_batch::<F, EF, C>(alloc, sumcheck_data, challenger, folding_factor, pow_bits)
     }
 }
 

@@ -4,12 +4,12 @@ ghost use Rattle.std.specs.Prelude.{◌≡◌, ◌≤◌, IfOk};
 ghost use Rattle.sc_table.specs.Polys.{variables_of};
 
 use super::step::{play, scripted, stands};
-use super::{PLAYS, Play, Standing, table};
+use super::{Form, PLAYS, Play, Standing, table};
 use sc_challenger::{Challenger, ScriptedChallenger};
 use sc_field::{ExtensionField, Field, NoMemory};
 use sc_rounds::{BaseProduct, ProductPolynomial, SumcheckData, SumcheckError, SumcheckProver};
 use sc_small_fields::{F257, F257x2, F65537};
-use sc_table::{Point, Poly, VariableOrder};
+use sc_table::{Basis, Point, Poly, VariableOrder};
 use sc_tests_common::{are_pairs, elements, have_numbers, of, table as table_by_rule};
 use std::alloc::Global;
 
@@ -20,7 +20,7 @@ type Played<F, EF> = Result<(SumcheckProver<F, EF>, Point<EF>), SumcheckError>;
 // variables. The difficulty is one that the challenger takes.
 fn play_base<F: Field, EF: ExtensionField<F>, C: Challenger<F>>(
     alloc: Global,
-    order: VariableOrder,
+    form: Form,
     evals: &[F],
     weights: Poly<EF>,
     sum: EF,
@@ -30,10 +30,14 @@ fn play_base<F: Field, EF: ExtensionField<F>, C: Challenger<F>>(
     pow_bits: usize,
 ) -> Option<Played<F, EF>> {
     let variables = weights.num_variables();
-    if rounds == 0 || rounds > variables || !BaseProduct::tables_agree(evals, &weights, sum) {
+    let (basis, order) = form;
+    if rounds == 0 || rounds > variables || !basis.is_offered(order) {
         return None;
     }
-    let base = BaseProduct::new(order, evals, weights, sum);
+    if !BaseProduct::tables_agree(evals, &weights, sum) {
+        return None;
+    }
+    let base = BaseProduct::new(basis, order, evals, weights, sum);
     if base.claimed_sum() != sum {
         return None;
     }
@@ -44,7 +48,7 @@ fn play_base<F: Field, EF: ExtensionField<F>, C: Challenger<F>>(
 // The same on the table 1, 2, 3, 4 and the weights of the point (0, 1), whose sum is 2.
 fn play_four(
     alloc: Global,
-    order: VariableOrder,
+    form: Form,
     data: &mut SumcheckData<F65537, F65537>,
     challenger: &mut ScriptedChallenger<F65537>,
     rounds: usize,
@@ -54,7 +58,7 @@ fn play_four(
     let weights = table(alloc, &[0, 1, 0, 0])?;
     Ok(play_base(
         alloc,
-        order,
+        form,
         &evals,
         weights,
         of(2),
@@ -75,7 +79,7 @@ fn wrong_by_hand(
 ) -> Result<Option<&'static str>, NoMemory> {
     let mut data = SumcheckData::new(alloc);
     let mut challenger = scripted(alloc)?;
-    let played = play_four(alloc, wanted.order, &mut data, &mut challenger, rounds, 0)?;
+    let played = play_four(alloc, wanted.form, &mut data, &mut challenger, rounds, 0)?;
     let Some(Ok((mut prover, challenges))) = played else {
         return Ok(Some("refused"));
     };
@@ -86,7 +90,9 @@ fn wrong_by_hand(
         &wanted.sent[..rounds.min(wanted.sent.len())],
     ) {
         Some("messages")
-    } else if prover.order() != wanted.order || !stands(alloc, &mut prover, left)? {
+    } else if (prover.basis(), prover.order()) != wanted.form
+        || !stands(alloc, &mut prover, left)?
+    {
         Some("tables")
     } else {
         None
@@ -110,8 +116,8 @@ fn round_without_witness(
 ) -> Result<(Option<usize>, usize), NoMemory> {
     let mut data = SumcheckData::new(alloc);
     let mut challenger = sc_tests_common::scripted(alloc, &[3, 4], good)?;
-    let order = VariableOrder::Prefix;
-    let played = play_four(alloc, order, &mut data, &mut challenger, 2, 1)?;
+    let form = (Basis::Evaluation, VariableOrder::Prefix);
+    let played = play_four(alloc, form, &mut data, &mut challenger, 2, 1)?;
     let round = match played {
         Some(Err(SumcheckError::NoWitness { round })) => Some(round),
         _ => None,
@@ -165,7 +171,7 @@ fn drawing(alloc: Global) -> Result<ScriptedChallenger<F257>, NoMemory> {
 // their images, if there is one.
 fn differs(
     alloc: Global,
-    order: VariableOrder,
+    form: Form,
     n: usize,
     rounds: usize,
 ) -> Result<Option<&'static str>, NoMemory>
@@ -173,7 +179,11 @@ fn differs(
 {
     let evals = table_by_rule::<F257>(alloc, n, 41)?.into_evals();
     let images = image_table(alloc, &evals, n)?;
-    let pair = ProductPolynomial::new_unpacked(order, images, table_by_rule(alloc, n, 3001)?);
+    let (basis, order) = form;
+    if !basis.is_offered(order) {
+        return Ok(Some("form"));
+    }
+    let pair = ProductPolynomial::new_in(basis, order, images, table_by_rule(alloc, n, 3001)?);
     let sum = pair.dot_product();
     let mut prover = SumcheckProver::new(pair, sum);
     let (mut one, mut other) = (drawing(alloc)?, drawing(alloc)?);
@@ -184,7 +194,7 @@ fn differs(
     let drawn = prover.compute_sumcheck_polynomials(alloc, &mut sent, &mut one, rounds, 0, None);
     let weights: Poly<F257x2> = table_by_rule(alloc, n, 3001)?;
     let played = play_base(
-        alloc, order, &evals, weights, sum, &mut data, &mut other, rounds, 0,
+        alloc, form, &evals, weights, sum, &mut data, &mut other, rounds, 0,
     );
     let (Ok(drawn), Some(Ok((mut left, challenges)))) = (drawn, played) else {
         return Ok(Some("refused"));
@@ -208,9 +218,13 @@ fn differs(
 
 #[test]
 fn rounds_on_base_elements_are_those_on_their_images(rt: HostRuntime) {
-    for order in [VariableOrder::Prefix, VariableOrder::Suffix] {
+    for form in [
+        (Basis::Evaluation, VariableOrder::Prefix),
+        (Basis::Evaluation, VariableOrder::Suffix),
+        (Basis::Projective, VariableOrder::Prefix),
+    ] {
         for (n, rounds) in [(1, 1), (2, 1), (2, 2), (5, 3), (5, 5)] {
-            assert_eq!(rt; differs(rt.alloc(), order, n, rounds), Ok(None));
+            assert_eq!(rt; differs(rt.alloc(), form, n, rounds), Ok(None));
         }
     }
 }

@@ -14,7 +14,8 @@ use sc_tests_common::{are_pairs, elements, of};
 use std::alloc::Global;
 use std::process::Abort;
 
-// A constraint on what the first of two rounds leaves: the value claimed at 2, what the second round then sends, and the claims before and after it.
+// A constraint on what the first of two rounds leaves: the value claimed at 2, what the second
+// round then sends, and the claims before and after it.
 struct Between {
     order: VariableOrder,
     value: u64,
@@ -60,7 +61,11 @@ fn round_in_step<F: Field, EF: ExtensionField<F>, C: Challenger<F>, A: Abort>(
 #[test]
 fn a_constraint_is_taken_in_between_batches(rt: HostRuntime) {
     for row in &BETWEEN {
-        let mut prover = prover_of(rt.alloc(), row.order, &[0, 1, 0, 0]).expect(&rt, "an answer");
+        let mut prover = prover_of(
+            rt.alloc(),
+            (Basis::Evaluation, row.order),
+            &[0, 1, 0, 0],
+        ).expect(&rt, "an answer");
         let mut prover_side = scripted(rt.alloc()).expect(&rt, "an answer");
         let mut verifier_side = scripted(rt.alloc()).expect(&rt, "an answer");
         let mut claim = of(2);
@@ -117,10 +122,12 @@ static ADDED: Standing = Standing {
 
 #[test]
 fn a_claim_is_added_row_by_row(rt: HostRuntime) {
-    let mut prover = prover_of(rt.alloc(), VariableOrder::Suffix, &[5, 0, 0, 1]).expect(
-        &rt,
-        "an answer",
-    );
+    let mut prover = prover_of(
+        rt.alloc(),
+        (Basis::Evaluation, VariableOrder::Suffix),
+        &[5, 0, 0, 1],
+    )
+    .expect(&rt, "an answer");
     assert_eq!(rt; prover.claimed_sum().index(), 9);
     let delta = elements(rt.alloc(), &[0, 1, 0, 65536]).expect(&rt, "an answer");
     assert!(rt; !add_claim(&mut prover, &delta, of(2)));

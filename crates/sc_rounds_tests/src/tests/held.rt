@@ -3,23 +3,19 @@ ghost use Rattle.std.specs.Prelude.{◌≡◌, ◌+◌};
 ghost use Rattle.sc_rounds.specs.ProverViews.{shown_by};
 
 use super::step::{play, prover_of, scripted, stands};
-use super::{PLAYS, Play, Standing};
+use super::{Form, PLAYS, Play, Standing};
 use sc_challenger::Challenger;
 use sc_field::{Field, NoMemory};
 use sc_rounds::{SumcheckData, SumcheckProver};
 use sc_small_fields::F65537;
-use sc_table::VariableOrder;
+use sc_table::{Basis, VariableOrder};
 use sc_tests_common::{have_numbers, of, point};
 use std::alloc::Global;
 use std::process::Abort;
 
 // The prover of the table 1, 2, 3, 4 and the weights of the point (0, 1), after one round.
-fn after_one_round<A: Abort>(
-    rt: &A,
-    alloc: Global,
-    order: VariableOrder,
-) -> SumcheckProver<F65537, F65537> {
-    let mut prover = prover_of(alloc, order, &[0, 1, 0, 0]).expect(rt, "an answer");
+fn after_one_round<A: Abort>(rt: &A, alloc: Global, form: Form) -> SumcheckProver<F65537, F65537> {
+    let mut prover = prover_of(alloc, form, &[0, 1, 0, 0]).expect(rt, "an answer");
     let mut data = SumcheckData::new(alloc);
     let mut challenger = scripted(alloc).expect(rt, "an answer");
     play(
@@ -46,7 +42,7 @@ fn held(prover: &SumcheckProver<F65537, F65537>) -> Option<u64> {
 #[test]
 fn the_last_challenge_is_held_until_it_is_settled(rt: HostRuntime) {
     for wanted in &PLAYS {
-        let mut prover = after_one_round(&rt, rt.alloc(), wanted.order);
+        let mut prover = after_one_round(&rt, rt.alloc(), wanted.form);
         assert!(rt; (held(&prover), prover.num_variables()) == (Some(3), 1));
         assert_eq!(rt; prover.claimed_sum().index(), wanted.after[0].1.sum);
         prover.settle();
@@ -91,7 +87,7 @@ fn reads_bound(
 fn readers_settle_first(rt: HostRuntime) {
     for wanted in &PLAYS {
         for reader in [Reader::Evals, Reader::Weights, Reader::View, Reader::Value] {
-            let mut prover = after_one_round(&rt, rt.alloc(), wanted.order);
+            let mut prover = after_one_round(&rt, rt.alloc(), wanted.form);
             let (first, last) = (&wanted.after[0].1, &wanted.after[1].1);
             assert_eq!(rt; last.evals.len(), 1);
             let read = reads_bound(rt.alloc(), &mut prover, reader, first, last.evals[0]);
@@ -120,7 +116,7 @@ fn rounds_by_hand<A: Abort>(
     alloc: Global,
     wanted: &Play,
 ) -> SumcheckProver<F65537, F65537> {
-    let mut prover = prover_of(alloc, wanted.order, &[0, 1, 0, 0]).expect(rt, "an answer");
+    let mut prover = prover_of(alloc, wanted.form, &[0, 1, 0, 0]).expect(rt, "an answer");
     for ((challenge, standing), sent) in wanted.after.iter().zip(wanted.sent) {
         if prover.num_variables() > 0 {
             let once = prover.measure_round();
@@ -153,7 +149,7 @@ static SCALED: Standing = Standing {
 
 #[test]
 fn weights_and_claim_are_scaled_on_the_bound_tables(rt: HostRuntime) {
-    let mut prover = after_one_round(&rt, rt.alloc(), VariableOrder::Prefix);
+    let mut prover = after_one_round(&rt, rt.alloc(), (Basis::Evaluation, VariableOrder::Prefix));
     prover.scale_weights_and_claim(of(5));
     assert_eq!(rt; held(&prover), None);
     assert!(rt; stands(rt.alloc(), &mut prover, &SCALED) == Ok(true));

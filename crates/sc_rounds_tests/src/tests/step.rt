@@ -4,7 +4,7 @@ ghost use Rattle.sc_claims.specs.EqStatements.{eq_arity};
 ghost use Rattle.sc_statements.specs.Constraints.{constraint_arity};
 ghost use Rattle.sc_rounds.specs.ProverViews.{shown_by, IsNoneOrTrueOf};
 
-use super::{PLAYS, Standing, are_standing, pair_of};
+use super::{Form, PLAYS, Standing, are_standing, pair_of};
 use sc_challenger::{Challenger, ScriptedChallenger};
 use sc_field::{ExtensionField, Field, NoMemory};
 use sc_rounds::{
@@ -28,13 +28,13 @@ pub(super) fn scripted(alloc: Global) -> Result<ScriptedChallenger<F65537>, NoMe
 // The prover of the table 1, 2, 3, 4 and of these four weights.
 pub(super) fn prover_of(
     alloc: Global,
-    order: VariableOrder,
+    form: Form,
     weights: &[u64],
 ) -> Result<SumcheckProver<F65537, F65537>, NoMemory>
     requires { length weights.now ≡ 4 }
     ensures { IfOk result (λ p. (shown_by p).variables ≡ 2) }
 {
-    let pair = pair_of(alloc, order, weights)?;
+    let pair = pair_of(alloc, form, weights)?;
     let sum = pair.dot_product();
     Ok(SumcheckProver::new(pair, sum))
 }
@@ -86,8 +86,9 @@ fn is_true<F: Field, EF: ExtensionField<F>>(
     }
 }
 
-// Plays a batch with a constraint that has to be true. The batch has at most as many rounds as there are variables, and a difficulty that the challenger
-// takes. The constraint is let go on no path, which would have to be proved.
+// Plays a batch with a constraint that has to be true. The batch has at most as many rounds as
+// there are variables, and a difficulty that the challenger takes. The constraint is let go on no
+// path, which would have to be proved.
 pub(super) fn play<F: Field, EF: ExtensionField<F>, C: Challenger<F>, A: Abort>(
     rt: &A,
     alloc: Global,
@@ -281,7 +282,10 @@ fn assert_in_step<A: Abort>(
     row: &InStep,
     constraint: Option<Constraint<F65537, F65537>>,
 ) {
-    let mut prover = prover_of(alloc, row.order, &row.weights).expect(rt, "an answer");
+    let mut prover = prover_of(alloc, (Basis::Evaluation, row.order), &row.weights).expect(
+        rt,
+        "an answer",
+    );
     assert_eq!(rt; prover.claimed_sum().index(), row.sum);
     let mut one_side = scripted(alloc).expect(rt, "an answer");
     let mut other_side = one_side.copy(alloc).expect(rt, "an answer");
@@ -394,10 +398,12 @@ static TAKEN_IN: Standing = Standing {
 
 #[test]
 fn a_constraint_is_combined_into_a_pair(rt: HostRuntime) {
-    let mut pair = pair_of(rt.alloc(), VariableOrder::Suffix, &[0, 0, 0, 0]).expect(
-        &rt,
-        "an answer",
-    );
+    let mut pair = pair_of(
+        rt.alloc(),
+        (Basis::Evaluation, VariableOrder::Suffix),
+        &[0, 0, 0, 0],
+    )
+    .expect(&rt, "an answer");
     let mut sum = pair.dot_product();
     assert_eq!(rt; sum.index(), 0);
     let constraint = one_claim(rt.alloc(), &[0, 1], 2).expect(&rt, "an answer");
@@ -442,7 +448,8 @@ fn value_at(
     if at.num_variables() != prover.num_variables() {
         return Ok(None);
     }
-    // A look at the evaluations leaves the number of variables as it was: that is what lets the next call stand here.
+    // A look at the evaluations leaves the number of variables as it was: that is what lets the
+    // next call stand here.
     let rows = prover.evals_view().len();
     if rows == 0 {
         return Ok(None);
@@ -459,10 +466,12 @@ static BOUND: Standing = Standing {
 
 #[test]
 fn a_true_constraint_is_taken_in(rt: HostRuntime) {
-    let mut prover = prover_of(rt.alloc(), VariableOrder::Prefix, &[0, 0, 0, 0]).expect(
-        &rt,
-        "an answer",
-    );
+    let mut prover = prover_of(
+        rt.alloc(),
+        (Basis::Evaluation, VariableOrder::Prefix),
+        &[0, 0, 0, 0],
+    )
+    .expect(&rt, "an answer");
     assert_eq!(rt; prover.claimed_sum().index(), 0);
     assert!(rt; claim_is_true(rt.alloc(), &mut prover, &[0, 1], 3) == Ok(false));
     assert!(rt; claim_is_true(rt.alloc(), &mut prover, &[0], 2) == Ok(false));
@@ -498,14 +507,11 @@ fn a_true_constraint_is_taken_in(rt: HostRuntime) {
     assert!(rt; value_at(rt.alloc(), &mut prover, &[4]) == Ok(Some(11)));
 }
 
-// In either order each round follows on a look at the evaluations, which is what `stands` ends with.
+// In each form a round follows on a look at the evaluations, which is what `stands` ends with.
 #[test]
 fn a_look_at_the_evaluations_changes_nothing(rt: HostRuntime) {
     for wanted in &PLAYS {
-        let mut prover = prover_of(rt.alloc(), wanted.order, &[0, 1, 0, 0]).expect(
-            &rt,
-            "an answer",
-        );
+        let mut prover = prover_of(rt.alloc(), wanted.form, &[0, 1, 0, 0]).expect(&rt, "an answer");
         let mut data = SumcheckData::new(rt.alloc());
         let mut challenger = scripted(rt.alloc()).expect(&rt, "an answer");
         assert!(rt; have_numbers(prover.evals_view(), &[1, 2, 3, 4]));
@@ -522,7 +528,7 @@ fn a_look_at_the_evaluations_changes_nothing(rt: HostRuntime) {
             );
             assert!(rt; have_numbers(drawn.as_slice(), &[*challenge]));
             assert!(rt; stands(rt.alloc(), &mut prover, standing) == Ok(true));
-            assert!(rt; prover.order() == wanted.order);
+            assert!(rt; (prover.basis(), prover.order()) == wanted.form);
         }
         assert!(rt; are_pairs(data.polynomial_evaluations(), wanted.sent));
     }

@@ -4,11 +4,11 @@ ghost use Rattle.std.specs.Prelude.{◌≡◌, ◌≤◌, IfOk};
 ghost use Rattle.sc_table.specs.Polys.{variables_of};
 ghost use Rattle.sc_rounds.specs.Products.{variables_in};
 
-use super::Pair;
+use super::{Form, Pair};
 use sc_field::{Field, NoMemory};
 use sc_rounds::{FoundTurn, ProductPolynomial, find_turn};
 use sc_small_fields::F65537;
-use sc_table::{Poly, RoundMessage, VariableOrder};
+use sc_table::{Basis, Poly, RoundMessage, VariableOrder};
 use sc_tests_common::{elements, have_numbers, of};
 use std::alloc::Global;
 use std::process::Abort;
@@ -20,7 +20,7 @@ type Turn = (usize, &'static [u64]);
 // that is found.
 struct Played {
     name: &'static str,
-    order: VariableOrder,
+    form: Form,
     variables: usize,
     evals: &'static [u64],
     weights: &'static [u64],
@@ -34,7 +34,7 @@ struct Played {
 // and 1 - X^2 is true: 4 - 6 X + 2 X^2 is 2 (X - 1) (X - 2).
 const ONE: Played = Played {
     name: "one round",
-    order: VariableOrder::Prefix,
+    form: (Basis::Evaluation, VariableOrder::Prefix),
     variables: 1,
     evals: &[1, 2],
     weights: &[1, 0],
@@ -50,7 +50,7 @@ const ONE: Played = Played {
 // more by (X - 1) (X - 3).
 const FIRST: Played = Played {
     name: "the first of two rounds",
-    order: VariableOrder::Prefix,
+    form: (Basis::Evaluation, VariableOrder::Prefix),
     variables: 2,
     evals: &[1, 2, 3, 4],
     weights: &[0, 1, 0, 0],
@@ -64,12 +64,23 @@ const FIRST: Played = Played {
 // sends 3 - 3 X + 2 X^2.
 const FIRST_SUFFIX: Played = Played {
     name: "the first of two rounds in suffix order",
-    order: VariableOrder::Suffix,
+    form: (Basis::Evaluation, VariableOrder::Suffix),
     rounds: &[(3, 2), (7, 7)],
     ..FIRST
 };
 
-static PLAYED: [Played; 9] = [
+// Of coefficients the first true polynomial is 2 + 4 X, whose constant and leading coefficient are
+// 2 in sum, and the second one, after the challenge 3, is (10 + 14 X) X. The first round sends
+// 8 + 11 X - 3 X^2, which is more by (3 - X) (2 + 3 X).
+const FIRST_OF_COEFFICIENTS: Played = Played {
+    name: "the first of two rounds of coefficients",
+    form: (Basis::Projective, VariableOrder::Prefix),
+    rounds: &[(16, 65534), (24, 14)],
+    found: Some((0, &[6, 7, 65534])),
+    ..FIRST
+};
+
+static PLAYED: [Played; 13] = [
     ONE,
     Played {
         name: "the same round at another challenge",
@@ -114,6 +125,28 @@ static PLAYED: [Played; 9] = [
         found: None,
         ..FIRST_SUFFIX
     },
+    // The constant 1 is claimed to be 5. The round sends 5, and 1 + 2 X is true.
+    Played {
+        name: "one round of coefficients",
+        form: (Basis::Projective, VariableOrder::Prefix),
+        rounds: &[(5, 0)],
+        found: Some((0, &[4, 65535, 0])),
+        ..ONE
+    },
+    FIRST_OF_COEFFICIENTS,
+    // The first round leaves 8, and 14 is true; the second sends 4 + 49 X + 4 X^2.
+    Played {
+        name: "the second of two rounds of coefficients",
+        rounds: &[(6, 0), (57, 4)],
+        found: Some((1, &[4, 39, 65527])),
+        ..FIRST_OF_COEFFICIENTS
+    },
+    Played {
+        name: "neither of two rounds of coefficients",
+        rounds: &[(6, 0), (57, 5)],
+        found: None,
+        ..FIRST_OF_COEFFICIENTS
+    },
 ];
 
 // The table of so many variables with these entries, and zeros after them.
@@ -143,7 +176,11 @@ fn pair_on(
 {
     let evals = filled(alloc, variables, played.evals)?;
     let weights = filled(alloc, variables, played.weights)?;
-    Ok(ProductPolynomial::new_unpacked(played.order, evals, weights))
+    let (basis, order) = played.form;
+    Ok(match basis {
+        Basis::Evaluation => ProductPolynomial::new_unpacked(order, evals, weights),
+        Basis::Projective => ProductPolynomial::new_projective(evals, weights),
+    })
 }
 
 // The messages of these pairs.

@@ -6,8 +6,8 @@ use Rattle.sc_rounds.proofs.HeldLaws.{none_held, settled_pair, none_wanted, true
 use Rattle.sc_rounds.proofs.ShownLaws.{shown_added}
 use Rattle.sc_rounds.proofs.held_product.HeldProduct.add.Goals as goal
 
-pub returns : goal.returns
-returns g c =
+pub returns-clause-added : goal.returns-clause-added
+returns-clause-added g c =
     let o = g.EF.Field.ops in
     let N = g.EF.Field.number in
     let t = c.settle.new.self in
@@ -15,7 +15,7 @@ returns g c =
     let v = entries N c.args.delta.now in
     let d = N c.args.sum_delta in
     none_held o N c.add_weights.new.self c.add-self.result t.held c.settle.ensures.settled
-    ∙ shown_added N o t.poly c.add_weights.new.self t.sum c.add-self.result v d e.variables e.order e.evals e.weights c.add-self.ensures
+    ∙ shown_added N o t.poly c.add_weights.new.self t.sum c.add-self.result v d e.variables e.basis e.order e.evals e.weights c.add-self.ensures
     ∙ ap (λ s. with_added o s v d) (settled_pair o N t.poly t.sum t.held _ c.settle.ensures.settled c.settle.ensures.kept)
 
 pub invariant_of-self : goal.invariant_of-self
@@ -31,7 +31,7 @@ invariant_of-self g c =
       left = none_wanted _ t.held c.settle.ensures.settled;
       true_sum = subst (IsTrueClaim o)
           (sym (none_held o N c.add_weights.new.self c.add-self.result t.held c.settle.ensures.settled
-          ∙ shown_added N o t.poly c.add_weights.new.self t.sum c.add-self.result v d e.variables e.order e.evals e.weights c.add-self.ensures
+          ∙ shown_added N o t.poly c.add_weights.new.self t.sum c.add-self.result v d e.variables e.basis e.order e.evals e.weights c.add-self.ensures
           ∙ ap (λ s. with_added o s v d) (sym (none_held o N t.poly t.sum t.held c.settle.ensures.settled))))
           (true_added o g.met.EF.Field.is_field.ring shown v d t.true_sum (c.requires.sum ∙ ap (λ s. sum_with o s v) (sym c.settle.ensures.kept)));
     }

@@ -1,4 +1,5 @@
-use Rattle.std.proofs.Common.{sym, subst}
+use Rattle.std.proofs.Common.{[], ◌∷◌, ap, sym, ◌∙◌, subst}
+use Rattle.sc_definitions.specs.Rounds.{next_claim}
 use Rattle.sc_rounds.specs.Provers.{held_shown}
 use Rattle.sc_definitions.specs.Shown.{IsTrueClaim}
 use Rattle.sc_rounds.proofs.HeldLaws.{bound_shown, true_bound, left_before}
@@ -7,7 +8,8 @@ use Rattle.sc_rounds.proofs.held_product.HeldProduct.bind.Goals as goal
 pub returns-clause-bound : goal.returns-clause-bound
 returns-clause-bound g c =
     let t = c.args.self.now in
-    bound_shown g.EF.Field.ops g.EF.Field.number t.poly t.sum _ c.args.r t.held _ c.requires.settled c.requires.message c.reduce_claim-self.ensures.claim
+    bound_shown g.EF.Field.ops g.EF.Field.number t.poly t.sum _ c.args.r t.held _ c.requires.settled c.requires.message
+    (c.reduce_claim-self.ensures.claim ∙ ap (λ b. next_claim b g.EF.Field.ops (g.EF.Field.number t.sum) (g.EF.Field.number c.args.message.c_a ∷ g.EF.Field.number c.args.message.c_inf ∷ []) (g.EF.Field.number c.args.r)) c.basis-basis.ensures)
 
 pub invariant_of-self : goal.invariant_of-self
 invariant_of-self g c =
@@ -17,6 +19,7 @@ invariant_of-self g c =
     record {
       left = λ r _. left_before _ t.held c.requires.settled c.requires.left;
       true_sum = subst (IsTrueClaim o)
-          (sym (bound_shown o N t.poly t.sum c.reduce_claim-self.result c.args.r t.held _ c.requires.settled c.requires.message c.reduce_claim-self.ensures.claim))
-          (true_bound o g.met.EF.Field.is_field.ring (held_shown o N t.poly t.held t.sum) (N c.args.r) c.requires.left t.true_sum);
+          (sym (bound_shown o N t.poly t.sum c.reduce_claim-self.result c.args.r t.held _ c.requires.settled c.requires.message
+          (c.reduce_claim-self.ensures.claim ∙ ap (λ b. next_claim b o (N t.sum) (N c.args.message.c_a ∷ N c.args.message.c_inf ∷ []) (N c.args.r)) c.basis-basis.ensures)))
+          (true_bound o g.met.EF.Field.is_field.ring (held_shown o N t.poly t.held t.sum) t.poly.offered (N c.args.r) c.requires.left t.true_sum);
     }

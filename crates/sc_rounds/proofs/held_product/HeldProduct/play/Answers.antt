@@ -2,7 +2,6 @@ use Rattle.std.proofs.Common.{◌+◌, ◌≤◌, map, ap, sym, refl, inl, inr, 
 use Rattle.std.proofs.lemmas.List.{map-append}
 use Rattle.sc_transcript.proofs.ReplayedLaws.{same_channel}
 use Rattle.sc_transcript.specs.declared.rounds.BatchShape.{BatchShape}
-use Rattle.sc_transcript.specs.declared.transcript.SumcheckShape.{SumcheckShape}
 use Rattle.sc_definitions.specs.Shown.{Shown}
 use Rattle.sc_rounds.specs.HeldProducts.{shown_in, image_in, standing_over}
 use Rattle.sc_transcript.proofs.BatchLaws.{fits, less_by_one, some_left, less_at, room_at, all_played, sum_at, same_setting, one_round_more, stops, begun_within}
@@ -13,11 +12,11 @@ loop-round-init g c = record {
   continues = record { lender = refl; rules = refl; shape = refl; kind = refl };
   played = sym (c.len-round.ensures ∙ c.requires.count);
   left = ap (λ k. (shown_in c.args.self.now).variables + k) (c.len-round.ensures ∙ c.requires.count);
-  order = refl;
+  form = record { basis = refl; order = refl };
   len = sym c.len-round.ensures;
   room = c.requires.room;
   batch = λ start before. before;
-  holds = λ start before. inl refl;
+  holds = λ start before. inl (refl, refl);
 }
 
 pub loop-round-preserved : goal.loop-round-preserved
@@ -35,11 +34,11 @@ loop-round-preserved g c =
       };
       played = round.counts ∙ ap (λ n. n + 1) inv.played;
       left = less_by_one _ _ _ _ round.round.fewer inv.left;
-      order = round.order ∙ inv.order;
+      form = record { basis = round.form.basis ∙ inv.form.basis; order = round.form.order ∙ inv.form.order };
       len = c.push_reserved.ensures.len ∙ ap (λ n. n + 1) inv.len;
       room = fits _ _ _ _ (ap (λ (s : BatchShape). s.num_rounds) round.continues.shape) c.push_reserved.ensures.capacity inv.room;
-      batch = λ start before. one_round_more g.met.EG.Field.is_field.ring tt
-          (same_setting (same_channel g.G.Field.ops.size inv.continues.rules (ap (λ (s : BatchShape). s.pow_bits) inv.continues.shape)) inv.order)
+      batch = λ start before. one_round_more g.met.EG.Field.is_field.ring c.args.self.now.poly.offered
+          (same_setting (same_channel g.G.Field.ops.size inv.continues.rules (ap (λ (s : BatchShape). s.pow_bits) inv.continues.shape)) inv.form.basis inv.form.order)
           drawn (inv.batch start before) round.round;
       holds = λ start before. inr (record {
         others = _;
@@ -77,7 +76,7 @@ returns g c =
     let below : c.len-round.result ≤ c.shape-round-end.result.num_rounds = begun_within c.len-round.ensures c.requires.count c.requires.begun (ap (λ (s : BatchShape). s.num_rounds) c.shape-round-end.ensures.numbers) in
     record {
       continues = inv.continues;
-      order = inv.order;
+      form = inv.form;
       left = sum_at _ _ _ _ inv.played inv.left;
       rounds = λ start before. (all_played _ _ _ _ inv.played (ap (λ (s : BatchShape). s.num_rounds) inv.continues.shape ∙ ap (λ (s : BatchShape). s.num_rounds) (sym c.shape-round-end.ensures.numbers)) c.loop-round-test.false (c.loop-round.auto._round-end below), inv.batch start before);
       holds = inv.holds;
@@ -95,12 +94,12 @@ returns-in-Err g c =
         shape = round.continues.shape ∙ inv.continues.shape;
         kind = round.continues.kind ∙ inv.continues.kind;
       };
-      order = round.order ∙ inv.order;
+      form = record { basis = round.form.basis ∙ inv.form.basis; order = round.form.order ∙ inv.form.order };
       left = sum_at _ _ _ _ (round.counts ∙ inv.played) (ap (λ (s : Shown). s.variables + c.loop-round._round) round.kept ∙ inv.left);
       rounds = λ start before. (
         less_at _ _ _ _ (round.counts ∙ inv.played) c.loop-round-test.true (ap (λ (s : BatchShape). s.num_rounds) c.shape-round-end.ensures.numbers ∙ ap (λ (s : BatchShape). s.num_rounds) (sym inv.continues.shape ∙ sym round.continues.shape)),
         stops _ c.in-Err.error
-            (same_setting (same_channel g.G.Field.ops.size inv.continues.rules (ap (λ (s : BatchShape). s.pow_bits) inv.continues.shape)) inv.order)
+            (same_setting (same_channel g.G.Field.ops.size inv.continues.rules (ap (λ (s : BatchShape). s.pow_bits) inv.continues.shape)) inv.form.basis inv.form.order)
             (sym round.counts) (inv.batch start before) round.round,
       );
       holds = tt;

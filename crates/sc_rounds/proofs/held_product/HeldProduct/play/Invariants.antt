@@ -1,5 +1,6 @@
 use Rattle.std.proofs.Common.{◌≡◌, ◌+◌, ◌≤◌, map, vec_len, vec_capacity}
 use Rattle.sc_definitions.specs.Standings.{Standing, IsPlayed}
+use Rattle.sc_definitions.specs.Shown.{KeepsForm}
 use Rattle.sc_transcript.specs.Drivers.{Continues}
 use Rattle.sc_transcript.specs.Transcripts.{driver_in}
 use Rattle.sc_rounds.specs.HeldProducts.{shown_in, image_in, image_stored_in, setting_over, standing_over}
@@ -17,10 +18,10 @@ invariant-loop-round g l =
       continues : Continues (driver_in l.fn.transcript) (driver_in l.transcript);
       played : l.transcript.rounds.played ≡ l._round;
       left : (shown_in l.self).variables + l._round ≡ (shown_in l.fn.self).variables + l.fn.transcript.rounds.played;
-      order : (shown_in l.self).order ≡ (shown_in l.fn.self).order;
+      form : KeepsForm (shown_in l.fn.self) (shown_in l.self);
       len : vec_len l.challenges ≡ l._round;
       room : l.transcript.rounds.shape.num_rounds ≤ vec_capacity l.challenges;
       batch : (start : Standing) → IsPlayed setting start begun before →
           IsPlayed setting start (standing_over M (image_in to l.self) l.transcript l.sumcheck_data) (map M l.challenges.items);
-      holds : HoldsIfMore (record { setting = setting; now = begun; drawn = before }) (map M l.challenges.items) (image_stored_in to l.self);
+      holds : HoldsIfMore (record { setting = setting; now = begun; drawn = before }) (image_stored_in to l.fn.self) (map M l.challenges.items) (image_stored_in to l.self);
     }

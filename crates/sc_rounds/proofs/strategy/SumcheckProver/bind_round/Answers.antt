@@ -9,7 +9,7 @@ pub bind-requires-clause-message : goal.bind-requires-clause-message
 bind-requires-clause-message g c =
     let o = g.EF.Field.ops in
     let t = c.args.self.now.rounds in
-    c.requires.message ∙ honest_message o g.met.EF.Field.is_field.ring (held_shown o g.EF.Field.number t.poly t.held t.sum) c.requires.left
+    c.requires.message ∙ honest_message o g.met.EF.Field.is_field.ring (held_shown o g.EF.Field.number t.poly t.held t.sum) t.poly.offered c.requires.left
 
 pub bind-requires-clause-settled : goal.bind-requires-clause-settled
 bind-requires-clause-settled g c = numbered g.EF.Field.number c.args.self.now.rounds.held c.requires.settled

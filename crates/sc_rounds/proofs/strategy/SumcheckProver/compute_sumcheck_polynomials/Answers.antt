@@ -2,10 +2,8 @@ use Rattle.std.proofs.Common.{ap, ◌∙◌, map}
 use Rattle.std.proofs.lemmas.Result.{IfOk-weaker}
 use Rattle.sc_definitions.specs.Channels.{channel}
 use Rattle.sc_transcript.specs.Data.{wire_in}
-use Rattle.sc_transcript.specs.declared.transcript.SumcheckShape.{SumcheckShape}
 use Rattle.sc_rounds.specs.Provers.{held_shown}
 use Rattle.sc_definitions.specs.Shown.{Shown, setting_at, standing_at}
-use Rattle.sc_rounds.specs.ProverViews.{shown_with}
 use Rattle.sc_transcript.specs.Batches.{Batch, batch_at}
 use Rattle.sc_transcript.proofs.BatchLaws.{batch_as, holds_as}
 use Rattle.sc_rounds.proofs.HeldLaws.{imaged_same}
@@ -19,14 +17,14 @@ returns-clause-batch g c =
     let R = (g.C.Challenger.party c.args.challenger.now).rules in
     let H = (g.C.Challenger.party c.args.challenger.now).history in
     let W = wire_in g.F.Field.number N in
-    let at : Shown → Shown → SumcheckShape → Batch = λ p q shape.
-    batch_at (setting_at (channel R g.EF.ExtensionField.extension g.F.Field.ops.size shape.pow_bits) o p) (standing_at q H (W c.args.sumcheck_data.now)) g.EF.ExtensionField.DEGREE shape in
+    let at : Shown → Shown → Batch = λ p q.
+    batch_at (setting_at (channel R g.EF.ExtensionField.extension g.F.Field.ops.size c.args.pow_bits) o p) (standing_at q H (W c.args.sumcheck_data.now))
+    g.EF.ExtensionField.DEGREE c.args.folding_factor in
     let t = c.take_in_if_some.new.self.rounds in
     let taken = held_shown o N t.poly t.held t.sum in
-    let wanted = shown_with c.args.self.now c.args.constraint in
     let u = c.play_batch.new.self in
     batch_as c.play_batch.result (map N) _ _ _ _
-    (ap (λ q. at taken q c.new-shape.result) (imaged_same taken) ∙ ap (λ p. at p p c.new-shape.result) c.take_in_if_some.ensures ∙ ap (at wanted wanted) c.new-shape.ensures)
+    (ap (at taken) (imaged_same taken) ∙ ap (λ p. at p p) c.take_in_if_some.ensures.shown)
     (ap (λ q. standing_at q (g.C.Challenger.party c.play_batch.new.challenger).history (W c.play_batch.new.sumcheck_data)) (imaged_same (held_shown o N u.poly u.held u.sum)))
     c.play_batch.ensures.batch
 
@@ -37,12 +35,12 @@ returns-clause-holds g c =
     let R = (g.C.Challenger.party c.args.challenger.now).rules in
     let H = (g.C.Challenger.party c.args.challenger.now).history in
     let W = wire_in g.F.Field.number N in
-    let at : Shown → Shown → SumcheckShape → Batch = λ p q shape.
-    batch_at (setting_at (channel R g.EF.ExtensionField.extension g.F.Field.ops.size shape.pow_bits) o p) (standing_at q H (W c.args.sumcheck_data.now)) g.EF.ExtensionField.DEGREE shape in
+    let at : Shown → Shown → Batch = λ p q.
+    batch_at (setting_at (channel R g.EF.ExtensionField.extension g.F.Field.ops.size c.args.pow_bits) o p) (standing_at q H (W c.args.sumcheck_data.now))
+    g.EF.ExtensionField.DEGREE c.args.folding_factor in
     let t = c.take_in_if_some.new.self.rounds in
     let taken = held_shown o N t.poly t.held t.sum in
-    let wanted = shown_with c.args.self.now c.args.constraint in
     IfOk-weaker c.play_batch.result _ _
-    (λ rs. holds_as _ _ (map N rs) _
-    (ap (λ q. at taken q c.new-shape.result) (imaged_same taken) ∙ ap (λ p. at p p c.new-shape.result) c.take_in_if_some.ensures ∙ ap (at wanted wanted) c.new-shape.ensures))
+    (λ rs. holds_as _ _ _ _ (map N rs) _
+    (ap (at taken) (imaged_same taken) ∙ ap (λ p. at p p) c.take_in_if_some.ensures.shown) c.take_in_if_some.ensures.stored)
     c.play_batch.ensures.holds

@@ -1,6 +1,7 @@
 use Rattle.std.proofs.Common.{ap, sym, ◌∙◌, map}
-use Rattle.sc_definitions.specs.Tables.{rows_of, value}
+use Rattle.sc_definitions.specs.Tables.{rows_of, value_in}
 use Rattle.sc_definitions.specs.Shown.{Shown}
+use Rattle.sc_rounds.specs.Products.{basis_in}
 use Rattle.sc_rounds.proofs.HeldLaws.{settled_pair}
 use Rattle.sc_rounds.proofs.ShownLaws.{rows-numbers}
 use Rattle.sc_rounds.proofs.strategy.SumcheckProver.eval.Goals as goal
@@ -18,5 +19,5 @@ returns-clause-number g c =
     let t = c.settle.new.self in
     let e = c.settle.ensures in
     let zs = map N c.args.point.now in
-    c.eval.ensures ∙ ap (λ f. value o f zs) (sym (rows-numbers N t.poly.evals.evals.items))
-    ∙ ap (λ (s : Shown). value o (rows_of s.evals) zs) (settled_pair o N t.poly t.sum t.held _ e.settled e.kept)
+    c.eval.ensures ∙ ap (λ f. value_in (basis_in t.poly) o f zs) (sym (rows-numbers N t.poly.evals.evals.items))
+    ∙ ap (λ (s : Shown). value_in s.basis o (rows_of s.evals) zs) (settled_pair o N t.poly t.sum t.held _ e.settled e.kept)

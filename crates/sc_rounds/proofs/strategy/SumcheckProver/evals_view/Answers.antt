@@ -1,5 +1,6 @@
 use Rattle.std.proofs.Common.{ap, ◌∙◌, ◌^◌, refl}
 use Rattle.sc_definitions.specs.Shown.{Shown}
+use Rattle.sc_rounds.specs.Provers.{number_if_some}
 use Rattle.sc_rounds.proofs.HeldLaws.{settled_pair}
 use Rattle.sc_rounds.proofs.ShownLaws.{same_entries}
 use Rattle.sc_rounds.proofs.strategy.SumcheckProver.evals_view.Goals as goal
@@ -11,7 +12,7 @@ returns g c =
     let t = c.settle.new.self in
     let e = c.settle.ensures in
     let same = settled_pair g.EF.Field.ops N t.poly t.sum t.held _ e.settled e.kept in (
-      (refl, λ after. tt, e.kept),
+      (refl, λ after. tt, (e.kept, ap (number_if_some N) e.settled)),
       record {
         kept = tt;
         numbers = same_entries N t.poly.evals _ c.evals_view.ensures.size c.evals_view.ensures.numbers ∙ ap (λ (s : Shown). s.evals) same;

@@ -7,4 +7,4 @@ pub returns-clause-message : goal.returns-clause-message
 returns-clause-message g c =
     let o = g.EF.Field.ops in
     let t = c.args.self.now.rounds in
-    c.measure.ensures.message ∙ sym (honest_message o g.met.EF.Field.is_field.ring (held_shown o g.EF.Field.number t.poly t.held t.sum) c.requires)
+    c.measure.ensures.message ∙ sym (honest_message o g.met.EF.Field.is_field.ring (held_shown o g.EF.Field.number t.poly t.held t.sum) t.poly.offered c.requires)

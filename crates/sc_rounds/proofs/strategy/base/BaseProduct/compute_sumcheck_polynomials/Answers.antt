@@ -1,4 +1,4 @@
-use Rattle.std.proofs.Common.{map, ap, sym, ◌∙◌, refl, inl, rules}
+use Rattle.std.proofs.Common.{map, ◌++◌, ap, sym, ◌∙◌, refl, inl, rules}
 use Rattle.sc_definitions.specs.Standings.{Standing}
 use Rattle.sc_transcript.specs.Data.{wire_in}
 use Rattle.sc_transcript.specs.declared.rounds.BatchShape.{BatchShape}
@@ -7,7 +7,9 @@ use Rattle.sc_transcript.specs.declared.error.SumcheckError.TheVariants.{NoMemor
 use Rattle.sc_transcript.proofs.ReplayedLaws.{same_channel}
 use Rattle.sc_transcript.proofs.Lent.{returned}
 use Rattle.sc_definitions.specs.Shown.{standing_at}
-use Rattle.sc_transcript.specs.Batches.{Batch, BreaksOffAt}
+use Rattle.sc_definitions.specs.Events.{words}
+use Rattle.sc_transcript.specs.Shapes.{seed_of}
+use Rattle.sc_transcript.specs.Batches.{BreaksOffAt}
 use Rattle.sc_rounds.specs.HeldProducts.{shown_in}
 use Rattle.sc_rounds.specs.BaseViews.{base_shown, base_batch_of}
 use Rattle.sc_transcript.proofs.BatchLaws.{same_setting, played_at, sum_at}
@@ -49,16 +51,18 @@ returns-in-Ok-clause-whole g c =
     let W = wire_in g.F.Field.number N in
     let self = c.args.self in
     let R = λ (x : g.row.C.Denot). (g.C.Challenger.party x).rules in
-    let at : SumcheckShape → Batch = base_batch_of self c.args.sumcheck_data.now (g.C.Challenger.party c.args.challenger.now) in
+    let batch = base_batch_of self c.args.sumcheck_data.now (g.C.Challenger.party c.args.challenger.now) c.args.folding_factor c.args.pow_bits in
     let begun = c.over-transcript.ensures in
-    let setting = same_setting (same_channel g.F.Field.ops.size (ap R begun.lent.same ∙ c.in_ok-seed.ensures.rules) (ap (λ (s : BatchShape). s.pow_bits) begun.fresh.shape)) refl in
-    let start = ap (λ h. standing_at (base_shown self) h (W c.args.sumcheck_data.now)) (ap H begun.lent.same ∙ c.in_ok-seed.ensures.history) in
+    let D = g.EF.ExtensionField.DEGREE in
+    let seeded = ap (λ (s : SumcheckShape). H c.args.challenger.now ++ words (seed_of D s)) c.new-shape.ensures in
+    let setting = same_setting (same_channel g.F.Field.ops.size (ap R begun.lent.same ∙ c.in_ok-seed.ensures.rules) (ap (λ (s : BatchShape). s.pow_bits) begun.fresh.shape ∙ ap (λ (s : SumcheckShape). s.pow_bits) c.new-shape.ensures)) refl refl in
+    let start = ap (λ h. standing_at (base_shown self) h (W c.args.sumcheck_data.now)) (ap H begun.lent.same ∙ c.in_ok-seed.ensures.history ∙ seeded) in
     let all = c.in-Ok.ensures.played in
-    whole_as (at c.new-shape.result) (ap at c.new-shape.ensures)
+    whole_as batch refl
     (ap (λ h. standing_at (shown_in c.in-Ok.rounds) h (W c.play.new.sumcheck_data)) (sym (ap H (returned (search rules) c.in-Ok.ensures.continues.lender begun.lent.lender c.finish.ensures))))
     (ap (map N) (sym c.new.ensures))
     (record {
-      whole = sum_at _ _ _ _ (sym (all.done ∙ ap (λ (s : BatchShape). s.num_rounds) (c.in-Ok.ensures.continues.shape ∙ begun.fresh.shape))) all.left;
+      whole = sum_at _ _ _ _ (sym (all.done ∙ ap (λ (s : BatchShape). s.num_rounds) (c.in-Ok.ensures.continues.shape ∙ begun.fresh.shape) ∙ ap (λ (s : SumcheckShape). s.num_rounds) c.new-shape.ensures)) all.left;
       played = played_at setting start refl refl all.played;
     })
 
@@ -71,17 +75,19 @@ returns-in-Err-clause-refused g c =
     let W = wire_in g.F.Field.number N in
     let self = c.args.self in
     let R = λ (x : g.row.C.Denot). (g.C.Challenger.party x).rules in
-    let at : SumcheckShape → Batch = base_batch_of self c.args.sumcheck_data.now (g.C.Challenger.party c.args.challenger.now) in
+    let batch = base_batch_of self c.args.sumcheck_data.now (g.C.Challenger.party c.args.challenger.now) c.args.folding_factor c.args.pow_bits in
     let begun = c.over-transcript.ensures in
-    let setting = same_setting (same_channel g.F.Field.ops.size (ap R begun.lent.same ∙ c.in_ok-seed.ensures.rules) (ap (λ (s : BatchShape). s.pow_bits) begun.fresh.shape)) refl in
-    let start = ap (λ h. standing_at (base_shown self) h (W c.args.sumcheck_data.now)) (ap H begun.lent.same ∙ c.in_ok-seed.ensures.history) in
+    let D = g.EF.ExtensionField.DEGREE in
+    let seeded = ap (λ (s : SumcheckShape). H c.args.challenger.now ++ words (seed_of D s)) c.new-shape.ensures in
+    let setting = same_setting (same_channel g.F.Field.ops.size (ap R begun.lent.same ∙ c.in_ok-seed.ensures.rules) (ap (λ (s : BatchShape). s.pow_bits) begun.fresh.shape ∙ ap (λ (s : SumcheckShape). s.pow_bits) c.new-shape.ensures)) refl refl in
+    let start = ap (λ h. standing_at (base_shown self) h (W c.args.sumcheck_data.now)) (ap H begun.lent.same ∙ c.in_ok-seed.ensures.history ∙ seeded) in
     let stopped = c.in-Err.ensures.stopped in
-    let size = ap (λ (s : BatchShape). s.num_rounds) (c.in-Err.ensures.continues.shape ∙ begun.fresh.shape) in
-    breaks_as (at c.new-shape.result) (ap at c.new-shape.ensures)
+    let size = ap (λ (s : BatchShape). s.num_rounds) (c.in-Err.ensures.continues.shape ∙ begun.fresh.shape) ∙ ap (λ (s : SumcheckShape). s.num_rounds) c.new-shape.ensures in
+    breaks_as batch refl
     (sym (ap H (returned (search rules) c.in-Err.ensures.continues.lender begun.lent.lender c.abort.ensures)))
     (record {
       after = stopped.after;
       history = stopped.history;
       wire_is = stopped.wire_is;
-      breaks = breaks_batch (at c.new-shape.result) _ _ stopped.after _ _ c.in-Err.error setting start (stopped.left ∙ ap (λ (t : Standing). t.variables) start) stopped.within stopped.some size stopped.stopped;
+      breaks = breaks_batch batch _ _ stopped.after _ _ c.in-Err.error setting start (stopped.left ∙ ap (λ (t : Standing). t.variables) start) stopped.within stopped.some size stopped.stopped;
     })

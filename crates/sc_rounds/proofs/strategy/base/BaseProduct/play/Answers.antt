@@ -29,7 +29,7 @@ returns-in_err-message-clause-stopped g c =
     let sized : IsSized begun = record { evals = rows.0; weights = rows.1 } in
     let e = c.in_err-message.ensures in
     err_as c.from_residual.result _ (StopsFrom setting begun (driver_in Drawn) (wire_in g.F.Field.number N c.round.new.sumcheck_data)) c.from_residual.ensures.1
-    (first_stops setting ring tt begun (standing_over N (base_shown self) Drawn c.round.new.sumcheck_data) sized (driver_in T) (driver_in Drawn) c.requires.none_played c.requires.some
+    (first_stops setting ring self.offered begun (standing_over N (base_shown self) Drawn c.round.new.sumcheck_data) sized (driver_in T) (driver_in Drawn) c.requires.none_played c.requires.some
     e.continues.shape c.in_err-message.field-0.0 e.counts refl refl e.halted)
 
 -- there is no memory for what it leaves
@@ -50,7 +50,7 @@ returns-in_err-rest-clause-stopped g c =
     let v = standing_over N bound Drawn c.round.new.sumcheck_data in
     let one : map N c.push_reserved.new.self.items ≡ N c.in_ok-message.r ∷ [] = ap (map N) c.push_reserved.ensures.items ∙ ap (λ l. map N (l ++ c.in_ok-message.r ∷ [])) c.requires.empty in
     err_as c.from_residual-in_err-rest.result NoMemory (StopsFrom setting begun (driver_in Drawn) (wire_in g.F.Field.number N c.round.new.sumcheck_data)) c.from_residual-in_err-rest.ensures.1
-    (first_wants setting ring tt begun v sized (driver_in T) (driver_in Drawn) c.requires.none_played c.requires.some first.continues.shape (N c.in_ok-message.r) first.counts first.round refl)
+    (first_wants setting ring self.offered begun v sized (driver_in T) (driver_in Drawn) c.requires.none_played c.requires.some first.continues.shape (N c.in_ok-message.r) first.counts first.round refl)
 
 -- a round after it was refused
 pub returns-in_err-play-clause-stopped : goal.returns-in_err-play-clause-stopped
@@ -72,7 +72,7 @@ returns-in_err-play-clause-stopped g c =
     let rest = c.in_ok-rest.rest in
     let is = same_setting
     (same_channel g.F.Field.ops.size first.continues.rules (ap (λ (s : BatchShape). s.pow_bits) first.continues.shape))
-    (ap (λ (s : Shown). s.order) c.in_ok-rest.ensures) in
+    (ap (λ (s : Shown). s.basis) c.in_ok-rest.ensures) (ap (λ (s : Shown). s.order) c.in_ok-rest.ensures) in
     let here = ap (λ s. standing_over N s Drawn c.round.new.sumcheck_data) (sym c.in_ok-rest.ensures ∙ sym (imaged_same (shown_in rest))) in
     let u = standing_over N (image_in (λ n. n) c.play.new.self) c.play.new.transcript c.play.new.sumcheck_data in
     let u' = standing_over N (shown_in c.play.new.self) c.play.new.transcript c.play.new.sumcheck_data in
@@ -80,9 +80,9 @@ returns-in_err-play-clause-stopped g c =
     let e = c.in_err-play.ensures in
     let left = e.left ∙ ap (λ (s : Shown). s.variables + (driver_in Drawn).played) c.in_ok-rest.ensures in
     err_as c.from_residual-in_err-play.result _ (StopsFrom setting begun D (wire_in g.F.Field.number N c.play.new.sumcheck_data)) c.from_residual-in_err-play.ensures.1
-    (rest_stops setting ring tt begun v sized (driver_in T) (driver_in Drawn) c.requires.none_played c.requires.some first.continues.shape (N c.in_ok-message.r) first.counts first.round
+    (rest_stops setting ring self.offered begun v sized (driver_in T) (driver_in Drawn) c.requires.none_played c.requires.some first.continues.shape (N c.in_ok-message.r) first.counts first.round
     _ is _ u u' here D left c.in_err-play.field-0.0 refl
-    (e.rounds begun (first_before setting ring tt begun v sized (driver_in T) (driver_in Drawn) c.requires.none_played c.requires.some first.continues.shape (N c.in_ok-message.r) first.counts first.round
+    (e.rounds begun (first_before setting ring self.offered begun v sized (driver_in T) (driver_in Drawn) c.requires.none_played c.requires.some first.continues.shape (N c.in_ok-message.r) first.counts first.round
     _ is _ u u' here D left _ one)))
 
 -- all rounds were played
@@ -105,14 +105,14 @@ returns-clause-played g c =
     let rest = c.in_ok-rest.rest in
     let is = same_setting
     (same_channel g.F.Field.ops.size first.continues.rules (ap (λ (s : BatchShape). s.pow_bits) first.continues.shape))
-    (ap (λ (s : Shown). s.order) c.in_ok-rest.ensures) in
+    (ap (λ (s : Shown). s.basis) c.in_ok-rest.ensures) (ap (λ (s : Shown). s.order) c.in_ok-rest.ensures) in
     let here = ap (λ s. standing_over N s Drawn c.round.new.sumcheck_data) (sym c.in_ok-rest.ensures ∙ sym (imaged_same (shown_in rest))) in
     let u = standing_over N (image_in (λ n. n) c.play.new.self) c.play.new.transcript c.play.new.sumcheck_data in
     let u' = standing_over N (shown_in c.play.new.self) c.play.new.transcript c.play.new.sumcheck_data in
     let D = driver_in c.play.new.transcript in
     let e = c.in_ok-play.ensures in
     let left = e.left ∙ ap (λ (s : Shown). s.variables + (driver_in Drawn).played) c.in_ok-rest.ensures in
-    rest_played setting ring tt begun v sized (driver_in T) (driver_in Drawn) c.requires.none_played c.requires.some first.continues.shape (N c.in_ok-message.r) first.counts first.round
+    rest_played setting ring self.offered begun v sized (driver_in T) (driver_in Drawn) c.requires.none_played c.requires.some first.continues.shape (N c.in_ok-message.r) first.counts first.round
     _ is _ u u' here D left (ap (λ s. standing_over N s c.play.new.transcript c.play.new.sumcheck_data) (imaged_same (shown_in c.play.new.self))) _
-    (e.rounds begun (first_before setting ring tt begun v sized (driver_in T) (driver_in Drawn) c.requires.none_played c.requires.some first.continues.shape (N c.in_ok-message.r) first.counts first.round
+    (e.rounds begun (first_before setting ring self.offered begun v sized (driver_in T) (driver_in Drawn) c.requires.none_played c.requires.some first.continues.shape (N c.in_ok-message.r) first.counts first.round
     _ is _ u u' here D left _ one))

@@ -11,8 +11,8 @@ use Rattle.sc_definitions.proofs.MappedRounds.{mapped, below_entries, same_image
 use Rattle.sc_rounds.proofs.ShownLaws.{same_numbers}
 use Rattle.sc_rounds.proofs.strategy.repr.ReprSumcheckProver.from_tables.Goals as goal
 
-pub returns : goal.returns
-returns g c =
+pub returns-clause-shown : goal.returns-clause-shown
+returns-clause-shown g c =
     let represents = g.met.R.FromTable.represents in
     let to = g.R.FromTable.to_number in
     let N = g.R.Field.number in
@@ -24,7 +24,7 @@ returns g c =
     let weights = map-map to N poly.weights.evals.items ∙ same_numbers T T c.args.weights poly.weights (sym poly.same ∙ size ∙ c.requires.variables) (same _ _ c.new_unpacked-poly.ensures.weights) in
     let claim = ap to c.from_element.ensures ∙ represents.back_forth _ (g.met.EF.Field.number_below c.args.sum) in
     let parts : imaged to (shown_of N poly c.from_element.result) ≡ tables_shown g.EF.Field.number T c.args.order c.args.evals c.args.weights (g.EF.Field.number c.args.sum) =
-    λ i. record { order = c.new_unpacked-poly.ensures.order i; variables = size i; evals = evals i; weights = weights i; claim = claim i } in
+    λ i. record { basis = c.new_unpacked-poly.ensures.basis i; order = c.new_unpacked-poly.ensures.order i; variables = size i; evals = evals i; weights = weights i; claim = claim i } in
     ap (imaged to) c.new.ensures.shown ∙ parts
 
 pub new-requires : goal.new-requires
@@ -47,5 +47,8 @@ new-requires g c =
     ∙ ap (λ k. inner r k (evals_in N poly) (weights_in N poly)) (sym size)
 
 -- a refusal tells nothing of an answer
-pub returns-in_err-evals : goal.returns-in_err-evals
-returns-in_err-evals g c = IfOk-from_err c.from_residual.result _ c.from_residual.ensures.0
+pub returns-in_err-evals-clause-shown : goal.returns-in_err-evals-clause-shown
+returns-in_err-evals-clause-shown g c = IfOk-from_err c.from_residual.result _ c.from_residual.ensures.0
+
+pub returns-in_err-evals-clause-outstanding : goal.returns-in_err-evals-clause-outstanding
+returns-in_err-evals-clause-outstanding g c = IfOk-from_err c.from_residual.result _ c.from_residual.ensures.0

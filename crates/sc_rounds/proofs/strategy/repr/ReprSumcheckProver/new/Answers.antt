@@ -42,7 +42,7 @@ returns-clause-shown g c =
     let evals = same_numbers g.EF.Field.number T p.evals q.evals size (same _ _ c.new_unpacked.ensures.evals ∙ c.in_ok-evals.ensures.images ∙ tables.evals) in
     let weights = same_numbers g.EF.Field.number T p.weights q.weights (sym q.same ∙ size ∙ p.same) (same _ _ c.new_unpacked.ensures.weights ∙ c.in_ok-weights.ensures.images ∙ tables.weights) in
     image_held r e ring_r ring_e to represents.back N g.EF.Field.number g.met.R.Field.number_below q p c.image_if_some.result t.held c.from_element.result t.sum
-    (c.new_unpacked.ensures.order ∙ tables.order) size (map-map to N q.evals.evals.items ∙ evals) (map-map to N q.weights.evals.items ∙ weights) c.image_if_some.ensures
+    (c.new_unpacked.ensures.basis ∙ sym c.requires) (c.new_unpacked.ensures.order ∙ tables.order) size (map-map to N q.evals.evals.items ∙ evals) (map-map to N q.weights.evals.items ∙ weights) c.image_if_some.ensures
     (ap to c.from_element.ensures ∙ represents.back_forth _ (g.met.EF.Field.number_below t.sum))
 
 pub invariant_of-rounds : goal.invariant_of-rounds
@@ -62,7 +62,7 @@ invariant_of-rounds g c =
     let evals = same_numbers g.EF.Field.number T p.evals q.evals size (same _ _ c.new_unpacked.ensures.evals ∙ c.in_ok-evals.ensures.images ∙ tables.evals) in
     let weights = same_numbers g.EF.Field.number T p.weights q.weights (sym q.same ∙ size ∙ p.same) (same _ _ c.new_unpacked.ensures.weights ∙ c.in_ok-weights.ensures.images ∙ tables.weights) in
     let shown = image_held r e ring_r ring_e to represents.back N g.EF.Field.number g.met.R.Field.number_below q p c.image_if_some.result t.held c.from_element.result t.sum
-    (c.new_unpacked.ensures.order ∙ tables.order) size (map-map to N q.evals.evals.items ∙ evals) (map-map to N q.weights.evals.items ∙ weights) c.image_if_some.ensures
+    (c.new_unpacked.ensures.basis ∙ sym c.requires) (c.new_unpacked.ensures.order ∙ tables.order) size (map-map to N q.evals.evals.items ∙ evals) (map-map to N q.weights.evals.items ∙ weights) c.image_if_some.ensures
     (ap to c.from_element.ensures ∙ represents.back_forth _ (g.met.EF.Field.number_below t.sum)) in
     record {
       left = left_for_image g.EF.Field.number T _ _ t.held c.image_if_some.result c.image_if_some.ensures size t.left;
