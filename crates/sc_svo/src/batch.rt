@@ -48,8 +48,8 @@ impl<F: Field, EF: ExtensionField<F>> SvoBatch<F, EF> {
     /// [`MOST_ROUNDS`], and at most as many as there are variables, of which there are at most 40.
     ///
     /// It takes one pass over the table for each claim on a value at a point, and two for each one
-    /// through the successor map in suffix order. `NoMemory` comes where there is none for the grids,
-    /// for copies of the claims, or for what is summed on the way.
+    /// through the successor map in suffix order. `NoMemory` comes where there is none for the
+    /// grids, for copies of the claims, or for what is summed on the way.
     pub fn new(
         alloc: Global,
         order: VariableOrder,
@@ -62,7 +62,8 @@ impl<F: Field, EF: ExtensionField<F>> SvoBatch<F, EF> {
         requires within { l0 ≤ variables_of table.now }
         requires variables { variables_of table.now ≤ 40 }
         requires on { AreOn (variables_of table.now) claims.now }
-        ensures { IfOk result (λ s. IsMadeOn EF.ops (order_of order)
+        ensures arity { IfOk result (λ s. (batch_in s).variables ≡ variables_of table.now) }
+        ensures batch { IfOk result (λ s. IsMadeOn EF.ops (order_of order)
             (λ b. EF.embedding (table_of F.number table.now b)) (2 ^ variables_of table.now)
             (claims_in EF.number claims.now) l0 (batch_in s)) }
     {
@@ -70,8 +71,9 @@ impl<F: Field, EF: ExtensionField<F>> SvoBatch<F, EF> {
         Ok(batch)
     }
 
-    /// The same batch, and beside it the values that the claims are on, in their order, which are
-    /// found on the way to the grids. The table is lent as a slice, since a job's is never copied.
+    /// The batch that [`SvoBatch::new`] makes, and beside it the values that the claims are on, in
+    /// their order, which are found on the way to the grids. The table is lent as a slice, since a
+    /// job's is never copied.
     pub fn with_values(
         alloc: Global,
         order: VariableOrder,
@@ -122,9 +124,10 @@ impl<F: Field, EF: ExtensionField<F>> SvoBatch<F, EF> {
         grids
     }
 
-    /// What the round after these challenges sends, of which there are fewer than small-value rounds:
-    /// read off its grid, it is what an honest round sends of every table that has these grids with
-    /// the claims. `NoMemory` comes where there is none for the weights of the grid's places.
+    /// What the round after these challenges sends, of which there are fewer than small-value
+    /// rounds: read off its grid, it is what an honest round sends of every table that has these
+    /// grids with the claims. `NoMemory` comes where there is none for the weights of the grid's
+    /// places.
     pub fn round_coefficients(&self, alloc: Global, rs: &[EF]) -> Result<RoundMessage<EF>, NoMemory>
         requires { length rs.now < length (batch_in self.now).grids }
         ensures honest { IfOk result (λ m. (f : ℕ → ℕ) → IsTableOf EF.ops (batch_in self.now) f →
@@ -143,11 +146,33 @@ impl<F: Field, EF: ExtensionField<F>> SvoBatch<F, EF> {
     }
 
     /// What the small-value rounds leave: the given table, of as many rows as the batch's had, and
-    /// the weights of all claims, both with the variables of these rounds bound at their challenges,
-    /// of which there is one for each round, in drawing order: each entry is the original table's
-    /// with all challenges placed. `NoMemory` comes where there is none for the two tables, or for
-    /// what is summed on the way.
+    /// the weights of all claims, both with the variables of these rounds bound at their
+    /// challenges, of which there is one for each round, in drawing order: each entry is the
+    /// original table's with all challenges placed. `NoMemory` comes where there is none for the
+    /// two tables, or for what is summed on the way.
     pub fn residual(
+        &self,
+        alloc: Global,
+        table: &Poly<F>,
+        rs: &[EF],
+    ) -> Result<(Poly<EF>, Poly<EF>), NoMemory>
+        requires table { variables_of table.now ≡ (batch_in self.now).variables }
+        requires challenges { length rs.now ≡ length (batch_in self.now).grids }
+        ensures evals { IfOk result (λ p. IsBoundBy EF.ops EF.number (batch_in self.now)
+            (λ b. EF.embedding (table_of F.number table.now b)) (map EF.number rs.now) p.0) }
+        ensures weights { IfOk result (λ p. IsBoundBy EF.ops EF.number (batch_in self.now)
+            (combined_weight EF.ops (batch_in self.now).claims) (map EF.number rs.now) p.1) }
+        ensures placed_evals { IfOk result (λ p. IsPlacedBy EF.ops EF.number (batch_in self.now)
+            (λ b. EF.embedding (table_of F.number table.now b)) (map EF.number rs.now) p.0) }
+        ensures placed_weights { IfOk result (λ p. IsPlacedBy EF.ops EF.number (batch_in self.now)
+            (combined_weight EF.ops (batch_in self.now).claims) (map EF.number rs.now) p.1) }
+    {
+        self.residual_slice(alloc, table.as_slice(), rs)
+    }
+
+    /// What [`SvoBatch::residual`] answers, of a table that is lent as a slice, since a job's is
+    /// never copied.
+    pub fn residual_slice(
         &self,
         alloc: Global,
         table: &[F],

@@ -50,8 +50,8 @@ impl<EF: Copy> SvoClaim<EF> {
     }
 }
 
-// Adds the grids of a table and a claim's weights, times its coefficient, and answers the value that
-// the claim is on: one pass over the table, or a few for a successor.
+// Adds the grids of a table and a claim's weights, times its coefficient, and answers the value
+// that the claim is on: one pass over the table, or a few for a successor.
 pub(crate) fn add_claim<F: Field, EF: ExtensionField<F>>(
     alloc: Global,
     order: VariableOrder,
@@ -191,8 +191,8 @@ fn add_next_round<EF: Field>(
 }
 
 // The weights that stand beside the three tables of a round, by the equality weights of the
-// coordinates that it keeps: in prefix order the sums of the done part stand beside these, and those
-// of the carried part beside the done part; in suffix order each stands beside its own part.
+// coordinates that it keeps: in prefix order the sums of the done part stand beside these, and
+// those of the carried part beside the done part; in suffix order each stands beside its own part.
 fn beside<EF: Field>(
     alloc: Global,
     order: VariableOrder,
@@ -229,8 +229,8 @@ fn kept_of<EF: Field>(order: VariableOrder, near: &[EF], count: usize) -> &[EF]
     }
 }
 
-// Adds the weights of a claim's point, with the variables of small-value rounds bound at `at`, which
-// stands in the order of the point's coordinates, times the claim's coefficient.
+// Adds the weights of a claim's point, with the variables of small-value rounds bound at `at`,
+// which stands in the order of the point's coordinates, times the claim's coefficient.
 pub(crate) fn add_bound<F: Field, EF: ExtensionField<F>>(
     alloc: Global,
     order: VariableOrder,

@@ -10,8 +10,8 @@ use sc_partials::Sums;
 use std::alloc::Global;
 
 /// The grid of one round. Round l, counted from 1, has 3^(l - 1) values in each list, one for each
-/// choice of a digit 0, 1 or infinity for each of the variables that were bound before, the first of
-/// them fastest.
+/// choice of a digit 0, 1 or infinity for each of the variables that were bound before, the first
+/// of them fastest.
 #[derive(Drop)]
 pub struct Grid<EF> {
     /// The values with the round's own variable at 0.

@@ -37,9 +37,10 @@ impl<F: Field, EF: ExtensionField<F>> SvoPoint<F, EF> {
         self.summed(alloc, tables)
     }
 
-    /// The same in suffix order. Where `d_eq` is given, it is the table that [`SvoPoint::z_split`]
-    /// makes of the given one by [`sc_table::SplitEq::compress_prefix`], which then is not made
-    /// again.
+    /// In suffix order, the value of a table through the successor map at the point, and its three
+    /// tables for each small-value round. The table has as many variables as the point. Where
+    /// `d_eq` is given, it is the table that [`SvoPoint::z_split`] makes of the given one by
+    /// [`sc_table::SplitEq::compress_prefix`], which then is not made again.
     pub fn eval_next_suffix(
         &self,
         alloc: Global,
@@ -61,7 +62,8 @@ impl<F: Field, EF: ExtensionField<F>> SvoPoint<F, EF> {
         self.summed(alloc, tables)
     }
 
-    /// The same in the point's own order, of the table that a slice holds.
+    /// In the point's own order, what [`SvoPoint::eval_next_prefix`] or
+    /// [`SvoPoint::eval_next_suffix`] answers, of the table that a slice holds.
     pub fn eval_next_slice(
         &self,
         alloc: Global,
@@ -190,7 +192,9 @@ impl<F: Field, EF: ExtensionField<F>> SvoPoint<F, EF> {
         add_at(out, last, last_weight.mul(omega));
     }
 
-    /// The same in suffix order.
+    /// In suffix order, adds `scale` times the successor weights of the whole point, with the
+    /// variables of the small-value rounds bound at `rs`, which stand in the order of the point's
+    /// coordinates.
     pub fn accumulate_next_suffix_into(&self, out: &mut [EF], rs: &Point<EF>, scale: EF)
         requires order { order_in self.now ≡ suffix }
         requires size { length out.old ≡ 2 ^ length (far_in self.now) }

@@ -95,8 +95,8 @@ impl<F: Field, EF: ExtensionField<F>> SvoPoint<F, EF> {
     }
 
     /// Adds `scale` times the equality weights of the whole point, with the variables of the
-    /// small-value rounds bound at `rs`, which stand in the order of the point's coordinates. `rs` has
-    /// a coordinate for each of them, and `out` a row for each choice of the others.
+    /// small-value rounds bound at `rs`, which stand in the order of the point's coordinates. `rs`
+    /// has a coordinate for each of them, and `out` a row for each choice of the others.
     pub fn accumulate_into(&self, out: &mut [EF], rs: &Point<EF>, scale: EF)
         requires size { length out.old ≡ 2 ^ length (far_in self.now) }
         requires bound { length rs.now ≡ length (near_in self.now) }
@@ -109,8 +109,8 @@ impl<F: Field, EF: ExtensionField<F>> SvoPoint<F, EF> {
     }
 
     /// The value of a table at the point, and its partial tables for each small-value round. The
-    /// table has as many variables as the point. `NoMemory` comes where there is none for the partial
-    /// tables.
+    /// table has as many variables as the point. `NoMemory` comes where there is none for the
+    /// partial tables.
     pub fn eval(&self, alloc: Global, poly: &Poly<F>) -> Result<(EF, EqSvoPartials<EF>), NoMemory>
         requires { variables_of poly.now ≡ length (point_in self.now) }
         ensures { IfOk result (λ r. partial_sums_in EF.number r
@@ -120,7 +120,7 @@ impl<F: Field, EF: ExtensionField<F>> SvoPoint<F, EF> {
         self.eval_slice(alloc, poly.as_slice())
     }
 
-    /// The same of the table that a slice holds.
+    /// What [`SvoPoint::eval`] answers, of the table that a slice holds.
     pub fn eval_slice(&self, alloc: Global, rows: &[F]) -> Result<(EF, EqSvoPartials<EF>), NoMemory>
         requires { length rows.now ≡ 2 ^ length (point_in self.now) }
         ensures { IfOk result (λ r. partial_sums_in EF.number r

@@ -91,7 +91,7 @@ fn tables_that_the_rounds_leave(rt: HostRuntime) {
     let batch = batch_of_four(rt.alloc()).expect(&rt, "an answer");
     let table = four(rt.alloc()).expect(&rt, "an answer");
     let (evals, weights) = batch
-        .residual(rt.alloc(), table.as_slice(), &[of(3), of(4)])
+        .residual(rt.alloc(), &table, &[of(3), of(4)])
         .expect(&rt, "an answer");
     assert!(rt; have_numbers(evals.as_slice(), &[11]));
     assert!(rt; have_numbers(weights.as_slice(), &[65529]));

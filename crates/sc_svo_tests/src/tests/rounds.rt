@@ -61,7 +61,7 @@ fn rounds_agree<F: Field, EF: ExtensionField<F>>(
     let mut evals = images::<F, EF>(alloc, &table, n)?;
     let mut weights = weights::<EF>(alloc, n, kinds)?;
     let agree = messages_agree(alloc, order, &batch, &mut evals, &mut weights, &rs)?;
-    let (left, left_weights) = batch.residual(alloc, table.as_slice(), &rs)?;
+    let (left, left_weights) = batch.residual(alloc, &table, &rs)?;
     Ok(
         agree
             && left.as_slice() == evals.as_slice()
