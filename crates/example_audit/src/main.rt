@@ -6,7 +6,7 @@ use sc_challenger::HashChallenger;
 use sc_field::{Field, NoMemory};
 use sc_small_fields::F65537 as F;
 use sc_statements::{Constraint, EqStatement, Statements};
-use sc_table::{Point, VariableOrder};
+use sc_table::{Basis, Point, VariableOrder};
 use std::alloc::Global;
 
 type Hash = HashChallenger<F>;
@@ -40,6 +40,7 @@ fn build(table: Vec<F>, constraint: Constraint<F, F>) -> Job<F, F> {
         table,
         constraint,
         order: VariableOrder::Prefix,
+        basis: Basis::Evaluation,
         pow_bits: 0,
         mode: Mode::Build(Strategy::Plain),
     }

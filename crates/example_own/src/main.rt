@@ -9,7 +9,7 @@ use field::F31;
 use sc_audit::{Job, Mode, Strategy, Verdict, audit};
 use sc_field::{Field, NoMemory};
 use sc_statements::{Constraint, EqStatement, Statements};
-use sc_table::{Point, VariableOrder};
+use sc_table::{Basis, Point, VariableOrder};
 use std::alloc::Global;
 
 fn main(rt: HostRuntime) -> anyhow::Result<()> {
@@ -34,6 +34,7 @@ fn job(alloc: Global) -> Result<Job<F31, F31>, NoMemory> {
         table: vec![in alloc; F31::ONE, F31::element(2), F31::element(3), F31::element(4)]?,
         constraint: Constraint::new(F31::ONE, 2, groups),
         order: VariableOrder::Prefix,
+        basis: Basis::Evaluation,
         pow_bits: 8,
         mode: Mode::Build(Strategy::Plain),
     })

@@ -28,6 +28,10 @@ pub no_items : {X : Type 0} (number : X → ℕ) (xs : List X) → length xs ≡
 no_items number [] none = refl
 no_items number (x ∷ xs) none = absurd (omega (arith, none))
 
+-- the table of a batch is of values, which are offered with both orders
+pub values_offered : (o : Ops) (p : Problem) (b : GridBatch) → IsBatchOf o p b → IsOffered p.basis p.order
+values_offered o p b of = subst (λ k. IsOffered k p.order) (sym of.basis) tt
+
 -- ---- what is read off a grid
 
 module _ (o : Ops) (ring : IsRing o) (p : Problem) (b : GridBatch) (of : IsBatchOf o p b) (c : Channel) (h : List Event) (on : Wire) where
@@ -40,7 +44,8 @@ module _ (o : Ops) (ring : IsRing o) (p : Problem) (b : GridBatch) (of : IsBatch
       let w = combined_weight o b.claims in
       ap (λ r. honest_pair evaluation r o p.table w rs (b.variables - suc (length rs))) of.order
       ∙ ap (λ n. honest_pair evaluation p.order o p.table w rs (n - suc (length rs))) of.variables
-      ∙ sym (honest-same evaluation p.order o ring tt p.variables _ p.table _ w (rows-entries_of p.variables p.table)
+      ∙ ap (λ k. honest_pair k p.order o p.table w rs m) (sym of.basis)
+      ∙ sym (honest-same p.basis p.order o ring (values_offered o p b of) p.variables _ p.table _ w (rows-entries_of p.variables p.table)
       (λ k low. rows-entries_of p.variables (weights_of o p) k low ∙ sym (of.weights k low)) rs m whole)
 
   -- and so the message of the tables where the rounds before have led
@@ -54,7 +59,7 @@ module _ (o : Ops) (ring : IsRing o) (p : Problem) (b : GridBatch) (of : IsBatch
       let t = standing_at (prover_for o p) h on in
       let m = p.variables - suc (length rs) in
       let fewer : p.variables - length rs ≡ suc m = omega (arith, low, of.within) in
-      is ∙ read_honest rs low ∙ sym (message_honest s ring tt t (with_drawn s t rs at wire) rs m played fewer)
+      is ∙ read_honest rs low ∙ sym (message_honest s ring (values_offered o p b of) t (with_drawn s t rs at wire) rs m played fewer)
 
 -- ---- one round after the other
 

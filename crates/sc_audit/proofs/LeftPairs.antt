@@ -19,7 +19,7 @@ use Rattle.sc_table.specs.Polys.{variables_of, table_of}
 use Rattle.sc_transcript.specs.declared.error.SumcheckError.{SumcheckError}
 use Rattle.sc_transcript.specs.Drivers.{Driver, HasRoundLeft, IsDone}
 use Rattle.sc_rounds.specs.declared.product_polynomial.ProductPolynomial.{ProductPolynomial}
-use Rattle.sc_rounds.specs.Products.{numbers_of, variables_in, order_in, evals_in, weights_in, sum_in}
+use Rattle.sc_rounds.specs.Products.{numbers_of, variables_in, basis_in, order_in, evals_in, weights_in, sum_in}
 use Rattle.sc_rounds.specs.Provers.{shown_of}
 use Rattle.sc_definitions.specs.Shown.{setting_at, standing_at}
 use Rattle.sc_transcript.specs.Batches.{PlaysFrom, StopsFrom, BreaksOffAt, IsStopped, Batch}
@@ -31,6 +31,7 @@ use Rattle.sc_jobs.specs.BuiltCases.{prover_for}
 use Rattle.sc_audit.specs.SmallRounds.{with_drawn, LeavesPlayed, LeavesRounds}
 use Rattle.sc_jobs.specs.Taken.{IsBatchOf}
 use Rattle.sc_jobs.proofs.SameGrids.{grids_of-same}
+use Rattle.sc_audit.proofs.DrawnLaws.{values_offered}
 
 -- a standing's claim is the sum over all rows of evaluation times weight
 abbrev pub IsTrueAt : Ops → Standing → Type 0
@@ -72,10 +73,10 @@ pub bound_as : {EF : Type 0} (o : Ops) (number : EF → ℕ) (b : GridBatch) (q 
 bound_as o number b q f g rs qs ef er bound = subst (λ k. IsBoundBy o number b k qs q) ef (subst (λ xs. IsBoundBy o number b f xs q) er bound)
 
 module _ {EF : Type 0} (o : Ops) (number : EF → ℕ) (p : Problem) (b : GridBatch) (of : IsBatchOf o p b) (rs : List ℕ) where
-  -- a table with the challenges bound, as a list
-  bound_numbers : (f g : ℕ → ℕ) (q : Poly EF) (m : ℕ) (xs : List ℕ) → IsBoundBy o number b g rs q → ((k : ℕ) → k < 2 ^ p.variables → g k ≡ f k) → m ≡ variables_of q → length xs ≡ 2 ^ m → rows_of xs ≡ table_of number q →
+  -- a table of values with the challenges bound, as a list
+  bound_values : (f g : ℕ → ℕ) (q : Poly EF) (m : ℕ) (xs : List ℕ) → IsBoundBy o number b g rs q → ((k : ℕ) → k < 2 ^ p.variables → g k ≡ f k) → m ≡ variables_of q → length xs ≡ 2 ^ m → rows_of xs ≡ table_of number q →
       entries_of (p.variables - length rs) (bound_by evaluation p.order o rs (p.variables - length rs) (rows_of (entries_of p.variables f))) ≡ xs
-  bound_numbers f g q m xs bound same count size rows =
+  bound_values f g q m xs bound same count size rows =
       let n = p.variables in
       let whole : length rs + m ≡ n = omega (arith, bound.variables, of.variables, count) in
       let left : m ≡ n - length rs = omega (arith, whole) in
@@ -86,6 +87,13 @@ module _ {EF : Type 0} (o : Ops) (number : EF → ℕ) (p : Problem) (b : GridBa
       ∙ bound_by-same evaluation p.order o rs m g (rows_of (entries_of n f)) (λ j under.
       let below = subst (λ v. j < 2 ^ v) whole under in same j below ∙ sym (rows-entries_of n f j below)) k low) in
       sym (is ∙ ap (λ k. entries_of k (bound_by evaluation p.order o rs k (rows_of (entries_of n f)))) left)
+
+  -- the same in the problem's basis
+  bound_numbers : (f g : ℕ → ℕ) (q : Poly EF) (m : ℕ) (xs : List ℕ) → IsBoundBy o number b g rs q → ((k : ℕ) → k < 2 ^ p.variables → g k ≡ f k) → m ≡ variables_of q → length xs ≡ 2 ^ m → rows_of xs ≡ table_of number q →
+      entries_of (p.variables - length rs) (bound_by p.basis p.order o rs (p.variables - length rs) (rows_of (entries_of p.variables f))) ≡ xs
+  bound_numbers f g q m xs bound same count size rows =
+      ap (λ k. entries_of (p.variables - length rs) (bound_by k p.order o rs (p.variables - length rs) (rows_of (entries_of p.variables f)))) of.basis
+      ∙ bound_values f g q m xs bound same count size rows
 
   module _ {F : Type 0} (left : ProductPolynomial F EF) (sum : EF) (evals weights : Poly EF) (bound_evals : IsBoundBy o number b p.table rs evals)
       (bound_weights : IsBoundBy o number b (combined_weight o b.claims) rs weights) (count : variables_in left ≡ variables_of evals)
@@ -114,14 +122,14 @@ module _ {EF : Type 0} (o : Ops) (number : EF → ℕ) (p : Problem) (b : GridBa
       left_sum ring true_sum =
           let s = setting_at c o (prover_for o p) in
           let t = standing_at (prover_for o p) h on in
-          played_true s ring tt t (standing_at (shown_of number left sum) h' on') rs (subst (λ u. IsPlayed s t u rs) (left_stands c h h' on on') played) true_sum
+          played_true s ring (values_offered o p b of) t (standing_at (shown_of number left sum) h' on') rs (subst (λ u. IsPlayed s t u rs) (left_stands c h h' on on') played) true_sum
 
       -- ---- the rounds on it, in the channel by another name
 
-      module _ {K : Type 0} (c' : Channel) (same : c' ≡ c) (order : order_in left ≡ p.order) (d d' : Driver K) (counts : d.played ≡ length rs) (u : Standing)
+      module _ {K : Type 0} (c' : Channel) (same : c' ≡ c) (basis : basis_in left ≡ p.basis) (order : order_in left ≡ p.order) (d d' : Driver K) (counts : d.played ≡ length rs) (u : Standing)
           (size : u.variables + d'.played ≡ variables_in left + d.played) where
         left_setting : setting_at c' o (shown_of number left sum) ≡ setting_at c o (prover_for o p)
-        left_setting = same_setting same order
+        left_setting = same_setting same basis order
 
         left_begun : IsPlayed (setting_at c' o (shown_of number left sum)) (standing_at (prover_for o p) h on) (standing_at (shown_of number left sum) h' on') rs
         left_begun =

@@ -5,20 +5,22 @@ use Rattle.sc_definitions.specs.declared.false_claim.FalseClaim.{FalseClaim}
 use Rattle.sc_definitions.specs.Ring.{Ops, IsRing}
 use Rattle.sc_definitions.specs.Roots.{root_count}
 use Rattle.sc_definitions.specs.Problem.{Problem, claim_of}
+use Rattle.sc_definitions.specs.TwoTables.{tables_in}
 use Rattle.sc_definitions.specs.Lucky.{Turn, batch_polynomial, true_claim_of, course_of, first_turn, Luck, in_batch, luck_in, luck_of}
 use Rattle.sc_rounds.specs.declared.product_polynomial.ProductPolynomial.{ProductPolynomial}
 use Rattle.sc_rounds.specs.Products.{variables_in, sum_in, evals_in, weights_in}
 use Rattle.sc_rounds.specs.Turns.{IsPairOf}
+use Rattle.sc_rounds.proofs.TurnPairs.{offered_as}
 use Rattle.sc_definitions.proofs.FindLaws.{finds-begin}
 use Rattle.sc_statements.specs.FalseClaims.{capped}
 use Rattle.sc_verdicts.specs.Findings.{holds, named}
 use Rattle.sc_jobs.specs.Figures.{finding_by}
 
 -- the sum over a pair is the true claim of its problem
-pub pair-truth : {F EF : Type 0} (o : Ops) → IsRing o → (number : EF → ℕ) (p : Problem) (pair : ProductPolynomial F EF) (t : ℕ) → IsPairOf o number p pair → t ≡ sum_in o number pair →
-    t ≡ true_claim_of o p [] p.variables
+pub pair-truth : {F EF : Type 0} (o : Ops) → IsRing o → (number : EF → ℕ) (p : Problem) (pair : ProductPolynomial F EF) (t : ℕ) →
+    IsPairOf number (tables_in o p) p.variables pair → t ≡ sum_in o number pair → t ≡ true_claim_of o p [] p.variables
 pair-truth o ring number p pair t is sum =
-    (finds-begin o ring p is.basis (variables_in pair) (evals_in number pair) (weights_in number pair) t t [] [] is.variables is.evals is.weights sum).walks.truth
+    (finds-begin o ring (tables_in o p) (offered_as is.basis is.order pair.offered) (variables_in pair) (evals_in number pair) (weights_in number pair) t t [] [] is.evals is.weights sum).walks.truth
     ∙ ap (true_claim_of o p []) (sym is.variables)
 
 module _ (o : Ops) (p : Problem) (messages : List (List ℕ)) (rs : List ℕ) where

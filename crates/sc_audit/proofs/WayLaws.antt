@@ -15,7 +15,7 @@ use Rattle.sc_audit.specs.declared.ways.Way.TheVariants as ways
 use Rattle.sc_audit.specs.declared.ways.Batched.{Batched}
 use Rattle.sc_jobs.specs.Cases.{problem_in, task_in, asked_of}
 use Rattle.sc_jobs.specs.Figures.{false_claim_of}
-use Rattle.sc_jobs.specs.Refusals.{or_later, shape_refusal, strategy_refusal, false_refusal, refusal_for, task_refusal, refusal_of}
+use Rattle.sc_jobs.specs.Refusals.{or_later, basis_refusal, shape_refusal, strategy_refusal, false_refusal, refusal_for, task_refusal, refusal_of}
 use Rattle.sc_audit.specs.SmallRounds.{IsSimpleWay}
 use Rattle.sc_jobs.specs.Taken.{IsBatchOf}
 use Rattle.sc_jobs.specs.Stated.{truly_stated, IsRestated}
@@ -38,12 +38,17 @@ module _ {F EF : Type 0} {f : FieldOf F} {p : PartialEqOf F} {x : ExtensionOf EF
           }
 
       -- so is a way that takes nothing
-      simple-way : (way : Way F EF f p x a e q) → IsSimpleWay now.mode way → IsWayOf now way
+      simple-way : (way : Way F EF f p x a e q) → IsSimpleWay now way → IsWayOf now way
       simple-way ways.Plain is = record { mode = is; fits = refl; all_true = ap (false_claim_of e.ops) stated ∙ true-stated e.ops (problem_in old); ready = tt }
-      simple-way ways.Represented is = record { mode = is; fits = refl; all_true = ap (false_claim_of e.ops) stated ∙ true-stated e.ops (problem_in old); ready = tt }
+      simple-way ways.Represented is = record {
+        mode = is.0;
+        fits = ap basis_refusal is.1;
+        all_true = ap (false_claim_of e.ops) stated ∙ true-stated e.ops (problem_in old);
+        ready = is.1;
+      }
       simple-way (ways.SmallValue batch) is = absurd is
 
-      pub simple-ways : (found : Option (Way F EF f p x a e q)) → IfSome found (IsSimpleWay now.mode) → IfSome found (IsWayOf now)
+      pub simple-ways : (found : Option (Way F EF f p x a e q)) → IfSome found (IsSimpleWay now) → IfSome found (IsWayOf now)
       simple-ways None is = tt
       simple-ways (Some way) is = simple-way way is
 

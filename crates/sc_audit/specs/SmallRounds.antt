@@ -3,9 +3,9 @@ use Rattle.std.specs.Prelude.{◌≡◌, ℕ, ◌-◌, ◌≤◌, List, length, 
 use Rattle.std.specs.declared.cmp.PartialEq.{Ghosts as PartialEqOf}
 use Rattle.sc_definitions.specs.declared.events.Event.{Event}
 use Rattle.sc_definitions.specs.Ring.{Ops}
-use Rattle.sc_definitions.specs.Tables.{rows_of, bound_by}
-use Rattle.sc_definitions.specs.Events.{Rules, Extension}
-use Rattle.sc_definitions.specs.Channels.{channel, Wire, Footing}
+use Rattle.sc_definitions.specs.Tables.{evaluation, rows_of, bound_by}
+use Rattle.sc_definitions.specs.Events.{Extension}
+use Rattle.sc_definitions.specs.Channels.{Wire, Footing}
 use Rattle.sc_definitions.specs.Standings.{Setting, Standing, entries_of, IsPlayed}
 use Rattle.sc_definitions.specs.Problem.{Problem}
 use Rattle.sc_field.specs.declared.field.Field.{Ghosts as FieldOf}
@@ -13,7 +13,6 @@ use Rattle.sc_field.specs.declared.algebra.Algebra.{Ghosts as AlgebraOf}
 use Rattle.sc_field.specs.declared.algebra.ExtensionField.{Ghosts as ExtensionOf}
 use Rattle.sc_challenger.specs.Parties.{Party, channel_by}
 use Rattle.sc_challenger.specs.declared.challenger.Challenger.{Ghosts as ChallengerOf}
-use Rattle.sc_table.specs.declared.strategy.Basis.TheVariants.{Evaluation}
 use Rattle.sc_table.specs.declared.strategy.Strategy.{Strategy}
 use Rattle.sc_table.specs.declared.strategy.Strategy.TheVariants.{Plain, Represented, SmallValue}
 use Rattle.sc_statements.specs.Constraints.{constraint_arity}
@@ -21,14 +20,12 @@ use Rattle.sc_transcript.specs.declared.error.SumcheckError.{SumcheckError}
 use Rattle.sc_transcript.specs.declared.driver.RoundShape.{Ghosts as RoundShapeOf}
 use Rattle.sc_transcript.specs.declared.driver.Transcript.{Transcript}
 use Rattle.sc_transcript.specs.declared.data.SumcheckData.{SumcheckData}
-use Rattle.sc_transcript.specs.Shapes.{shape_of}
 use Rattle.sc_transcript.specs.Drivers.{Driver}
 use Rattle.sc_definitions.specs.Shown.{setting_at, standing_at}
 use Rattle.sc_rounds.specs.HeldProducts.{setting_over, standing_over}
 use Rattle.sc_transcript.specs.Batches.{PlaysFrom, StopsFrom, BreaksOffAt, Batch, batch_at, PlaysWhole}
 use Rattle.sc_svo.specs.Batches.{batch_in}
 use Rattle.sc_jobs.specs.declared.job.Job.{Job}
-use Rattle.sc_jobs.specs.declared.job.Mode.{Mode}
 use Rattle.sc_jobs.specs.declared.job.Mode.TheVariants.{Build}
 use Rattle.sc_audit.specs.declared.ways.Way.{Way}
 use Rattle.sc_audit.specs.declared.ways.Way.TheVariants as ways
@@ -43,15 +40,17 @@ module _ {F EF : Type 0} {f : FieldOf F} {q : PartialEqOf F} {x : ExtensionOf EF
   strategy_by ways.Represented = Represented
   strategy_by (ways.SmallValue batch) = SmallValue (length (batch_in batch).grids)
 
-  -- what it takes is there: small-value rounds have the problem's batch
+  -- what it takes is there: a represented build takes values, and small-value rounds have the problem's batch
   abbrev pub IsReady : Ops → Problem → Way F EF f q x a e r → Type 0
+  IsReady o p ways.Plain = Unit {0}
+  IsReady o p ways.Represented = p.basis ≡ evaluation
   IsReady o p (ways.SmallValue batch) = IsBatchOf o p (batch_in batch)
-  IsReady o p way = Unit {0}
 
-  -- it is that of the build that is asked for, and takes nothing
-  abbrev pub IsSimpleWay : Mode F EF → Way F EF f q x a e r → Type 0
-  IsSimpleWay mode (ways.SmallValue batch) = ⊥
-  IsSimpleWay mode way = mode ≡ Build (strategy_by way)
+  -- it is that of the build that a job asks for, and takes nothing but, where it is a represented one, values
+  abbrev pub IsSimpleWay : Job F EF f q x a e r → Way F EF f q x a e r → Type 0
+  IsSimpleWay job ways.Plain = job.mode ≡ Build Plain
+  IsSimpleWay job ways.Represented = (job.mode ≡ Build Represented) × ((problem_in job).basis ≡ evaluation)
+  IsSimpleWay job (ways.SmallValue batch) = ⊥
 
 -- ---- its rounds
 
@@ -108,7 +107,7 @@ module _ {F EF : Type 0} {f : FieldOf F} {p : PartialEqOf F} {x : ExtensionOf EF
   abbrev pub rounds_for : Job F EF f p x a e q → Wire → Party → Batch
   rounds_for job on party =
       batch_at (setting_at (channel_by party x.extension f.ops.size job.pow_bits) e.ops (prover_for e.ops (problem_in job))) (standing_at (prover_for e.ops (problem_in job)) party.history on)
-      x.DEGREE (shape_of (constraint_arity job.constraint) job.pow_bits Evaluation)
+      x.DEGREE (constraint_arity job.constraint)
 
 -- what they leave, by their result: they were played whole, with these challenges, and stand where it says, or they break off
 abbrev pub LeavesRounds : {X : Type 0} → Batch → (X → Standing) → (X → List ℕ) → List Event → Wire → Result X SumcheckError → Type 0

@@ -20,13 +20,15 @@ use sc_jobs::{FittingJob, Job, Mode, Report};
 use sc_verdicts::AuditError;
 use std::alloc::Global;
 
-/// Builds the rounds of a job, or checks those of its proof, and reports on them. There is no condition on the job: what does not fit is refused, in
-/// the order of [`AuditError`].
+/// Builds the rounds of a job, or checks those of its proof, and reports on them. There is no
+/// condition on the job: what does not fit is refused, in the order of [`AuditError`].
 ///
-/// The transcript is that of the rounds that the report shows, after their seed. A build plays on a copy of the challenger, and its rounds are then
-/// replayed on the challenger itself, as those of a proof are. A refusal before that leaves the challenger's history as it was, and so does
-/// [`AuditError::NoWitness`]. After [`AuditError::InvalidPowWitness`] the history ends with the test that failed. After [`AuditError::NoMemory`] it is
-/// as it was, or the seed and some of the rounds, from the first on, stand after it, each of these rounds whole.
+/// The transcript is that of the rounds that the report shows, after their seed. A build plays on a
+/// copy of the challenger, and its rounds are then replayed on the challenger itself, as those of a
+/// proof are. A refusal before that leaves the challenger's history as it was, and so does
+/// [`AuditError::NoWitness`]. After [`AuditError::InvalidPowWitness`] the history ends with the
+/// test that failed. After [`AuditError::NoMemory`] it is as it was, or the seed and some of the
+/// rounds, from the first on, stand after it, each of these rounds whole.
 pub fn audit<F: Field, EF: ExtensionField<F>, R: IntoTranscriptField<EF>, C: Challenger<F>>(
     alloc: Global,
     job: &Job<F, EF>,
@@ -34,7 +36,8 @@ pub fn audit<F: Field, EF: ExtensionField<F>, R: IntoTranscriptField<EF>, C: Cha
 ) -> Result<Report<F, EF>, AuditError>
     ensures rules { (C.party challenger.new).rules ≡ (C.party challenger.old).rules }
 
-    // A report shows the rounds of the job, and what they and their challenges determine; a refusal has its one cause, want of memory aside.
+    // A report shows the rounds of the job, and what they and their challenges determine; a refusal
+    // has its one cause, want of memory aside.
     ensures answers { Answers F.number EF.number (refusal_of (asked_by job.now (C.party challenger.old)))
         (asked_by job.now (C.party challenger.old)) result (C.party challenger.new).history }
 

@@ -15,7 +15,7 @@ use crate::ways::{Way, way_of};
 use sc_challenger::Challenger;
 use sc_field::{ExtensionField, Field, IntoTranscriptField};
 use sc_jobs::{FittingJob, Report, Verdict, check_strategy};
-use sc_table::{Basis, Strategy};
+use sc_table::Strategy;
 use sc_verdicts::AuditError;
 use std::alloc::Global;
 
@@ -111,7 +111,7 @@ fn replay<F: Field, EF: ExtensionField<F>, C: Challenger<F>>(
         &mut residual,
         fitting.job.constraint.num_variables(),
         fitting.job.pow_bits,
-        Basis::Evaluation,
+        fitting.job.basis,
     ) {
         return Err(refusal(error));
     }

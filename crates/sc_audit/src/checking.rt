@@ -19,7 +19,7 @@ use sc_field::{ExtensionField, Field, NoMemory};
 use sc_jobs::{FittingJob, Report};
 use sc_rounds::SumcheckData;
 use sc_svo::Grids;
-use sc_table::{Basis, Point, VariableOrder, eval_slice};
+use sc_table::{Point, VariableOrder};
 use sc_verdicts::AuditError;
 use std::alloc::Global;
 
@@ -85,7 +85,7 @@ fn check_rounds<F: Field, EF: ExtensionField<F>, C: Challenger<F>>(
         &mut residual,
         job.constraint.num_variables(),
         job.pow_bits,
-        Basis::Evaluation,
+        job.basis,
     ) {
         Ok(challenges) => challenges,
         Err(error) => return Err(refusal(error)),
@@ -93,7 +93,8 @@ fn check_rounds<F: Field, EF: ExtensionField<F>, C: Challenger<F>>(
     report_on(alloc, fitting, proof, claim, residual, challenges)
 }
 
-// The report on rounds that were replayed: the claim that they began with, what they leave of it, and their challenges.
+// The report on rounds that were replayed: the claim that they began with, what they leave of it,
+// and their challenges.
 fn report_on<F: Field, EF: ExtensionField<F>>(
     alloc: Global,
     fitting: &FittingJob<'_, F, EF>,
@@ -111,8 +112,8 @@ fn report_on<F: Field, EF: ExtensionField<F>>(
 {
     let job = fitting.job;
     let point = point_at(alloc, job.order, &challenges)?;
-    let eval = eval_slice(&job.table, point.as_slice());
-    let weight = job.constraint.eval_at(&point);
+    let eval: EF = job.basis.eval_slice(&job.table, point.as_slice());
+    let weight = job.constraint.eval_at(job.basis, &point);
     let matched = residual.index() == eval.mul(weight).index();
     let verdict = verdict_on(alloc, fitting, proof, &challenges, matched)?;
     let rounds = proof.copy(alloc)?;

@@ -1,6 +1,8 @@
-//! A sumcheck as one call: a table, statements on it, and either the rounds are built, or those of a proof are checked.
+//! A sumcheck as one call: a table, statements on it, and either the rounds are built, or those of
+//! a proof are checked.
 //!
-//! [`audit`] answers the report with its verdict, or why there is none, for every field, extension, representation and challenger.
+//! [`audit`] answers the report with its verdict, or why there is none, for every field, extension,
+//! representation and challenger.
 #![tactic(auto)]
 
 mod audits;

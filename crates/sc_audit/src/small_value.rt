@@ -102,7 +102,7 @@ fn play_all<F: Field, EF: ExtensionField<F>, C: Challenger<F>>(
         (C.party challenger.new).history (wire_in F.number EF.number sumcheck_data.new) result }
 {
     let variables = fitting.job.constraint.num_variables();
-    let shape = SumcheckShape::new(variables, fitting.job.pow_bits, Basis::Evaluation);
+    let shape = SumcheckShape::new(variables, fitting.job.pow_bits, fitting.job.basis);
     let mut challenges = with_room(alloc, variables)?;
     shape.seed::<F, EF, C>(alloc, challenger)?;
     let mut transcript = ProverTranscript::over(challenger, shape);
@@ -153,7 +153,7 @@ fn play<F: Field, EF: ExtensionField<F>, C: Challenger<F>>(
         (wire_in F.number EF.number sumcheck_data.new) result }
 {
     play_small(alloc, batch, sumcheck_data, transcript, sum, challenges)?;
-    let (evals, weights) = batch.residual(alloc, &fitting.job.table, challenges.as_slice())?;
+    let (evals, weights) = batch.residual_slice(alloc, &fitting.job.table, challenges.as_slice())?;
     let mut left = ProductPolynomial::new_unpacked(fitting.job.order, evals, weights);
     play_rest(&mut left, sumcheck_data, transcript, sum, challenges)?;
     Ok(left)

@@ -9,7 +9,7 @@ ghost use Rattle.sc_audit.specs.Ways.{IsWayOf, IsBatchedFor};
 use crate::ways::{Batched, Way, batch_of};
 use sc_field::{ExtensionField, Field, NoMemory};
 use sc_jobs::{FittingJob, Job, Mode, check_strategy};
-use sc_table::Strategy;
+use sc_table::{Basis, Strategy};
 use sc_verdicts::AuditError;
 use std::alloc::Global;
 
@@ -36,7 +36,7 @@ pub(crate) fn state_truth<F: Field, EF: ExtensionField<F>>(
         }
         None => {
             job.constraint.claim_truth(&job.table);
-            Ok(simple_way(&job.mode))
+            Ok(simple_way(job))
         }
     }
 }
@@ -60,13 +60,16 @@ fn small_values<F: Field, EF: ExtensionField<F>>(
     Ok(Some(batch_of(alloc, fitting, variables)?))
 }
 
-// The way of a build that takes nothing.
-fn simple_way<F: Field, EF: ExtensionField<F>>(mode: &Mode<F, EF>) -> Option<Way<F, EF>>
-    ensures { IfSome result (IsSimpleWay mode.now) }
+// The way of a build that takes nothing, where its strategy fits.
+fn simple_way<F: Field, EF: ExtensionField<F>>(job: &Job<F, EF>) -> Option<Way<F, EF>>
+    ensures { IfSome result (IsSimpleWay job.now) }
 {
-    match mode {
+    match &job.mode {
         Mode::Build(Strategy::Plain) => Some(Way::Plain),
-        Mode::Build(Strategy::Represented) => Some(Way::Represented),
+        Mode::Build(Strategy::Represented) => match job.basis {
+            Basis::Evaluation => Some(Way::Represented),
+            Basis::Projective => None,
+        },
         _ => None,
     }
 }

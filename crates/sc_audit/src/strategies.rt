@@ -3,6 +3,7 @@ ghost use Rattle.sc_audit.specs.Asked.{asked_for};
 ghost use Rattle.std.specs.Prelude.{◌≡◌, ◌∷◌, [], List, IfOk, map};
 ghost use Rattle.sc_definitions.specs.declared.events.Event.{Event};
 ghost use Rattle.sc_definitions.specs.Events.{Rules};
+ghost use Rattle.sc_definitions.specs.Tables.{evaluation};
 ghost use Rattle.sc_rounds.specs.ProverViews.{shown_by, image_shown_by};
 ghost use Rattle.sc_rounds.specs.BaseViews.{base_shown};
 ghost use Rattle.sc_table.specs.declared.strategy.Strategy.TheVariants.{Plain, Represented};
@@ -99,7 +100,7 @@ fn roundless<F: Field, EF: ExtensionField<F>>(
     })
 }
 
-// The same on the tables of the images in a representation.
+// The same on the tables of the images in a representation, of a job whose table is of values.
 pub(crate) fn represented<
     F: Field,
     EF: ExtensionField<F>,
@@ -112,6 +113,7 @@ pub(crate) fn represented<
 ) -> Result<Built<F, EF>, AuditError>
     requires difficulty { IsAllowed fitting.now (C.party challenger.now).rules }
     requires all_true { AllTrue fitting.now }
+    requires values { (stated_in fitting.now).basis ≡ evaluation }
     ensures { LeavesBuild F.number EF.number (asked_for (job_in fitting.now) (build Represented) (C.party challenger.now)) result }
 {
     let mut prover: ReprSumcheckProver<F, EF, R> = ReprSumcheckProver::new(
@@ -168,7 +170,7 @@ fn base_of<'a, F: Field, EF: ExtensionField<F>>(
 {
     let job = fitting.job;
     let (weights, claim) = job.constraint.combine_new(alloc)?;
-    Ok(BaseProduct::new(job.order, &job.table, weights, claim))
+    Ok(BaseProduct::new(job.basis, job.order, &job.table, weights, claim))
 }
 
 // The prover of a job whose statements are true.
@@ -182,7 +184,7 @@ fn prover_of<F: Field, EF: ExtensionField<F>>(
     let job = fitting.job;
     let (weights, claim) = job.constraint.combine_new(alloc)?;
     let evals = Poly::new(embedded(alloc, &job.table)?);
-    let poly = ProductPolynomial::new_unpacked(job.order, evals, weights);
+    let poly = ProductPolynomial::new_in(job.basis, job.order, evals, weights);
     Ok(SumcheckProver::new(poly, claim))
 }
 

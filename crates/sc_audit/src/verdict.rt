@@ -2,6 +2,7 @@
 //! through.
 ghost use Rattle.std.specs.Prelude.{◌≡◌, IfOk, length, map};
 ghost use Rattle.sc_definitions.specs.Problem.{claim_of};
+ghost use Rattle.sc_definitions.specs.TwoTables.{tables_in};
 ghost use Rattle.sc_definitions.specs.Lucky.{batch_polynomial, luck_of, in_batch};
 ghost use Rattle.sc_definitions.specs.Roots.{root_count};
 ghost use Rattle.sc_rounds.specs.Turns.{IsPairOf};
@@ -98,7 +99,8 @@ fn pair_of<F: Field, EF: ExtensionField<F>>(
     fitting: &FittingJob<'_, F, EF>,
 ) -> Result<(ProductPolynomial<F, EF>, EF), NoMemory>
     ensures pair { IfOk result
-        (λ p. IsPairOf EF.ops EF.number (stated_in fitting.now) p.0) }
+        (λ p. IsPairOf EF.number (tables_in EF.ops (stated_in fitting.now))
+        (stated_in fitting.now).variables p.0) }
     ensures claim { IfOk result
         (λ p. EF.number p.1 ≡ claim_of EF.ops (stated_in fitting.now)) }
 {
@@ -106,7 +108,7 @@ fn pair_of<F: Field, EF: ExtensionField<F>>(
     let (weights, claim) = job.constraint.combine_new(alloc)?;
     let evals = Poly::new(embedded(alloc, &job.table)?);
     Ok((
-        ProductPolynomial::new_unpacked(job.order, evals, weights),
+        ProductPolynomial::new_in(job.basis, job.order, evals, weights),
         claim,
     ))
 }

@@ -1,4 +1,5 @@
-//! Builds on representations, and over fields that differ from those of the tables, with figures from a script that is no part of this.
+//! Builds on representations, and over fields that differ from those of the tables, with figures
+//! from a script that is no part of this.
 ghost use Rattle.std.specs.Prelude.{◌≡◌};
 ghost use Rattle.sc_claims.specs.EqStatements.{eq_arity};
 
@@ -11,7 +12,7 @@ use sc_definitions::Event;
 use sc_definitions::Event::Word;
 use sc_field::{ExtensionField, Field, IntoTranscriptField};
 use sc_statements::{Constraint, EqStatement, Statements};
-use sc_table::{Point, VariableOrder};
+use sc_table::{Basis, Point, VariableOrder};
 use sc_tests_common::{are_pairs, have_numbers, of};
 use std::process::Abort;
 
@@ -37,8 +38,10 @@ struct Figures {
     holds: bool,
 }
 
-// A job that builds rounds: a table, and claims, which are batched under the challenge 1 with a group of none after them; a challenger's draws; and
-// what is answered, with the grids of a report, and appended to the history: the words of a seed, each a hexadecimal digit, and events after them.
+// A job that builds rounds: a table, and claims, which are batched under the challenge 1 with a
+// group of none after them; a challenger's draws; and what is answered, with the grids of a report,
+// and appended to the history: the words of a seed, each a hexadecimal digit, and events after
+// them.
 #[derive(Clone, Copy)]
 struct Case {
     name: &'static str,
@@ -131,6 +134,7 @@ fn job<F: Field, EF: ExtensionField<F>, R: Abort + AllocGlobal>(rt: &R, case: &C
         table: elements(rt, case.table),
         constraint: constraint(rt, case),
         order: case.order,
+        basis: Basis::Evaluation,
         pow_bits: 0,
         mode: Mode::Build(case.strategy),
     }
@@ -222,7 +226,8 @@ fn assert_history<R: Abort + AllocGlobal>(rt: &R, events: &[Event], case: &Case)
     assert!(rt; events == wanted.as_slice(), "{name}: history");
 }
 
-// Asserts that a case is answered as it says with these draws, and the history that it leaves; the answer comes back.
+// Asserts that a case is answered as it says with these draws, and the history that it leaves; the
+// answer comes back.
 fn assert_case<F, EF, I, R>(rt: &R, case: &Case, draws: Vec<F>) -> Result<Report<F, EF>, AuditError>
 where
     F: Field,

@@ -6,6 +6,7 @@ ghost use Rattle.sc_claims.specs.NextStatements.{next_arity};
 ghost use Rattle.sc_claims.specs.SelectStatements.{select_arity};
 
 mod lucky;
+mod projective;
 mod refusals;
 mod reports;
 mod seventeen;
@@ -20,7 +21,7 @@ use sc_definitions::Event::{Draw, Test, Word};
 use sc_field::Field;
 use sc_rounds::SumcheckData;
 use sc_statements::{Constraint, EqStatement, NextStatement, SelectStatement, Statements};
-use sc_table::{Point, RoundMessage, VariableOrder};
+use sc_table::{Basis, Point, RoundMessage, VariableOrder};
 use sc_tests_common::{are_pairs, have_numbers, of};
 use std::process::Abort;
 
@@ -73,8 +74,9 @@ struct Figures {
     finding: Finding,
 }
 
-// A job, whose table is filled up to `rows` rows with zeros and whose claims are two groups, with one after them; a challenger, by its draws, the
-// witnesses that pass and its history; and what is answered, with the grids of a report, and appended to the history: the words of a seed, each a
+// A job, whose table is filled up to `rows` rows with zeros and whose claims are two groups, with
+// one after them; a challenger, by its draws, the witnesses that pass and its history; and what is
+// answered, with the grids of a report, and appended to the history: the words of a seed, each a
 // hexadecimal digit, and events after them.
 #[derive(Clone, Copy)]
 struct Case {
@@ -87,6 +89,7 @@ struct Case {
     last: Last,
     batching: u64,
     order: VariableOrder,
+    basis: Basis,
     pow_bits: usize,
     task: Task,
     draws: &'static [u64],
@@ -98,7 +101,7 @@ struct Case {
     events: &'static [Event],
 }
 
-// ---- The bytes of seeds, over a field as its own extension and in the basis of values; each digit is a word.
+// ---- The bytes of seeds, over a field as its own extension; each digit is a word.
 
 // version 1, and the protocol's name after its length
 const HEAD: &str = "01000000000000001570332d73756d636865636b2d717561647261746963";
@@ -113,10 +116,13 @@ const WITNESS: &str = "0300000000000000010100000000000000010000000000000009726f7
 const CHALLENGE: &str =
     "020000000000000001000000000000000001000000000000000f726f756e645f6368616c6c656e6765";
 
-// a label of one byte, the basis
+// a label of one byte, the basis, of values and of coefficients
 const BASIS: &str = "000000000000000100";
 
-// the seeds of one round and of two, without a test and with one, have their number of steps after the head
+const COEFFICIENTS: &str = "000000000000000101";
+
+// the seeds of one round and of two, without a test and with one, have their number of steps after
+// the head
 const ONE_ROUND: [&str; 5] = [HEAD, "0000000000000002", VALUES, CHALLENGE, BASIS];
 
 const TWO_ROUNDS: [&str; 7] = [
@@ -152,6 +158,7 @@ const PREFIX: Case = Case {
     last: Last::Nothing,
     batching: 4,
     order: VariableOrder::Prefix,
+    basis: Basis::Evaluation,
     pow_bits: 0,
     task: Task::Build(Strategy::Plain),
     draws: &[8, 12],
@@ -301,6 +308,7 @@ fn job<F: Field, R: Abort + AllocGlobal>(rt: &R, case: &Case) -> Job<F, F> {
         table: table(rt, case),
         constraint: constraint(rt, case),
         order: case.order,
+        basis: case.basis,
         pow_bits: case.pow_bits,
         mode: mode(rt, case.task),
     }

@@ -1,10 +1,10 @@
 -- What was built, and the report on its replay.
-use Rattle.std.proofs.Common.{◌≡◌, ℕ, suc, ◌+◌, ◌-◌, ◌^◌, ◌<◌, List, [], ◌∷◌, ◌++◌, All, length, map, true, None, refl, ap, sym, ◌∙◌, subst, arith, inl, inr, Err}
+use Rattle.std.proofs.Common.{◌≡◌, ℕ, suc, ◌+◌, ◌-◌, ◌^◌, ◌<◌, List, [], ◌∷◌, All, length, map, true, None, refl, ap, sym, ◌∙◌, subst, arith, inl, inr, Err}
 use Rattle.std.proofs.lemmas.Bool.{eq-eqb}
 use Rattle.sc_definitions.specs.declared.events.Event.{Event}
-use Rattle.sc_definitions.specs.Ring.{IsRing}
-use Rattle.sc_definitions.specs.Tables.{Basis, evaluation, IsOffered, entries, rows_of, value_in, point_of, bound_by}
-use Rattle.sc_definitions.specs.Rounds.{honest_pair, next_claim}
+use Rattle.sc_definitions.specs.Ring.{IsRing, element}
+use Rattle.sc_definitions.specs.Tables.{IsOffered, entries, rows_of, value_in, point_of, bound_by}
+use Rattle.sc_definitions.specs.Rounds.{next_claim}
 use Rattle.sc_definitions.specs.Transcript.{Round, messages_of, challenges}
 use Rattle.sc_definitions.specs.Replays.{given_rounds}
 use Rattle.sc_definitions.specs.Channels.{Wire, empty_wire, witnesses_of, Footing, NoWitnessFound, IsReplayed, IsReplayedInPart, FailsAt, IsBuilt, channel}
@@ -12,8 +12,8 @@ use Rattle.sc_definitions.specs.Standings.{Setting, Standing, entries_of, messag
 use Rattle.sc_definitions.specs.Problem.{weights_of, claim_of, honest_of, residual_of, eval_of, weight_value_of}
 use Rattle.sc_definitions.specs.Lucky.{luck_of}
 use Rattle.sc_definitions.proofs.RingLaws.{element-small}
-use Rattle.sc_definitions.proofs.PlayedLaws.{value-played}
-use Rattle.sc_definitions.proofs.BuildLaws.{first_false_claim-all, built-residual}
+use Rattle.sc_definitions.proofs.PlacedLaws.{placed_entry-bound_by}
+use Rattle.sc_definitions.proofs.BuildLaws.{first_false_claim-all, built-residual, placed-end}
 use Rattle.sc_definitions.proofs.BuiltLaws.{length-messages, length-challenges}
 use Rattle.sc_definitions.proofs.SameTables.{bound_by-same, built-same, honest-same}
 use Rattle.sc_definitions.proofs.StandingLaws.{entries-is, with_none, rows-entries_of, message_honest}
@@ -24,10 +24,7 @@ use Rattle.sc_transcript.specs.Data.{witness_count}
 use Rattle.sc_transcript.specs.declared.rounds.BatchShape.{BatchShape}
 use Rattle.sc_transcript.specs.Causes.{cause_of}
 use Rattle.sc_transcript.specs.Replayed.{replay_of, LeavesReplay}
-use Rattle.sc_definitions.specs.Events.{Rules, words}
-use Rattle.sc_definitions.specs.Seeds.{quadratic_seed}
-use Rattle.sc_table.specs.declared.strategy.Basis.TheVariants.{Evaluation}
-use Rattle.sc_transcript.specs.Shapes.{shape_of}
+use Rattle.sc_definitions.specs.Events.{Rules}
 use Rattle.sc_definitions.specs.Shown.{Shown, setting_at, standing_at}
 use Rattle.sc_transcript.specs.Batches.{Batch, batch_at, PlaysWhole, BreaksOff}
 use Rattle.sc_transcript.proofs.GivenRounds.{given_played, count_witnesses}
@@ -47,7 +44,7 @@ one_entry number [] y one at = absurd (omega (arith, one))
 one_entry number (x ∷ []) y one at = ap (λ n. n ∷ []) at
 one_entry number (x ∷ z ∷ xs) y one at = absurd (omega (arith, one))
 
-module _ (q : Asked) (ring : IsRing q.ops) (even : q.case.problem.basis ≡ evaluation) where
+module _ (q : Asked) (ring : IsRing q.ops) (offered : IsOffered q.case.problem.basis q.case.problem.order) where
   -- what stays, and where the first round stands
   abbrev pub setting_for : Setting
   setting_for = setting_at q.channel q.ops (prover_for q.ops q.case.problem)
@@ -55,48 +52,44 @@ module _ (q : Asked) (ring : IsRing q.ops) (even : q.case.problem.basis ≡ eval
   abbrev pub start_for : Standing
   start_for = standing_at (prover_for q.ops q.case.problem) (start_of q).history empty_wire
 
-  offered : IsOffered q.case.problem.basis q.case.problem.order
-  offered = subst (λ b. IsOffered b q.case.problem.order) (sym even) tt
-
   -- what the prover's tables tell is what an honest prover sends
   told_honest : (rs : List ℕ) (m : ℕ) → length rs + suc m ≡ q.case.problem.variables → honest_in setting_for start_for rs m ≡ honest_of q.ops q.case.problem rs m
   unfolding honest_of
   told_honest rs m whole =
       let p = q.case.problem in
-      honest-same evaluation p.order q.ops ring tt p.variables _ p.table _ (weights_of q.ops p) (rows-entries_of p.variables p.table) (rows-entries_of p.variables (weights_of q.ops p)) rs m whole
-      ∙ ap (λ b. honest_pair b p.order q.ops p.table (weights_of q.ops p) rs m) (sym even)
+      honest-same p.basis p.order q.ops ring offered p.variables _ p.table _ (weights_of q.ops p) (rows-entries_of p.variables p.table) (rows-entries_of p.variables (weights_of q.ops p)) rs m whole
 
   built_honest : (rounds : List Round) → IsBuilt (honest_in setting_for start_for) q.channel (start_of q).history [] q.case.problem.variables rounds →
       IsBuilt (honest_of q.ops q.case.problem) q.channel (start_of q).history [] q.case.problem.variables rounds
   unfolding honest_of
   built_honest rounds b =
       let p = q.case.problem in
-      subst (λ k. IsBuilt (honest_pair k p.order q.ops p.table (weights_of q.ops p)) q.channel (start_of q).history [] p.variables rounds) (sym even)
-      (built-same evaluation p.order q.ops ring tt p.variables _ p.table _ (weights_of q.ops p) (rows-entries_of p.variables p.table) (rows-entries_of p.variables (weights_of q.ops p))
-      q.channel (start_of q).history [] p.variables rounds (omega arith) b)
+      built-same p.basis p.order q.ops ring offered p.variables _ p.table _ (weights_of q.ops p) (rows-entries_of p.variables p.table) (rows-entries_of p.variables (weights_of q.ops p))
+      q.channel (start_of q).history [] p.variables rounds (omega arith) b
 
   -- the one entry that is left is the table's value at the challenges
   value_left : (f : ℕ → ℕ) (rs xs : List ℕ) (x : ℕ) → length rs ≡ q.case.problem.variables →
-      xs ≡ entries_of 0 (bound_by evaluation q.case.problem.order q.ops rs 0 (rows_of (entries_of q.case.problem.variables f))) → xs ≡ x ∷ [] → x < q.ops.size →
+      xs ≡ entries_of 0 (bound_by q.case.problem.basis q.case.problem.order q.ops rs 0 (rows_of (entries_of q.case.problem.variables f))) → xs ≡ x ∷ [] → x < q.ops.size →
       x ≡ value_in q.case.problem.basis q.ops f (point_of q.case.problem.order rs)
   unfolding rows_of
   value_left f rs xs x count bound one low =
       let p = q.case.problem in
       let n = p.variables in
       let whole : length rs + 0 ≡ n = omega (arith, count) in
-      let at : (b : ℕ) → b < 2 ^ 0 → x ≡ bound_by evaluation p.order q.ops rs 0 f b = λ b below.
+      let at : (b : ℕ) → b < 2 ^ 0 → x ≡ bound_by p.basis p.order q.ops rs 0 f b = λ b below.
       let first : 0 ≡ b = omega (arith, below) in
-      let entry : x ≡ bound_by evaluation p.order q.ops rs 0 (rows_of (entries_of n f)) 0 =
-      ap (λ t. rows_of t 0) (sym one ∙ bound) ∙ rows-entries_of 0 (bound_by evaluation p.order q.ops rs 0 (rows_of (entries_of n f))) 0 (omega arith) in
-      entry ∙ bound_by-same evaluation p.order q.ops rs 0 (rows_of (entries_of n f)) f (λ k under. rows-entries_of n f k (subst (λ v. k < 2 ^ v) whole under)) 0 (omega arith)
-      ∙ ap (bound_by evaluation p.order q.ops rs 0 f) first in
-      sym (element-small q.ops ring x low) ∙ sym (value-played p.order q.ops ring f (λ b. x) rs at) ∙ ap (λ b. value_in b q.ops f (point_of p.order rs)) (sym even)
+      let entry : x ≡ bound_by p.basis p.order q.ops rs 0 (rows_of (entries_of n f)) 0 =
+      ap (λ t. rows_of t 0) (sym one ∙ bound) ∙ rows-entries_of 0 (bound_by p.basis p.order q.ops rs 0 (rows_of (entries_of n f))) 0 (omega arith) in
+      entry ∙ bound_by-same p.basis p.order q.ops rs 0 (rows_of (entries_of n f)) f (λ k under. rows-entries_of n f k (subst (λ v. k < 2 ^ v) whole under)) 0 (omega arith)
+      ∙ ap (bound_by p.basis p.order q.ops rs 0 f) first in
+      sym (element-small q.ops ring x low) ∙ ap (element q.ops) (at 0 (omega arith))
+      ∙ sym (placed_entry-bound_by q.ops ring p.basis p.order f rs 0 0 (omega arith)) ∙ placed-end q.ops ring p.basis p.order offered f rs
 
   -- ---- no round
 
   -- the one entry of a table of no variable
   one_left : (f : ℕ → ℕ) (x : ℕ) → x ≡ f 0 →
-      entries_of 0 (bound_by evaluation q.case.problem.order q.ops [] 0 (rows_of (entries_of q.case.problem.variables f))) ≡ x ∷ []
+      entries_of 0 (bound_by q.case.problem.basis q.case.problem.order q.ops [] 0 (rows_of (entries_of q.case.problem.variables f))) ≡ x ∷ []
   unfolding bound_by rows_of
   one_left f x is =
       let n = q.case.problem.variables in
@@ -147,9 +140,9 @@ module _ (q : Asked) (ring : IsRing q.ops) (even : q.case.problem.basis ≡ eval
           drawn = played.drawn;
           claim = claimed;
           eval = value_left p.table rs after.evals x drawn
-              (subst (λ m. after.evals ≡ entries_of m (bound_by evaluation p.order q.ops rs m (rows_of (entries_of p.variables p.table)))) none_left played.evals) ex low;
+              (subst (λ m. after.evals ≡ entries_of m (bound_by p.basis p.order q.ops rs m (rows_of (entries_of p.variables p.table)))) none_left played.evals) ex low;
           weight = value_left (weights_of q.ops p) rs after.weights y drawn
-              (subst (λ m. after.weights ≡ entries_of m (bound_by evaluation p.order q.ops rs m (rows_of (entries_of p.variables (weights_of q.ops p))))) none_left played.weights) ey high;
+              (subst (λ m. after.weights ≡ entries_of m (bound_by p.basis p.order q.ops rs m (rows_of (entries_of p.variables (weights_of q.ops p))))) none_left played.weights) ey high;
           grids = grids_are;
         }
 
@@ -169,7 +162,7 @@ module _ (q : Asked) (ring : IsRing q.ops) (even : q.case.problem.basis ≡ eval
         let drawn = challenges q.channel.rules q.channel.extension q.channel.bits (start_of q).history played.rounds in
         let full : length drawn + suc m ≡ p.variables = omega (arith, length-challenges q.channel.rules q.channel.extension q.channel.bits (start_of q).history played.rounds, count, some) in
         let message : message_in setting_for last ≡ honest_of q.ops p drawn m =
-        message_honest setting_for ring tt start_for last stopped.rs m played variables ∙ ap (λ t. honest_in setting_for start_for t m) played.drawn ∙ told_honest drawn m full in
+        message_honest setting_for ring offered start_for last stopped.rs m played variables ∙ ap (λ t. honest_in setting_for start_for t m) played.drawn ∙ told_honest drawn m full in
         let wire : after.wire.witnesses ≡ witnesses_of q.channel.bits played.rounds = ap (λ (t : Standing). t.wire.witnesses) stopped.ends.kept ∙ ap (λ (w : Wire). w.witnesses) played.wire in
         record {
           rounds = played.rounds;
@@ -189,15 +182,14 @@ module _ (q : Asked) (ring : IsRing q.ops) (even : q.case.problem.basis ≡ eval
       (none_sent : on ≡ empty_wire) (degree_is : degree ≡ q.channel.extension.degree) (count : k ≡ q.case.problem.variables) where
     abbrev pub batch_here : Batch
     batch_here =
-        batch_at (setting_at (channel R q.channel.extension q.channel.base_size q.channel.bits) q.ops shown) (standing_at shown h on) degree (shape_of k q.channel.bits Evaluation)
+        batch_at (setting_at (channel R q.channel.extension q.channel.base_size q.channel.bits) q.ops shown) (standing_at shown h on) degree k
 
     pub same_setting : batch_here.setting ≡ setting_for
     same_setting = rw (rules, shows) refl
 
     pub same_start : batch_here.start ≡ start_for
     same_start =
-        let seed = λ (b : Basis). words (quadratic_seed q.channel.extension.degree b q.channel.bits q.case.problem.variables) in
-        rw (history, shows, none_sent, degree_is, count) (ap (λ b. standing_at (prover_for q.ops q.case.problem) (q.history ++ seed b) empty_wire) (sym even))
+        rw (history, shows, none_sent, degree_is, count) refl
 
   -- ---- a replay of what was built
 

@@ -5,6 +5,7 @@ use Rattle.std.specs.List.{slice_get}
 use Rattle.sc_definitions.specs.declared.events.Event.{Event}
 use Rattle.sc_definitions.specs.Problem.{Problem}
 use Rattle.sc_definitions.specs.Statements.{Kind, equality, successor, powers, products, Statement}
+use Rattle.sc_definitions.specs.Tables.{Basis, evaluation, projective, Order}
 use Rattle.sc_table.specs.declared.strategy.Strategy.{Strategy}
 use Rattle.sc_table.specs.declared.strategy.Strategy.TheVariants.{Plain, Represented, SmallValue}
 use Rattle.sc_definitions.specs.Events.{Rules, Extension}
@@ -17,7 +18,7 @@ use Rattle.sc_verdicts.specs.declared.error.AuditError.TheVariants.{StrategyUnfi
 use Rattle.sc_verdicts.specs.declared.error.FitFault.TheVariants.{Variables}
 use Rattle.sc_jobs.specs.Cases.{Task, build, check, Asked, start_of}
 use Rattle.sc_verdicts.specs.Arities.{arity_of}
-use Rattle.sc_jobs.specs.Refusals.{shape_by, or_later, variables_refusal, unfit, first_unfit, strategy_refusal, shape_refusal, task_refusal, refusal_of}
+use Rattle.sc_jobs.specs.Refusals.{shape_by, or_later, basis_refusal, small_refusal, variables_refusal, unfit, first_unfit, strategy_refusal, shape_refusal, task_refusal, refusal_of}
 use Rattle.sc_jobs.specs.Audits.{WitnessFails, IsCaused, Answers, IsRefusedBy, PassesAll, IsValid, MayMeet}
 
 -- nothing is no error
@@ -62,9 +63,9 @@ pub no_earlier : (q : Asked) → shape_refusal q ≡ None → task_refusal q ≡
 no_earlier q shape = sym (ap (λ t. or_later t (task_refusal q)) shape)
 
 -- a shape by other names of the number of rows and of the greatest difficulty
-pub shape_as : {rows rows' most most' : ℕ} (bits n : ℕ) (first : Option AuditError) → rows ≡ rows' → most ≡ most' → shape_by (arity_of rows) most rows bits n ≡ first →
-    shape_by (arity_of rows') most' rows' bits n ≡ first
-shape_as bits n first er em is = rw (er, em) at is
+pub shape_as : {rows rows' most most' : ℕ} (bits n : ℕ) (basis : Basis) (order : Order) (first : Option AuditError) → rows ≡ rows' → most ≡ most' →
+    shape_by (arity_of rows) most rows bits n basis order ≡ first → shape_by (arity_of rows') most' rows' bits n basis order ≡ first
+shape_as bits n basis order first er em is = rw (er, em) at is
 
 -- ---- a strategy that does not fit
 
@@ -94,12 +95,17 @@ unfolding first_unfit
 first_is_unfit i [] = tt
 first_is_unfit i (s ∷ ss) = later_unfit (unfit i s.kind) (first_unfit (suc i) ss) (kind_unfit i s.kind) (first_is_unfit (suc i) ss)
 
+basis_unfit : (basis : Basis) → IsUnfit (basis_refusal basis)
+basis_unfit evaluation = tt
+basis_unfit projective = tt
+
 strategy_unfit : (p : Problem) (s : Strategy) → IsUnfit (strategy_refusal p s)
 strategy_unfit p Plain = tt
-strategy_unfit p Represented = tt
+strategy_unfit p Represented = basis_unfit p.basis
 strategy_unfit p (SmallValue variables) =
     let bound = min p.variables most_rounds in
-    later_unfit (variables_refusal bound variables) (first_unfit 0 p.statements) (number_unfit bound variables (variables == 0 || nat_lt bound variables)) (first_is_unfit 0 p.statements)
+    later_unfit (basis_refusal p.basis) (small_refusal p.variables p.statements variables) (basis_unfit p.basis)
+    (later_unfit (variables_refusal bound variables) (first_unfit 0 p.statements) (number_unfit bound variables (variables == 0 || nat_lt bound variables)) (first_is_unfit 0 p.statements))
 
 caused_as : (first : Option AuditError) (q : Asked) (h : List Event) (e : AuditError) → IsUnfit (Some e) → first ≡ Some e → h ≡ q.history → IsCaused first q h e
 caused_as first q h (StrategyUnfit fault) fits is kept = (is, kept)

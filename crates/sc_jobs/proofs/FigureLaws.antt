@@ -5,11 +5,11 @@ use Rattle.sc_definitions.specs.Seeds.{quadratic_seed}
 use Rattle.sc_definitions.specs.Channels.{footing}
 use Rattle.sc_jobs.specs.Cases.{Asked, start_of}
 use Rattle.sc_definitions.specs.Ring.{Ops, times}
-use Rattle.sc_definitions.specs.Tables.{evaluation, Order, entries, value, point_of}
+use Rattle.sc_definitions.specs.Tables.{Basis, Order, entries, value_in, point_of}
 use Rattle.sc_definitions.specs.Statements.{Statement, batched_weight, batched_claim}
 use Rattle.sc_definitions.specs.Problem.{Problem, weights_of, claim_of, residual_of, eval_of, weight_value_of}
 use Rattle.sc_definitions.specs.Lucky.{luck_of}
-use Rattle.sc_definitions.proofs.TableLaws.{value-same}
+use Rattle.sc_definitions.proofs.HonestRounds.{value_in-same}
 use Rattle.sc_table.proofs.EntryLaws.{entry-embedded}
 use Rattle.sc_verdicts.specs.Findings.{Finding}
 use Rattle.sc_jobs.specs.Figures.{Figures, finding_by, false_claim_of, is_matched, figures_of}
@@ -37,22 +37,22 @@ module _ (o : Ops) (p : Problem) where
   matched-by b x y z ms rs ex ey ez is = is ∙ cc (ex, ey, ez)
 
 -- the problem of a table with statements
-abbrev pub stated : Order → ℕ → (ℕ → ℕ) → List Statement → ℕ → ℕ → Problem
-stated order n f ss c i = record { basis = evaluation; order = order; variables = n; table = f; statements = ss; batching = c; initial = i }
+abbrev pub stated : Basis → Order → ℕ → (ℕ → ℕ) → List Statement → ℕ → ℕ → Problem
+stated basis order n f ss c i = record { basis = basis; order = order; variables = n; table = f; statements = ss; batching = c; initial = i }
 
-module _ (o : Ops) (order : Order) (n : ℕ) (f : ℕ → ℕ) (ss : List Statement) (c i : ℕ) where
+module _ (o : Ops) (basis : Basis) (order : Order) (n : ℕ) (f : ℕ → ℕ) (ss : List Statement) (c i : ℕ) where
   -- the values at the point that the challenges make
-  pub eval-at : (rs : List ℕ) (x : ℕ) → x ≡ value o f (point_of order rs) → x ≡ eval_of o (stated order n f ss c i) rs
+  pub eval-at : (rs : List ℕ) (x : ℕ) → x ≡ value_in basis o f (point_of order rs) → x ≡ eval_of o (stated basis order n f ss c i) rs
   unfolding eval_of
   eval-at rs x is = is
 
   -- the same, where the table is that of the images of a list's items
   pub eval-at_slice : {X : Type 0} (embed : ℕ → ℕ) (number : X → ℕ) (rows : List X) (zs rs : List ℕ) (x : ℕ) → embed 0 ≡ 0 → ((b : ℕ) → embed (entries number rows b) ≡ f b) → zs ≡ point_of order rs →
-      x ≡ value o (entries (λ y. embed (number y)) rows) zs → x ≡ eval_of o (stated order n f ss c i) rs
+      x ≡ value_in basis o (entries (λ y. embed (number y)) rows) zs → x ≡ eval_of o (stated basis order n f ss c i) rs
   eval-at_slice embed number rows zs rs x zero_kept same there is =
-      eval-at rs x (is ∙ value-same o _ _ zs (λ b _. entry-embedded embed number rows b zero_kept ∙ same b) ∙ ap (value o f) there)
+      eval-at rs x (is ∙ value_in-same basis o _ _ zs (λ b _. entry-embedded embed number rows b zero_kept ∙ same b) ∙ ap (value_in basis o f) there)
 
-  pub weight-at : (rs : List ℕ) (x : ℕ) → x ≡ value o (batched_weight o c i ss) (point_of order rs) → x ≡ weight_value_of o (stated order n f ss c i) rs
+  pub weight-at : (rs : List ℕ) (x : ℕ) → x ≡ value_in basis o (batched_weight o c i ss) (point_of order rs) → x ≡ weight_value_of o (stated basis order n f ss c i) rs
   unfolding weight_value_of weights_of
   weight-at rs x is = is
 

@@ -7,6 +7,7 @@ pub mod ClaimLaws
 pub mod ClaimTests
 pub mod CountLaws
 pub mod FigureLaws
+pub mod OfferLaws
 pub mod Passing
 pub mod UnfitLaws
 pub mod SameGrids

@@ -4,7 +4,7 @@ use Rattle.std.specs.Prelude.{vec_len}
 use Rattle.std.specs.declared.cmp.PartialEq.{Ghosts as PartialEqOf}
 use Rattle.sc_definitions.specs.declared.events.Event.{Event}
 use Rattle.sc_definitions.specs.Ring.{Ops}
-use Rattle.sc_definitions.specs.Tables.{evaluation, entries}
+use Rattle.sc_definitions.specs.Tables.{entries}
 use Rattle.sc_definitions.specs.Events.{Rules}
 use Rattle.sc_definitions.specs.Channels.{channel}
 use Rattle.sc_definitions.specs.Statements.{Statement, AllTrueOf, IsTrueOf, weights_at, powers_sum, batched_weight, weight_of}
@@ -12,7 +12,7 @@ use Rattle.sc_definitions.specs.Problem.{Problem, weights_of}
 use Rattle.sc_field.specs.declared.field.Field.{Ghosts as FieldOf}
 use Rattle.sc_field.specs.declared.algebra.Algebra.{Ghosts as AlgebraOf}
 use Rattle.sc_field.specs.declared.algebra.ExtensionField.{Ghosts as ExtensionOf}
-use Rattle.sc_table.specs.Strategy.{order_of}
+use Rattle.sc_table.specs.Strategy.{basis_of, order_of}
 use Rattle.sc_table.specs.declared.strategy.Strategy.{Strategy}
 use Rattle.sc_table.specs.declared.strategy.Strategy.TheVariants.{Plain, Represented, SmallValue}
 use Rattle.sc_statements.specs.Constraints.{constraint_arity, constraint_challenge, constraint_power}
@@ -26,7 +26,7 @@ use Rattle.sc_verdicts.specs.declared.error.AuditError.TheVariants.{NoMemory}
 use Rattle.sc_jobs.specs.declared.job.Job.{Job}
 use Rattle.sc_jobs.specs.Cases.{problem_in, task_in, asked_of}
 use Rattle.sc_jobs.specs.Figures.{false_claim_of}
-use Rattle.sc_jobs.specs.Refusals.{or_later, shape_by, shape_refusal, unfit, first_unfit, variables_refusal, strategy_refusal}
+use Rattle.sc_jobs.specs.Refusals.{or_later, shape_by, shape_refusal, unfit, first_unfit, variables_refusal, basis_refusal, strategy_refusal}
 use Rattle.sc_jobs.specs.Taken.{IsBatchOf}
 use Rattle.sc_jobs.specs.Stated.{truly_stated, stated_unless, asked_truly, kinds_of, IsRestated, LeavesStated, shape_of}
 
@@ -62,12 +62,13 @@ module _ (o : Ops) (p : Problem) where
   pub strategy-stated : (s : Strategy) → strategy_refusal (truly_stated o p) s ≡ strategy_refusal p s
   strategy-stated Plain = refl
   strategy-stated Represented = refl
-  strategy-stated (SmallValue variables) = ap (or_later (variables_refusal (min p.variables most_rounds) variables)) (unfit-stated o p.variables p.table 0 p.statements)
+  strategy-stated (SmallValue variables) = ap (λ r. or_later (basis_refusal p.basis) (or_later (variables_refusal (min p.variables most_rounds) variables) r)) (unfit-stated o p.variables p.table 0 p.statements)
 
   -- a batch of it is one of it still
   pub batch-stated : (b : GridBatch) → IsBatchOf o p b → IsBatchOf o (truly_stated o p) b
   unfolding weights_of batched_weight
   batch-stated b is = record {
+    basis = is.basis;
     order = is.order;
     variables = is.variables;
     weights = λ row low. is.weights row low ∙ ap (powers_sum o p.batching p.initial) (sym (weights-stated o p.variables p.table p.statements row));
@@ -100,9 +101,9 @@ module _ {F EF : Type 0} {f : FieldOf F} {p : PartialEqOf F} {x : ExtensionOf EF
     pub restated-shape : (R : Rules) (h : List Event) (max_bits : ℕ) → IsRestated old now → vec_len old.table ≡ length old.table.items → max_bits ≡ R.max_bits →
         shape_refusal (asked_of now R h) ≡ shape_of old max_bits
     restated-shape R h max_bits kept rows most =
-        (λ i. shape_by (arity_of (length (kept.table i).items)) R.max_bits (length (kept.table i).items) (kept.difficulty i) (kept.arity i))
-        ∙ sym (ap (λ n. shape_by (arity_of n) R.max_bits n old.pow_bits (constraint_arity old.constraint)) rows)
-        ∙ sym (ap (λ m. shape_by (arity_of (vec_len old.table)) m (vec_len old.table) old.pow_bits (constraint_arity old.constraint)) most)
+        (λ i. shape_by (arity_of (length (kept.table i).items)) R.max_bits (length (kept.table i).items) (kept.difficulty i) (kept.arity i) (basis_of (kept.basis i)) (order_of (kept.order i)))
+        ∙ sym (ap (λ n. shape_by (arity_of n) R.max_bits n old.pow_bits (constraint_arity old.constraint) (basis_of old.basis) (order_of old.order)) rows)
+        ∙ sym (ap (λ m. shape_by (arity_of (vec_len old.table)) m (vec_len old.table) old.pow_bits (constraint_arity old.constraint) (basis_of old.basis) (order_of old.order)) most)
 
     -- the same of what an audit leaves
     pub asked-stated : {X : Type 0} (R : Rules) (h : List Event) (r : Result X AuditError) → IsRestated old now → shape_refusal (asked_of old R h) ≡ None → (r ≡ Err NoMemory → ⊥) →
@@ -110,11 +111,12 @@ module _ {F EF : Type 0} {f : FieldOf F} {p : PartialEqOf F} {x : ExtensionOf EF
     asked-stated R h r kept none some left = asked-same kept (stated-left (shape_refusal (asked_of old R h)) e.ops (problem_in old) (problem_in now) r none some left) R h
 
     -- statements that claim their true values, and all else as it was
-    pub restated : now.table ≡ old.table → now.order ≡ old.order → now.pow_bits ≡ old.pow_bits → now.mode ≡ old.mode → constraint_arity now.constraint ≡ constraint_arity old.constraint →
+    pub restated : now.table ≡ old.table → now.basis ≡ old.basis → now.order ≡ old.order → now.pow_bits ≡ old.pow_bits → now.mode ≡ old.mode → constraint_arity now.constraint ≡ constraint_arity old.constraint →
         constraint_challenge e.number now.constraint ≡ constraint_challenge e.number old.constraint → constraint_power now.constraint ≡ constraint_power old.constraint →
         (problem_in now).statements ≡ all_stated_truly e.ops (problem_in old).variables (problem_in old).table (problem_in old).statements → IsRestated old now
-    restated table order difficulty mode arity challenge power statements = record {
+    restated table basis order difficulty mode arity challenge power statements = record {
       table = table;
+      basis = basis;
       order = order;
       difficulty = difficulty;
       mode = mode;
@@ -127,7 +129,7 @@ module _ {F EF : Type 0} {f : FieldOf F} {p : PartialEqOf F} {x : ExtensionOf EF
     pub problem-stated : IsRestated old now → (problem_in now).statements ≡ all_stated_truly e.ops (problem_in old).variables (problem_in old).table (problem_in old).statements →
         problem_in now ≡ truly_stated e.ops (problem_in old)
     problem-stated kept statements = λ i. record {
-      basis = evaluation;
+      basis = basis_of (kept.basis i);
       order = order_of (kept.order i);
       variables = kept.arity i;
       table = λ b. a.embedding (entries f.number (kept.table i).items b);

@@ -17,6 +17,7 @@ as_build q = with_task q (build Plain)
 -- what a prover shows of a problem before its first round
 abbrev pub prover_for : Ops → Problem → Shown
 prover_for o p = record {
+  basis = p.basis;
   order = p.order;
   variables = p.variables;
   evals = entries_of p.variables p.table;

@@ -4,7 +4,7 @@ use Rattle.std.specs.Option.{option_map}
 use Rattle.std.specs.declared.cmp.PartialEq.{Ghosts as PartialEqOf}
 use Rattle.sc_definitions.specs.declared.events.Event.{Event}
 use Rattle.sc_definitions.specs.Ring.{Ops}
-use Rattle.sc_definitions.specs.Tables.{evaluation, entries}
+use Rattle.sc_definitions.specs.Tables.{entries}
 use Rattle.sc_definitions.specs.Events.{Rules, words}
 use Rattle.sc_definitions.specs.Seeds.{quadratic_seed}
 use Rattle.sc_definitions.specs.Channels.{Channel, channel, Footing, footing}
@@ -12,7 +12,7 @@ use Rattle.sc_definitions.specs.Problem.{Problem, claim_of}
 use Rattle.sc_field.specs.declared.field.Field.{Ghosts as FieldOf}
 use Rattle.sc_field.specs.declared.algebra.Algebra.{Ghosts as AlgebraOf}
 use Rattle.sc_field.specs.declared.algebra.ExtensionField.{Ghosts as ExtensionOf}
-use Rattle.sc_table.specs.Strategy.{order_of}
+use Rattle.sc_table.specs.Strategy.{basis_of, order_of}
 use Rattle.sc_statements.specs.Constraints.{constraint_arity, constraint_challenge, constraint_power, constraint_statements}
 use Rattle.sc_transcript.specs.declared.data.SumcheckData.{SumcheckData}
 use Rattle.sc_transcript.specs.Data.{messages_in, witnesses_in}
@@ -68,7 +68,7 @@ module _ {F EF : Type 0} {f : FieldOf F} {p : PartialEqOf F} {x : ExtensionOf EF
   -- the problem that a job states; its table is that of the images in the extension
   abbrev pub problem_in : Job F EF f p x a e q → Problem
   problem_in job = record {
-    basis = evaluation;
+    basis = basis_of job.basis;
     order = order_of job.order;
     variables = constraint_arity job.constraint;
     table = λ b. a.embedding (entries f.number job.table.items b);

@@ -3,7 +3,8 @@ use Rattle.std.specs.Prelude.{◌≡◌, ℕ, true, List, []}
 use Rattle.sc_definitions.specs.declared.events.Event.{Event}
 use Rattle.sc_definitions.specs.Ring.{Ops}
 use Rattle.sc_definitions.specs.Problem.{Problem, claim_of}
-use Rattle.sc_definitions.specs.Strategies.{Held, messages_against, lets_through}
+use Rattle.sc_definitions.specs.TwoTables.{tables_in}
+use Rattle.sc_definitions.specs.Strategies.{Held, messages_against, accepts}
 use Rattle.sc_table.specs.declared.strategy.Strategy.{Strategy}
 use Rattle.sc_jobs.specs.Cases.{build, Asked, with_task}
 use Rattle.sc_verdicts.specs.Findings.{refuted}
@@ -17,8 +18,16 @@ BuildsAgree =
     (q : Asked) (one other : Strategy) (report report' : Reported) (h₁ h₂ : List Event) →
     IsAudited (with_task q (build one)) report h₁ → IsAudited (with_task q (build other)) report' h₂ → (report.figures ≡ report'.figures) × (h₁ ≡ h₂)
 
--- Where a strategy sends a proof's messages against their challenges, and the rounds are not refuted, these challenges let the batched claim through.
-abbrev pub PassingLetsThrough : Ops → Type 0
-PassingLetsThrough o =
+-- Where a strategy sends a proof's messages against their challenges, and the rounds are not refuted, it accepts these challenges from the batched
+-- claim on.
+abbrev pub PassingIsAccepted : Ops → Type 0
+PassingIsAccepted o =
     (p : Problem) (s : List Held) (messages : List (List ℕ)) (witnesses rs : List ℕ) → messages_against s [] rs ≡ messages →
-    ((figures_of o p messages witnesses rs).finding ≡ refuted → ⊥) → lets_through o p s (claim_of o p) rs ≡ true
+    ((figures_of o p messages witnesses rs).finding ≡ refuted → ⊥) → accepts o (tables_in o p) s (claim_of o p) rs ≡ true
+
+-- So a strategy that sends the rounds of a report against its challenges accepts these from the report's claim on, unless they are refuted.
+abbrev pub ReportsAreAccepted : Type 0
+ReportsAreAccepted =
+    (q : Asked) (report : Reported) (h : List Event) (s : List Held) → IsAudited q report h →
+    messages_against s [] report.figures.challenges ≡ report.figures.messages → (report.figures.finding ≡ refuted → ⊥) →
+    accepts q.ops (tables_in q.ops q.case.problem) s report.figures.claim report.figures.challenges ≡ true

@@ -2,6 +2,7 @@
 use Rattle.std.specs.Prelude.{ℕ, suc, ◌-◌, ◌^◌, ◌==◌, ◌||◌, List, [], ◌∷◌, length, min, nat_lt, if◌then◌else◌, Option, Some, None, Result, Ok, Err}
 use Rattle.sc_definitions.specs.declared.false_claim.FalseClaim.{FalseClaim as FalseStatement}
 use Rattle.sc_definitions.specs.Statements.{Kind, equality, successor, powers, products, Statement, first_false_claim}
+use Rattle.sc_definitions.specs.Tables.{Basis, evaluation, projective, Order, prefix, suffix}
 use Rattle.sc_definitions.specs.Problem.{Problem}
 use Rattle.sc_statements.specs.FalseClaims.{capped}
 use Rattle.sc_transcript.specs.Data.{witness_count}
@@ -10,8 +11,8 @@ use Rattle.sc_table.specs.declared.strategy.Strategy.TheVariants.{Plain, Represe
 use Rattle.sc_svo.specs.Grids.{most_rounds}
 use Rattle.sc_verdicts.specs.declared.error.AuditError.{AuditError}
 use Rattle.sc_verdicts.specs.declared.error.AuditError.TheVariants.{JobShape, StrategyUnfit, FalseClaim, MissingSumcheckData, RoundCountMismatch, PowWitnessCountMismatch}
-use Rattle.sc_verdicts.specs.declared.error.FitFault.TheVariants.{Variables, Select, Selector}
-use Rattle.sc_verdicts.specs.declared.error.ShapeFault.TheVariants.{TableLength, Difficulty, Arity}
+use Rattle.sc_verdicts.specs.declared.error.FitFault.TheVariants.{Projective, Variables, Select, Selector}
+use Rattle.sc_verdicts.specs.declared.error.ShapeFault.TheVariants.{TableLength, Difficulty, Arity, ProjectiveSuffix}
 use Rattle.sc_verdicts.specs.Arities.{arity_of}
 use Rattle.sc_jobs.specs.Cases.{Given, Task, build, check, Asked}
 
@@ -22,16 +23,24 @@ or_later None later = later
 
 -- ---- the shape
 
--- the difficulty is above the challenger's bound, or else the statements are on another number of variables than the table has
-abbrev pub shape_by : Option ℕ → ℕ → ℕ → ℕ → ℕ → Option AuditError
-shape_by None max_bits rows bits variables = Some (JobShape (TableLength rows))
-shape_by (Some n) max_bits rows bits variables =
+-- a basis that is not offered with the order
+abbrev pub offer_refusal : Basis → Order → Option AuditError
+offer_refusal evaluation order = None
+offer_refusal projective prefix = None
+offer_refusal projective suffix = Some (JobShape ProjectiveSuffix)
+
+-- the difficulty is above the challenger's bound, or else the statements are on another number of variables than the table has, or else the basis is not
+-- offered with the order
+abbrev pub shape_by : Option ℕ → ℕ → ℕ → ℕ → ℕ → Basis → Order → Option AuditError
+shape_by None max_bits rows bits variables basis order = Some (JobShape (TableLength rows))
+shape_by (Some n) max_bits rows bits variables basis order =
     if nat_lt max_bits bits then Some (JobShape (Difficulty bits max_bits))
-    else (if n == variables then None else Some (JobShape (Arity n variables)))
+    else (if n == variables then offer_refusal basis order else Some (JobShape (Arity n variables)))
 
 -- a table whose number of rows is no power of two up to that of the greatest number of variables, or else one of these
 abbrev pub shape_refusal : Asked → Option AuditError
-shape_refusal q = shape_by (arity_of q.case.rows) q.channel.rules.max_bits q.case.rows q.channel.bits q.case.problem.variables
+shape_refusal q =
+    shape_by (arity_of q.case.rows) q.channel.rules.max_bits q.case.rows q.channel.bits q.case.problem.variables q.case.problem.basis q.case.problem.order
 
 -- ---- the strategy
 
@@ -60,11 +69,16 @@ first_unfit i (s ∷ ss) = or_later (unfit i s.kind) (first_unfit (suc i) ss)
 abbrev pub small_refusal : ℕ → List Statement → ℕ → Option AuditError
 small_refusal n ss variables = or_later (variables_refusal (min n most_rounds) variables) (first_unfit 0 ss)
 
+-- coefficients, which the plain strategy alone takes
+abbrev pub basis_refusal : Basis → Option AuditError
+basis_refusal evaluation = None
+basis_refusal projective = Some (StrategyUnfit Projective)
+
 -- what a strategy does not take of a problem
 abbrev pub strategy_refusal : Problem → Strategy → Option AuditError
 strategy_refusal p Plain = None
-strategy_refusal p Represented = None
-strategy_refusal p (SmallValue variables) = small_refusal p.variables p.statements variables
+strategy_refusal p Represented = basis_refusal p.basis
+strategy_refusal p (SmallValue variables) = or_later (basis_refusal p.basis) (small_refusal p.variables p.statements variables)
 
 -- ---- what is done
 

@@ -11,6 +11,7 @@ use Rattle.sc_statements.specs.Constraints.{constraint_arity, constraint_challen
 use Rattle.sc_claims.specs.Claimed.{all_stated_truly}
 use Rattle.sc_verdicts.specs.declared.error.AuditError.{AuditError}
 use Rattle.sc_verdicts.specs.declared.error.AuditError.TheVariants.{NoMemory}
+use Rattle.sc_table.specs.Strategy.{basis_of, order_of}
 use Rattle.sc_jobs.specs.declared.job.Job.{Job}
 use Rattle.sc_jobs.specs.Cases.{Asked, problem_in}
 use Rattle.sc_verdicts.specs.Arities.{arity_of}
@@ -41,6 +42,7 @@ kinds_of ss = map (λ (s : Statement). s.kind) ss
 -- All of a job stays but the values that its statements claim.
 pub record IsRestated {F EF : Type 0} {f : FieldOf F} {p : PartialEqOf F} {x : ExtensionOf EF F} {a : AlgebraOf EF F} {e : FieldOf EF} {q : PartialEqOf EF} (old now : Job F EF f p x a e q) : Type 0 where
   pub table : now.table ≡ old.table
+  pub basis : now.basis ≡ old.basis
   pub order : now.order ≡ old.order
   pub difficulty : now.pow_bits ≡ old.pow_bits
   pub mode : now.mode ≡ old.mode
@@ -58,3 +60,4 @@ module _ {F EF : Type 0} {f : FieldOf F} {p : PartialEqOf F} {x : ExtensionOf EF
   -- the refusal of a job's shape at this greatest difficulty, if there is one
   abbrev pub shape_of : Job F EF f p x a e q → ℕ → Option AuditError
   shape_of job max_bits = shape_by (arity_of (vec_len job.table)) max_bits (vec_len job.table) job.pow_bits (constraint_arity job.constraint)
+      (basis_of job.basis) (order_of job.order)

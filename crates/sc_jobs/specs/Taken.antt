@@ -1,7 +1,7 @@
 -- Statements as the claims of a batch, and the test of what they claim.
 use Rattle.std.specs.Prelude.{◌≡◌, ℕ, ◌+◌, ◌^◌, ◌<◌, ◌≤◌, List, [], ◌++◌, All, length, map, Some, None, Result, Ok, Err}
 use Rattle.sc_definitions.specs.Ring.{Ops, power}
-use Rattle.sc_definitions.specs.Tables.{prefix}
+use Rattle.sc_definitions.specs.Tables.{evaluation, prefix}
 use Rattle.sc_definitions.specs.Statements.{Kind, equality, successor, Statement, claims, claimed_values}
 use Rattle.sc_definitions.specs.Combined.{Scaled, combined_weight, scaled_from}
 use Rattle.sc_definitions.specs.Problem.{Problem, weights_of}
@@ -56,8 +56,10 @@ AppendsBy o challenge first ss old now = (p : ℕ) → first ≡ power o challen
 abbrev pub IsNextFactor : Ops → ℕ → ℕ → List Statement → ℕ → Type 0
 IsNextFactor o challenge first ss next = (p : ℕ) → first ≡ power o challenge p → next ≡ power o challenge (p + length ss)
 
--- A batch is on a problem's table, of no more rounds than it has variables, and its claims' weights are the batched ones at each of its rows.
+-- A batch is on a problem's table, which is of values, of no more rounds than it has variables, and its claims' weights are the batched ones at each of
+-- its rows.
 pub record IsBatchOf (o : Ops) (p : Problem) (b : GridBatch) : Type 0 where
+  pub basis : p.basis ≡ evaluation
   pub order : b.order ≡ p.order
   pub variables : b.variables ≡ p.variables
   pub weights : (row : ℕ) → row < 2 ^ p.variables → combined_weight o b.claims row ≡ weights_of o p row

@@ -1,20 +1,22 @@
 //! Which strategies fit the statements of a job.
 ghost use Rattle.std.specs.Prelude.{◌≡◌};
+ghost use Rattle.sc_table.specs.Strategy.{basis_of};
 ghost use Rattle.sc_statements.specs.Constraints.{constraint_arity, constraint_statements};
 ghost use Rattle.sc_statements.specs.Groups.{group_statements};
 ghost use Rattle.sc_claims.specs.NextStatements.{next_statements};
 ghost use Rattle.sc_jobs.specs.Fitting.{stated_in};
-ghost use Rattle.sc_jobs.specs.Refusals.{first_unfit, small_refusal, strategy_refusal, refusal_in};
+ghost use Rattle.sc_jobs.specs.Refusals.{first_unfit, basis_refusal, small_refusal, strategy_refusal, refusal_in};
 
 use crate::shape::FittingJob;
 use sc_field::{ExtensionField, Field};
 use sc_statements::{Constraint, NextStatement, Statements};
 use sc_svo::MOST_ROUNDS;
-use sc_table::Strategy;
+use sc_table::{Basis, Strategy};
 use sc_verdicts::{AuditError, FitFault};
 
-/// Refuses a strategy that does not fit the statements of a job: small-value rounds for no variable,
-/// for more than the job has or than the greatest number, or of a statement that they do not take.
+/// Refuses a strategy that does not fit a job: another one than the plain one of coefficients; or
+/// small-value rounds for no variable, for more than the job has or than the greatest number, or of
+/// a statement that they do not take.
 pub fn check_strategy<F: Field, EF: ExtensionField<F>>(
     fitting: &FittingJob<'_, F, EF>,
     strategy: Strategy,
@@ -22,10 +24,22 @@ pub fn check_strategy<F: Field, EF: ExtensionField<F>>(
     ensures { strategy_refusal (stated_in fitting.now) strategy ≡ refusal_in result }
 {
     match strategy {
-        Strategy::Plain | Strategy::Represented => Ok(()),
-        Strategy::SmallValue { variables } => {
-            check_small_values(&fitting.job.constraint, variables)
-        }
+        Strategy::Plain => Ok(()),
+        Strategy::Represented => check_values(fitting.job.basis),
+        Strategy::SmallValue { variables } => match check_values(fitting.job.basis) {
+            Ok(()) => check_small_values(&fitting.job.constraint, variables),
+            Err(error) => Err(error),
+        },
+    }
+}
+
+// Refuses coefficients.
+fn check_values(basis: Basis) -> Result<(), AuditError>
+    ensures { basis_refusal (basis_of basis) ≡ refusal_in result }
+{
+    match basis {
+        Basis::Evaluation => Ok(()),
+        Basis::Projective => Err(AuditError::StrategyUnfit(FitFault::Projective)),
     }
 }
 

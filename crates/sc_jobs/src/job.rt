@@ -3,7 +3,7 @@ ghost use Rattle.sc_jobs.specs.Over.{IsOver};
 
 use sc_field::{ExtensionField, Field};
 use sc_statements::Constraint;
-use sc_table::{Strategy, VariableOrder};
+use sc_table::{Basis, Strategy, VariableOrder};
 use sc_transcript::SumcheckData;
 
 /// What is done with a table and its statements.
@@ -25,6 +25,9 @@ pub struct Job<F: Field, EF: ExtensionField<F>> {
     pub constraint: Constraint<F, EF>,
     /// Which variable a round binds.
     pub order: VariableOrder,
+    /// What the entries of the table and of the statements' weights are: values at the rows, or
+    /// coefficients of the monomials that the rows name.
+    pub basis: Basis,
     /// The difficulty of each round's test in bits, or 0 for no test.
     pub pow_bits: usize,
     /// What is done.

@@ -2,8 +2,9 @@
 use sc_memory::NoMemory;
 use thiserror::Error;
 
-/// Why there is no report. The refusals are tested in this order, but that [`AuditError::NoMemory`] may come before any other.
-/// Rounds and statements are counted from 0; a statement's number stands still at 2^64 - 1.
+/// Why there is no report. The refusals are tested in this order, but that [`AuditError::NoMemory`]
+/// may come before any other. Rounds and statements are counted from 0; a statement's number stands
+/// still at 2^64 - 1.
 #[derive(Clone, Copy, Debug, PartialEq, Eq, Error)]
 pub enum AuditError {
     /// Table, difficulty and statements do not fit together.
@@ -12,7 +13,8 @@ pub enum AuditError {
     /// The strategy cannot build rounds of this job.
     #[error("the strategy does not fit the job: {0}")]
     StrategyUnfit(FitFault),
-    /// The rounds are to be built, and this is the first statement that is false of the table. Both values are numbers of elements.
+    /// The rounds are to be built, and this is the first statement that is false of the table. Both
+    /// values are numbers of elements.
     #[error("statement {statement} claims the value {claimed}, but the true one is {actual}")]
     FalseClaim {
         statement: usize,
@@ -30,7 +32,8 @@ pub enum AuditError {
         expected: usize,
         actual: usize,
     },
-    /// The proof has not one witness a round at a positive difficulty, or it has one at difficulty 0.
+    /// The proof has not one witness a round at a positive difficulty, or it has one at difficulty
+    /// 0.
     #[error("expected {expected} witnesses, but the proof has {actual}")]
     PowWitnessCountMismatch {
         expected: usize,
@@ -64,12 +67,19 @@ pub enum ShapeFault {
     /// The statements are on tables of another number of variables than the table has.
     #[error("the table has {expected} variables, but the statements are on {actual}")]
     Arity { expected: usize, actual: usize },
+    /// The table has coefficients, and rounds are to bind the last variable.
+    #[error("rounds on coefficients bind the first variable")]
+    ProjectiveSuffix,
 }
 
-/// Why a small-value strategy does not fit a job. They are tested in this order, but of a select and a selector the first statement is told.
+/// Why a strategy does not fit a job. They are tested in this order, but of a select and a selector
+/// the first statement is told.
 #[derive(Clone, Copy, Debug, PartialEq, Eq, Error)]
 pub enum FitFault {
-    /// It is asked for no variable, or for more than the table has or than 12.
+    /// The table has coefficients, which the plain strategy alone takes.
+    #[error("coefficients are built on by the plain strategy alone")]
+    Projective,
+    /// Small-value rounds are asked for no variable, or for more than the table has or than 12.
     #[error("{variables} variables are outside 1 to {bound}")]
     Variables { variables: usize, bound: usize },
     /// This statement is a select.

@@ -1,5 +1,7 @@
-use Rattle.std.proofs.Common.{◌≡◌, None, sym, ◌∙◌, ap}
+use Rattle.std.proofs.Common.{◌≡◌, None, sym, ◌∙◌, ap, subst}
 use Rattle.std.specs.Option.{option_map}
+use Rattle.sc_definitions.specs.Tables.{IsOffered}
+use Rattle.sc_table.specs.Strategy.{basis_of, order_of}
 use Rattle.sc_jobs.specs.Cases.{build, check, given_in, task_in, asked_of, asked_to}
 use Rattle.sc_jobs.specs.Fitting.{job_in}
 use Rattle.sc_jobs.specs.Refusals.{task_refusal}
@@ -22,7 +24,8 @@ returns-in-Some-clause-answer g c =
     let given = given-way job _ way c.in-Some.is c.requires in
     let same : asked_to (job_in c.in_ok-fitting.fitting) (build (strategy_by way)) R H ≡ q =
     ap (λ j. asked_to j (build (strategy_by way)) R H) c.in_ok-fitting.ensures.same ∙ ap (λ m. asked_to job (task_in B N m) R H) (sym given.mode) in
-    let shape = shape_as _ _ None job.table.ok.0 c.max_bits.ensures c.in_ok-fitting.ensures.shape in
+    let offered : IsOffered (basis_of job.basis) (order_of job.order) = subst (λ j. IsOffered (basis_of j.basis) (order_of j.order)) c.in_ok-fitting.ensures.same c.in_ok-fitting.fitting.offered in
+    let shape = shape_as _ _ _ _ None job.table.ok.0 c.max_bits.ensures c.in_ok-fitting.ensures.shape in
     let none = way-unrefused job way R H given shape in
     let answers = answers_as B N _ _ _ _ c.play.result _ (sym none) same c.play.ensures.answers in
     let task : task_in B N job.mode ≡ build (strategy_by way) = ap (task_in B N) given.mode in
@@ -30,7 +33,7 @@ returns-in-Some-clause-answer g c =
     record {
       answers = answers;
       holds = held-as B N c.play.result task held;
-      certified = certified_answer q g.met.EF.Field.is_field tt (claimed-low _ N _ g.met.EF.Field.number_below job.constraint.statements.items) B N _ c.play.result _ (build (strategy_by way))
+      certified = certified_answer q g.met.EF.Field.is_field offered (claimed-low _ N _ g.met.EF.Field.number_below job.constraint.statements.items) B N _ c.play.result _ (build (strategy_by way))
           task answers held tt;
       refused = unrefused _ c.play.result none;
       answered = λ valid. valid_answered B N q c.play.result _ answers valid;
@@ -47,7 +50,8 @@ returns-in-None-clause-answer g c =
     let task = build c.in-Build.strategy in
     let same : asked_to (job_in c.in_ok-fitting.fitting) task R H ≡ q =
     ap (λ j. asked_to j task R H) c.in_ok-fitting.ensures.same ∙ ap (λ m. asked_to job (task_in B N m) R H) (sym c.in-Build.is) in
-    let shape = shape_as _ _ None job.table.ok.0 c.max_bits.ensures c.in_ok-fitting.ensures.shape in
+    let offered : IsOffered (basis_of job.basis) (order_of job.order) = subst (λ j. IsOffered (basis_of j.basis) (order_of j.order)) c.in_ok-fitting.ensures.same c.in_ok-fitting.fitting.offered in
+    let shape = shape_as _ _ _ _ None job.table.ok.0 c.max_bits.ensures c.in_ok-fitting.ensures.shape in
     let first = ap task_refusal same ∙ no_earlier q shape in
     let answers = answers_as B N _ _ _ _ c.build.result _ first same c.build.ensures.task.answers in
     let is : task_in B N job.mode ≡ task = ap (task_in B N) c.in-Build.is in
@@ -55,7 +59,7 @@ returns-in-None-clause-answer g c =
     record {
       answers = answers;
       holds = held-as B N c.build.result is held;
-      certified = certified_answer q g.met.EF.Field.is_field tt (claimed-low _ N _ g.met.EF.Field.number_below job.constraint.statements.items) B N _ c.build.result _ task
+      certified = certified_answer q g.met.EF.Field.is_field offered (claimed-low _ N _ g.met.EF.Field.number_below job.constraint.statements.items) B N _ c.build.result _ task
           is answers held tt;
       refused = refused_by_name _ _ c.build.result first c.build.ensures.task.refused;
       answered = λ valid. valid_answered B N q c.build.result _ answers valid;
@@ -73,7 +77,8 @@ returns-in-Check-clause-answer g c =
     let task = check proof in
     let same : asked_to (job_in c.in_ok-fitting.fitting) task R H ≡ q =
     ap (λ j. asked_to j task R H) c.in_ok-fitting.ensures.same ∙ ap (λ m. asked_to job (task_in B N m) R H) (sym c.in-Check.is) in
-    let shape = shape_as _ _ None job.table.ok.0 c.max_bits.ensures c.in_ok-fitting.ensures.shape in
+    let offered : IsOffered (basis_of job.basis) (order_of job.order) = subst (λ j. IsOffered (basis_of j.basis) (order_of j.order)) c.in_ok-fitting.ensures.same c.in_ok-fitting.fitting.offered in
+    let shape = shape_as _ _ _ _ None job.table.ok.0 c.max_bits.ensures c.in_ok-fitting.ensures.shape in
     let first = ap task_refusal same ∙ no_earlier q shape in
     let answers = answers_as B N _ _ _ _ c.check.result _ first same c.check.ensures.task.answers in
     let is : task_in B N job.mode ≡ task = ap (task_in B N) c.in-Check.is in
@@ -81,7 +86,7 @@ returns-in-Check-clause-answer g c =
     record {
       answers = answers;
       holds = held-as B N c.check.result is held;
-      certified = certified_answer q g.met.EF.Field.is_field tt (claimed-low _ N _ g.met.EF.Field.number_below job.constraint.statements.items) B N _ c.check.result _ task
+      certified = certified_answer q g.met.EF.Field.is_field offered (claimed-low _ N _ g.met.EF.Field.number_below job.constraint.statements.items) B N _ c.check.result _ task
           is answers held (proof_pairs B N c.in-Check.proof);
       refused = refused_by_name _ _ c.check.result first c.check.ensures.task.refused;
       answered = λ valid. valid_answered B N q c.check.result _ answers valid;

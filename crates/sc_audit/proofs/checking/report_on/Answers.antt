@@ -1,10 +1,10 @@
 use Rattle.std.proofs.Common.{◌≡◌, ◌==◌, map, refl, ◌∙◌, ap}
 use Rattle.sc_definitions.specs.Channels.{Wire}
-use Rattle.sc_definitions.specs.Tables.{entries, value}
+use Rattle.sc_definitions.specs.Tables.{entries, value_in}
 use Rattle.sc_definitions.specs.Statements.{batched_weight}
 use Rattle.sc_definitions.specs.Problem.{eval_of, weight_value_of}
 use Rattle.sc_definitions.specs.Lucky.{luck_of}
-use Rattle.sc_table.specs.Strategy.{order_of}
+use Rattle.sc_table.specs.Strategy.{basis_of, order_of}
 use Rattle.sc_transcript.specs.Data.{messages_in, witnesses_in}
 use Rattle.sc_svo.specs.Grids.{grid_shown}
 use Rattle.sc_jobs.specs.Cases.{problem_in}
@@ -21,10 +21,10 @@ returns g c =
     let rs = map N c.args.challenges in
     let ms = messages_in N c.args.proof.now in
     let eval : N c.eval_slice-eval.result ≡ eval_of o p rs =
-    eval-at_slice o (order_of job.order) _ p.table _ _ _ g.EF.Algebra.embedding g.F.Field.number c.deref.result.now _ rs _ g.met.EF.Algebra.embeds.zero_kept
+    eval-at_slice o (basis_of job.basis) (order_of job.order) _ p.table _ _ _ g.EF.Algebra.embedding g.F.Field.number c.deref.result.now _ rs _ g.met.EF.Algebra.embeds.zero_kept
     (λ b. ap (λ l. g.EF.Algebra.embedding (entries g.F.Field.number l b)) c.deref.ensures.value) (ap (map N) c.as_slice.ensures ∙ c.in_ok-point.ensures) c.eval_slice-eval.ensures in
     let weight : N c.eval_at-weight.result ≡ weight_value_of o p rs =
-    weight-at o (order_of job.order) _ p.table _ _ _ rs _ (c.eval_at-weight.ensures ∙ ap (value o (batched_weight o _ _ _)) c.in_ok-point.ensures) in
+    weight-at o (basis_of job.basis) (order_of job.order) _ p.table _ _ _ rs _ (c.eval_at-weight.ensures ∙ ap (value_in p.basis o (batched_weight o _ _ _)) c.in_ok-point.ensures) in
     let matched : (c.index.result == c.index-2.result) ≡ is_matched o p ms rs =
     matched-by o p _ (N c.args.residual) (N c.eval_slice-eval.result) (N c.eval_at-weight.result) ms rs c.requires.residual eval weight (cc (c.index.ensures, c.index-2.ensures, c.mul.ensures)) in
     record {

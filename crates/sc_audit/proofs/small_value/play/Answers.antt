@@ -33,7 +33,7 @@ returns-in_err-evals-clause-played g c =
     let rs = map N c.play_small.new.challenges.items in
     let count : length rs ≡ length (batch_in c.args.batch.now).grids = length-map c.play_small.new.challenges.items N ∙ small.counts.count in
     plays_stopped _ _ c.from_residual-in_err-evals.result c.from_residual-in_err-evals.ensures.1
-    (drawn_wants (setting_for g.EF.ExtensionField.extension o p c.args.transcript.now) g.met.EF.Field.is_field.ring tt (begun_for N o p c.args.transcript.now c.args.sumcheck_data.now) rs d
+    (drawn_wants (setting_for g.EF.ExtensionField.extension o p c.args.transcript.now) g.met.EF.Field.is_field.ring c.args.fitting.now.offered (begun_for N o p c.args.transcript.now c.args.sumcheck_data.now) rs d
     (N c.play_small.new.sum) (wire_in g.F.Field.number N c.play_small.new.sumcheck_data) (small.drawn p c.requires.batch c.requires.claim)
     (omega (arith, count, c.requires.batch.within)) (small.counts.played ∙ sym count)
     (omega (arith, small.counts.played, c.requires.batch.within, c.requires.rounds, ap (λ (s : BatchShape). s.num_rounds) small.continues.shape)))
@@ -76,7 +76,7 @@ returns-in_err-play_rest-clause-played g c =
     made.variables made.evals made.weights (channel_of g.EF.ExtensionField.extension (driver_in c.args.transcript.now)) t.history (driver_in c.play_small.new.transcript).history t.wire
     (wire_in g.F.Field.number N c.play_small.new.sumcheck_data) (small.drawn p c.requires.batch c.requires.claim)
     (channel_of g.EF.ExtensionField.extension (driver_in c.play_small.new.transcript))
-    (same_channel g.F.Field.ops.size small.continues.rules (ap (λ (k : BatchShape). k.pow_bits) small.continues.shape)) made.order
+    (same_channel g.F.Field.ops.size small.continues.rules (ap (λ (k : BatchShape). k.pow_bits) small.continues.shape)) (made.basis ∙ sym c.requires.batch.basis) made.order
     (driver_in c.play_small.new.transcript) (driver_in c.play_rest.new.transcript) (small.counts.played ∙ sym count)
     (standing_over N (shown_of N c.play_rest.new.left c.play_rest.new.sum) c.play_rest.new.transcript c.play_rest.new.sumcheck_data) rest.left _ refl rest.rounds)
 
@@ -99,6 +99,6 @@ returns-clause-played g c =
     made.variables made.evals made.weights (channel_of g.EF.ExtensionField.extension (driver_in c.args.transcript.now)) t.history (driver_in c.play_small.new.transcript).history t.wire
     (wire_in g.F.Field.number N c.play_small.new.sumcheck_data) (small.drawn p c.requires.batch c.requires.claim)
     (channel_of g.EF.ExtensionField.extension (driver_in c.play_small.new.transcript))
-    (same_channel g.F.Field.ops.size small.continues.rules (ap (λ (k : BatchShape). k.pow_bits) small.continues.shape)) made.order
+    (same_channel g.F.Field.ops.size small.continues.rules (ap (λ (k : BatchShape). k.pow_bits) small.continues.shape)) (made.basis ∙ sym c.requires.batch.basis) made.order
     (driver_in c.play_small.new.transcript) (driver_in c.play_rest.new.transcript) (small.counts.played ∙ sym count)
     (standing_over N (shown_of N c.play_rest.new.left c.play_rest.new.sum) c.play_rest.new.transcript c.play_rest.new.sumcheck_data) rest.left _ rest.rounds

@@ -2,7 +2,6 @@ use Rattle.std.proofs.Common.{◌≡◌, ◌+◌, ◌≤◌, map, vec_len, ap, s
 use Rattle.std.proofs.lemmas.List.{map-append}
 use Rattle.sc_transcript.proofs.ReplayedLaws.{same_channel}
 use Rattle.sc_transcript.specs.declared.rounds.BatchShape.{BatchShape}
-use Rattle.sc_transcript.specs.declared.transcript.SumcheckShape.{SumcheckShape}
 use Rattle.sc_rounds.specs.declared.product_polynomial.ProductPolynomial.{ProductPolynomial}
 use Rattle.sc_rounds.specs.Products.{variables_in}
 use Rattle.sc_transcript.proofs.BatchLaws.{fits, less_by_one, some_left, less_at, room_at, all_played, sum_at, same_setting, one_round_more, stops, begun_within}
@@ -15,6 +14,7 @@ loop-round-init g c =
       continues = record { lender = refl; rules = refl; shape = refl; kind = refl };
       played = sym (c.len-round.ensures ∙ count);
       left = ap (λ k. variables_in c.args.left.now + k) (c.len-round.ensures ∙ count);
+      basis = refl;
       order = refl;
       sum = c.requires.sum;
       len = sym c.len-round.ensures;
@@ -36,12 +36,13 @@ loop-round-preserved g c =
       };
       played = round.counts ∙ ap (λ n. n + 1) inv.played;
       left = less_by_one _ _ _ _ round.round.0.fewer inv.left;
+      basis = round.basis ∙ inv.basis;
       order = round.order ∙ inv.order;
       sum = round.sum;
       len = c.push_reserved.ensures.len ∙ ap (λ n. n + 1) inv.len;
       room = fits _ _ _ _ (ap (λ (s : BatchShape). s.num_rounds) round.continues.shape) c.push_reserved.ensures.capacity inv.room;
-      batch = λ start before. one_round_more g.met.EF.Field.is_field.ring tt
-          (same_setting (same_channel g.F.Field.ops.size inv.continues.rules (ap (λ (s : BatchShape). s.pow_bits) inv.continues.shape)) inv.order)
+      batch = λ start before. one_round_more g.met.EF.Field.is_field.ring c.args.left.now.offered
+          (same_setting (same_channel g.F.Field.ops.size inv.continues.rules (ap (λ (s : BatchShape). s.pow_bits) inv.continues.shape)) inv.basis inv.order)
           drawn (inv.batch start before) round.round.0;
     }
 
@@ -98,7 +99,7 @@ returns-in-Err g c =
       rounds = λ start before. (
         less_at _ _ _ _ (round.counts ∙ inv.played) c.loop-round-test.true (ap (λ (s : BatchShape). s.num_rounds) c.shape-round-end.ensures.numbers ∙ ap (λ (s : BatchShape). s.num_rounds) (sym inv.continues.shape ∙ sym round.continues.shape)),
         stops _ c.in-Err.error
-            (same_setting (same_channel g.F.Field.ops.size inv.continues.rules (ap (λ (s : BatchShape). s.pow_bits) inv.continues.shape)) inv.order)
+            (same_setting (same_channel g.F.Field.ops.size inv.continues.rules (ap (λ (s : BatchShape). s.pow_bits) inv.continues.shape)) inv.basis inv.order)
             (sym round.counts) (inv.batch start before) round.round,
       );
     }

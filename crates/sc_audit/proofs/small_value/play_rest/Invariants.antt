@@ -2,7 +2,7 @@ use Rattle.std.proofs.Common.{◌≡◌, ◌+◌, ◌≤◌, map, vec_len, vec_c
 use Rattle.sc_definitions.specs.Standings.{Standing, IsPlayed}
 use Rattle.sc_transcript.specs.Drivers.{Continues}
 use Rattle.sc_transcript.specs.Transcripts.{driver_in}
-use Rattle.sc_rounds.specs.Products.{variables_in, order_in, sum_in}
+use Rattle.sc_rounds.specs.Products.{variables_in, basis_in, order_in, sum_in}
 use Rattle.sc_rounds.specs.Provers.{shown_of}
 use Rattle.sc_rounds.specs.HeldProducts.{setting_over, standing_over}
 use Rattle.sc_audit.proofs.small_value.play_rest.Given as goal
@@ -16,6 +16,7 @@ invariant-loop-round g l =
       continues : Continues (driver_in l.fn.transcript) (driver_in l.transcript);
       played : l.transcript.rounds.played ≡ l._round;
       left : variables_in l.left + l._round ≡ variables_in l.fn.left + l.fn.transcript.rounds.played;
+      basis : basis_in l.left ≡ basis_in l.fn.left;
       order : order_in l.left ≡ order_in l.fn.left;
       sum : N l.sum ≡ sum_in g.EF.Field.ops N l.left;
       len : vec_len l.challenges ≡ l._round;

@@ -1,6 +1,7 @@
 use Rattle.std.proofs.Common.{◌≡◌, ◌+◌, ◌<◌, [], ◌∷◌, length, map, refl, ap, sym, ◌∙◌, arith}
 use Rattle.std.proofs.lemmas.List.{length-map, map-append}
 use Rattle.sc_definitions.specs.Channels.{footing}
+use Rattle.sc_definitions.specs.Rounds.{next_claim}
 use Rattle.sc_definitions.proofs.StandingLaws.{length-entries_of}
 use Rattle.sc_transcript.specs.Data.{wire_in}
 use Rattle.sc_transcript.specs.Drivers.{channel_of}
@@ -12,7 +13,7 @@ use Rattle.sc_transcript.proofs.BatchLaws.{fits}
 use Rattle.sc_svo.specs.Batches.{batch_in, honest_of}
 use Rattle.sc_svo.specs.Grids.{grid_shown, grids_shown}
 use Rattle.sc_audit.specs.SmallRounds.{setting_for, begun_for}
-use Rattle.sc_audit.proofs.DrawnLaws.{no_items, read_message, drawn_begun, drawn_more, drawn_refused, drawn_wants, leaves_stopped}
+use Rattle.sc_audit.proofs.DrawnLaws.{values_offered, no_items, read_message, drawn_begun, drawn_more, drawn_refused, drawn_wants, leaves_stopped}
 use Rattle.sc_audit.proofs.small_value.play_small.Goals as goal
 
 pub loop-round-init : goal.loop-round-init
@@ -24,7 +25,7 @@ loop-round-init g c =
       played = c.requires.fresh.played;
       len = c.args.challenges.now.ok.0 ∙ c.requires.fresh.count;
       room = c.requires.fresh.fits;
-      drawn = λ p of is. drawn_begun (setting_for g.EF.ExtensionField.extension o p c.args.transcript.now) g.met.EF.Field.is_field.ring tt (begun_for N o p c.args.transcript.now c.args.sumcheck_data.now)
+      drawn = λ p of is. drawn_begun (setting_for g.EF.ExtensionField.extension o p c.args.transcript.now) g.met.EF.Field.is_field.ring (values_offered o p (batch_in c.args.batch.now) of) (begun_for N o p c.args.transcript.now c.args.sumcheck_data.now)
           (record { evals = length-entries_of p.variables _; weights = length-entries_of p.variables _ }) _ _ is (no_items N c.args.challenges.now.items c.requires.fresh.count);
     }
 
@@ -42,7 +43,7 @@ returns-in_err-message-clause-drawn g c = λ p of is.
     let low : length rs < length (grids_shown N c.args.batch.now.grids) =
     omega (arith, count, c.loop-round-test.true, c.len-round-end.ensures, length-map c.grids.result.now.rounds (grid_shown N), ap length c.grids.ensures) in
     leaves_stopped s t rs (N c.loop-round.sum) d (wire_in g.F.Field.number N c.loop-round.sumcheck_data) c.from_residual.result NoMemory c.from_residual.ensures.1
-    (drawn_wants s g.met.EF.Field.is_field.ring tt t rs d (N c.loop-round.sum) _ (inv.drawn p of is) (omega (arith, low, of.within)) (inv.played ∙ sym count)
+    (drawn_wants s g.met.EF.Field.is_field.ring (values_offered o p (batch_in c.args.batch.now) of) t rs d (N c.loop-round.sum) _ (inv.drawn p of is) (omega (arith, low, of.within)) (inv.played ∙ sym count)
     (omega (arith, inv.played, count, low, c.requires.within, ap (λ (k : BatchShape). k.num_rounds) inv.continues.shape)))
 
 -- a round is refused
@@ -68,7 +69,7 @@ returns-in_err-r-clause-drawn g c = λ p of is.
     let refused = c.in_err-r.ensures.refused in
     let size = ap (λ (k : BatchShape). k.num_rounds) (refused.continues.shape ∙ inv.continues.shape) in
     leaves_stopped s t rs (N c.loop-round.sum) d' (wire_in g.F.Field.number N c.observe_and_sample.new.self) c.from_residual-in_err-r.result _ c.from_residual-in_err-r.ensures.1
-    (drawn_refused s ring tt t rs (footing d.history (N c.loop-round.sum)) on played (omega (arith, low, of.within)) values message (channel_of g.EF.ExtensionField.extension d)
+    (drawn_refused s ring (values_offered o p (batch_in c.args.batch.now) of) t rs (footing d.history (N c.loop-round.sum)) on played (omega (arith, low, of.within)) values message (channel_of g.EF.ExtensionField.extension d)
     (same_channel g.F.Field.ops.size inv.continues.rules (ap (λ (k : BatchShape). k.pow_bits) inv.continues.shape)) d' _ d.played _ refused.why c.in_err-r.ensures.kept
     (inv.played ∙ sym count) refused.played (omega (arith, refused.played, inv.played, count, low, c.requires.within, size)))
 
@@ -103,7 +104,8 @@ loop-round-preserved g c =
           let played = inv.drawn p of is in
           let message = read_message o ring p (batch_in c.args.batch.now) of s.channel t.history t.wire rs (footing d.history (N c.loop-round.sum)) on values low played
           (c.in_ok-message.ensures.honest p.table of.grids ∙ ap (λ xs. honest_of o (batch_in c.args.batch.now) p.table (map N xs)) c.as_slice.ensures.value) in
-          drawn_more s ring tt t rs (footing d.history (N c.loop-round.sum)) on played (omega (arith, low, of.within)) values message (channel_of g.EF.ExtensionField.extension d)
+          drawn_more s ring (values_offered o p (batch_in c.args.batch.now) of) t rs (footing d.history (N c.loop-round.sum)) on played (omega (arith, low, of.within)) values message (channel_of g.EF.ExtensionField.extension d)
           (same_channel g.F.Field.ops.size inv.continues.rules (ap (λ (k : BatchShape). k.pow_bits) inv.continues.shape)) round.puts.witness (N c.in_ok-r.r) _ _ _ _
-          (ap (map N) c.push_reserved.ensures.items ∙ map-append N _ _) round.puts.plays.sent round.puts.wire c.reduce_claim.ensures.claim;
+          (ap (map N) c.push_reserved.ensures.items ∙ map-append N _ _) round.puts.plays.sent round.puts.wire
+          (c.reduce_claim.ensures.claim ∙ ap (λ k. next_claim k o (N c.loop-round.sum) values (N c.in_ok-r.r)) (sym of.basis));
     }

@@ -31,8 +31,8 @@ returns g c =
     let q = asked_to job (build (SmallValue (length (batch_in c.args.batch).grids))) (g.C.Challenger.party c.args.challenger.now).rules (g.C.Challenger.party c.args.challenger.now).history in
     let ring = g.met.EF.Field.is_field.ring in
     let degree = sym g.met.EF.ExtensionField.degree_is in
-    let setting = same_setting q ring refl c.in_ok-copied.ensures.rules c.in_ok-copied.ensures.history refl c.new-rounds.ensures degree refl in
-    let start = same_start q ring refl c.in_ok-copied.ensures.rules c.in_ok-copied.ensures.history refl c.new-rounds.ensures degree refl in
+    let setting = same_setting q ring c.args.fitting.now.offered c.in_ok-copied.ensures.rules c.in_ok-copied.ensures.history refl c.new-rounds.ensures degree refl in
+    let start = same_start q ring c.args.fitting.now.offered c.in_ok-copied.ensures.rules c.in_ok-copied.ensures.history refl c.new-rounds.ensures degree refl in
     let left = c.in-Ok.played.0 in
     let after = standing_in N left c.play_all.new.sum (g.C.Challenger.party c.play_all.new.challenger).history (wire_in g.F.Field.number N c.play_all.new.sumcheck_data) in
     let whole = c.in-Ok.ensures in
@@ -48,7 +48,7 @@ returns g c =
     ∙ entry-read N c.as_slice.result.now 0 c.index-as_slice-0.result (omega (arith, weights_one)) c.index-as_slice-0.is) in
     let claim : N c.combine_evals.new.eval ≡ claim_of o p =
     claim-batched o _ _ (claim-alone o ring _ _ _ (ap N c.ZERO-claim.ensures ∙ g.met.EF.Field.zero_is) c.combine_evals.ensures) in
-    built_case q ring refl _ setting start refl after whole claim evals weights (g.met.EF.Field.number_below _) (g.met.EF.Field.number_below _)
+    built_case q ring c.args.fitting.now.offered _ setting start refl after whole claim evals weights (g.met.EF.Field.number_below _) (g.met.EF.Field.number_below _)
     (c.into_grids.ensures ∙ batch_grids o p (batch_in c.args.batch) c.requires.batch _ refl)
 
 -- they were refused
@@ -61,9 +61,9 @@ returns-in-Err g c =
     let q = asked_to job (build (SmallValue (length (batch_in c.args.batch).grids))) (g.C.Challenger.party c.args.challenger.now).rules (g.C.Challenger.party c.args.challenger.now).history in
     let ring = g.met.EF.Field.is_field.ring in
     let degree = sym g.met.EF.ExtensionField.degree_is in
-    let setting = same_setting q ring refl c.in_ok-copied.ensures.rules c.in_ok-copied.ensures.history refl c.new-rounds.ensures degree refl in
-    let start = same_start q ring refl c.in_ok-copied.ensures.rules c.in_ok-copied.ensures.history refl c.new-rounds.ensures degree refl in
+    let setting = same_setting q ring c.args.fitting.now.offered c.in_ok-copied.ensures.rules c.in_ok-copied.ensures.history refl c.new-rounds.ensures degree refl in
+    let start = same_start q ring c.args.fitting.now.offered c.in_ok-copied.ensures.rules c.in_ok-copied.ensures.history refl c.new-rounds.ensures degree refl in
     let stopped = c.in-Err.ensures in
-    build_refused q ring refl _ setting start refl stopped.after g.F.Field.number N c.in-Err.error c.refusal.result c.refusal.ensures
+    build_refused q ring c.args.fitting.now.offered _ setting start refl stopped.after g.F.Field.number N c.in-Err.error c.refusal.result c.refusal.ensures
     (subst (λ (w : Wire). All (λ n. n < g.F.Field.ops.size) w.witnesses) (sym stopped.wire_is)
     (All-map (λ n. n < g.F.Field.ops.size) g.F.Field.number _ (λ k d low. g.met.F.Field.number_below _))) stopped.breaks

@@ -16,7 +16,7 @@ returns-in-Some-clause-kept g c =
     let o = g.EF.Field.ops in
     let batched = c.in-Some.batched in
     let is : IsBatchedFor job batched = subst (λ j. IsBatchedFor j batched) c.in_ok-of.ensures.same (given-batch _ _ batched c.in-Some.is c.in_ok-found.ensures) in
-    restated job _ refl refl refl refl c.claim_values.ensures.arity c.claim_values.ensures.challenge c.claim_values.ensures.power
+    restated job _ refl refl refl refl refl c.claim_values.ensures.arity c.claim_values.ensures.challenge c.claim_values.ensures.power
     (c.claim_values.ensures.statements ∙ ap (with_values p.statements) (ap (map g.EF.Field.number) c.deref.ensures.value ∙ is.actual) ∙ with_true_values o p.variables p.table p.statements)
 
 pub returns-in-Some-clause-stated : goal.returns-in-Some-clause-stated
@@ -41,7 +41,7 @@ pub returns-in-None-clause-kept : goal.returns-in-None-clause-kept
 returns-in-None-clause-kept g c =
     let job = c.args.job.now in
     let p = problem_in job in
-    restated job _ refl refl refl refl c.claim_truth.ensures.arity c.claim_truth.ensures.challenge c.claim_truth.ensures.power
+    restated job _ refl refl refl refl refl c.claim_truth.ensures.arity c.claim_truth.ensures.challenge c.claim_truth.ensures.power
     (c.claim_truth.ensures.statements
     ∙ ap (λ xs. all_stated_truly g.EF.Field.ops p.variables (λ b. g.EF.Algebra.embedding (entries g.F.Field.number xs b)) p.statements) c.deref-in-None.ensures.value)
 

@@ -11,9 +11,12 @@ use Rattle.sc_jobs.specs.Cases.{problem_in}
 use Rattle.sc_jobs.proofs.FigureLaws.{weights-batched, claim-batched}
 use Rattle.sc_audit.proofs.strategies.base_of.Goals as goal
 
+pub new-requires-clause-offered : goal.new-requires-clause-offered
+new-requires-clause-offered g c = c.args.fitting.now.offered
+
 -- the statements are true, so that the batched claim is the sum of the entries times the batched weights
-pub new-requires : goal.new-requires
-new-requires g c =
+pub new-requires-clause-agree : goal.new-requires-clause-agree
+new-requires-clause-agree g c =
     let N = g.EF.Field.number in
     let o = g.EF.Field.ops in
     let embed = g.EF.Algebra.embedding in
@@ -53,4 +56,4 @@ returns g c =
     let weights = entries-is n _ (weights_of o p) (rows.1 ∙ ap (λ k. 2 ^ k) count)
     (λ b low. weights-batched o p b _ (c.in_ok-weights.ensures.weights b low)) in
     let claim = claim-batched o p _ c.in_ok-weights.ensures.claim in
-    c.new.ensures ∙ (λ i. record { order = p.order; variables = count i; evals = evals i; weights = weights i; claim = claim i })
+    c.new.ensures ∙ (λ i. record { basis = p.basis; order = p.order; variables = count i; evals = evals i; weights = weights i; claim = claim i })

@@ -1,4 +1,4 @@
-use Rattle.std.proofs.Common.{◌≡◌, ◌∷◌, [], ◌^◌, ◌<◌, refl, sym, ◌∙◌, ap, subst, All, arith, length, map}
+use Rattle.std.proofs.Common.{◌≡◌, ◌∷◌, [], ◌^◌, ◌<◌, sym, ◌∙◌, ap, subst, All, arith, length, map}
 use Rattle.std.proofs.lemmas.List.Elements.{All-map}
 use Rattle.sc_definitions.proofs.LoopLaws.{entry-read}
 use Rattle.sc_definitions.specs.Channels.{Wire}
@@ -20,8 +20,8 @@ returns g c =
     let q = asked_to job (build Plain) (g.C.Challenger.party c.args.challenger.now).rules (g.C.Challenger.party c.args.challenger.now).history in
     let ring = g.met.EF.Field.is_field.ring in
     let degree = sym g.met.EF.ExtensionField.degree_is in
-    let setting = same_setting q ring refl c.in_ok-copied.ensures.rules c.in_ok-copied.ensures.history c.in_ok-base.ensures c.new-rounds.ensures degree c.num_variables-variables.ensures in
-    let start = same_start q ring refl c.in_ok-copied.ensures.rules c.in_ok-copied.ensures.history c.in_ok-base.ensures c.new-rounds.ensures degree c.num_variables-variables.ensures in
+    let setting = same_setting q ring c.args.fitting.now.offered c.in_ok-copied.ensures.rules c.in_ok-copied.ensures.history c.in_ok-base.ensures c.new-rounds.ensures degree c.num_variables-variables.ensures in
+    let start = same_start q ring c.args.fitting.now.offered c.in_ok-copied.ensures.rules c.in_ok-copied.ensures.history c.in_ok-base.ensures c.new-rounds.ensures degree c.num_variables-variables.ensures in
     let after = standing_of c.in-Ok.played.0 c.compute_sumcheck_polynomials.new.sumcheck_data (g.C.Challenger.party c.compute_sumcheck_polynomials.new.challenger).history in
     let whole = c.in-Ok.ensures.whole in
     let none_left : after.variables ≡ 0 = omega (arith, whole.whole, c.num_variables-variables.ensures, ap (λ (s : Shown). s.variables) c.in_ok-base.ensures) in
@@ -34,7 +34,7 @@ returns g c =
     let weights : after.weights ≡ N c.index-as_slice-0.result ∷ [] =
     sym (same_entries N c.in_ok-weights.field-0 _ c.as_slice.ensures.size c.as_slice.ensures.numbers ∙ c.in_ok-weights.ensures.table)
     ∙ one_entry N c.as_slice.result.now _ weights_one (entry-read N c.as_slice.result.now 0 c.index-as_slice-0.result (omega (arith, weights_one)) c.index-as_slice-0.is) in
-    built_case q ring refl _ setting start c.num_variables-variables.ensures after whole (c.claimed_sum-claim.ensures ∙ ap (λ (s : Shown). s.claim) c.in_ok-base.ensures) evals weights
+    built_case q ring c.args.fitting.now.offered _ setting start c.num_variables-variables.ensures after whole (c.claimed_sum-claim.ensures ∙ ap (λ (s : Shown). s.claim) c.in_ok-base.ensures) evals weights
     (g.met.EF.Field.number_below _) (g.met.EF.Field.number_below _) (ap (map (grid_shown N)) c.empty.ensures)
 
 -- they were refused
@@ -45,10 +45,10 @@ returns-in-Err g c =
     let q = asked_to job (build Plain) (g.C.Challenger.party c.args.challenger.now).rules (g.C.Challenger.party c.args.challenger.now).history in
     let ring = g.met.EF.Field.is_field.ring in
     let degree = sym g.met.EF.ExtensionField.degree_is in
-    let setting = same_setting q ring refl c.in_ok-copied.ensures.rules c.in_ok-copied.ensures.history c.in_ok-base.ensures c.new-rounds.ensures degree c.num_variables-variables.ensures in
-    let start = same_start q ring refl c.in_ok-copied.ensures.rules c.in_ok-copied.ensures.history c.in_ok-base.ensures c.new-rounds.ensures degree c.num_variables-variables.ensures in
+    let setting = same_setting q ring c.args.fitting.now.offered c.in_ok-copied.ensures.rules c.in_ok-copied.ensures.history c.in_ok-base.ensures c.new-rounds.ensures degree c.num_variables-variables.ensures in
+    let start = same_start q ring c.args.fitting.now.offered c.in_ok-copied.ensures.rules c.in_ok-copied.ensures.history c.in_ok-base.ensures c.new-rounds.ensures degree c.num_variables-variables.ensures in
     let stopped = c.in-Err.ensures.refused in
-    build_refused q ring refl _ setting start c.num_variables-variables.ensures stopped.after g.F.Field.number N c.in-Err.error c.refusal.result c.refusal.ensures
+    build_refused q ring c.args.fitting.now.offered _ setting start c.num_variables-variables.ensures stopped.after g.F.Field.number N c.in-Err.error c.refusal.result c.refusal.ensures
     (subst (λ (w : Wire). All (λ n. n < g.F.Field.ops.size) w.witnesses) (sym stopped.wire_is)
     (All-map (λ n. n < g.F.Field.ops.size) g.F.Field.number _ (λ k d low. g.met.F.Field.number_below _))) stopped.breaks
 

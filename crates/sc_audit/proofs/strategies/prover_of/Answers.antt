@@ -13,8 +13,11 @@ use Rattle.sc_jobs.proofs.Embedded.{entry-embedded, length-embedded}
 use Rattle.sc_jobs.proofs.FigureLaws.{weights-batched, claim-batched}
 use Rattle.sc_audit.proofs.strategies.prover_of.Goals as goal
 
-pub new_unpacked-poly-requires : goal.new_unpacked-poly-requires
-new_unpacked-poly-requires g c =
+pub new_in-poly-requires-clause-offered : goal.new_in-poly-requires-clause-offered
+new_in-poly-requires-clause-offered g c = c.args.fitting.now.offered
+
+pub new_in-poly-requires-clause-same : goal.new_in-poly-requires-clause-same
+new_in-poly-requires-clause-same g c =
     let job = c.args.fitting.now.job.now in
     let same = c.in_ok-embedded.ensures ∙ ap (map _) c.deref.ensures.value in
     let size = length-embedded g.EF.Algebra.embedding g.F.Field.number g.EF.Field.number job.table.items c.in_ok-embedded.field-0.items same in
@@ -33,10 +36,10 @@ new-requires g c =
     c.in_ok-weights.ensures.claim
     ∙ sym (batch-true g.EF.Field.ops g.met.EF.Field.is_field.ring n p.table _ _ _ (first_false_claim-all _ _ _ 0 _ c.requires))
     ∙ sym (inner-same g.EF.Field.ops n _ _ _ _
-    (λ b low. ap (λ t. t b) (c.new_unpacked-poly.ensures.evals ∙ c.new-evals.ensures.table)
+    (λ b low. ap (λ t. t b) (c.new_in-poly.ensures.evals ∙ c.new-evals.ensures.table)
     ∙ entry-embedded g.EF.Algebra.embedding g.F.Field.number N job.table.items c.in_ok-embedded.field-0.items b same (omega (arith, low, rows)))
-    (λ b low. ap (λ t. t b) c.new_unpacked-poly.ensures.weights ∙ c.in_ok-weights.ensures.weights b low))
-    ∙ ap (λ k. inner g.EF.Field.ops k (evals_in N c.new_unpacked-poly.result) (weights_in N c.new_unpacked-poly.result)) (sym (c.new_unpacked-poly.ensures.variables ∙ count))
+    (λ b low. ap (λ t. t b) c.new_in-poly.ensures.weights ∙ c.in_ok-weights.ensures.weights b low))
+    ∙ ap (λ k. inner g.EF.Field.ops k (evals_in N c.new_in-poly.result) (weights_in N c.new_in-poly.result)) (sym (c.new_in-poly.ensures.variables ∙ count))
 
 -- what the prover shows
 pub returns : goal.returns
@@ -47,15 +50,15 @@ returns g c =
     let job = c.args.fitting.now.job.now in
     let p = problem_in job in
     let n = p.variables in
-    let poly = c.new_unpacked-poly.result in
+    let poly = c.new_in-poly.result in
     let same = c.in_ok-embedded.ensures ∙ ap (map _) c.deref.ensures.value in
     let rows : length job.table.items ≡ 2 ^ n = sym job.table.ok.0 ∙ c.args.fitting.now.rows in
     let size = length-embedded g.EF.Algebra.embedding g.F.Field.number N job.table.items c.in_ok-embedded.field-0.items same in
-    let count : variables_in poly ≡ n = c.new_unpacked-poly.ensures.variables ∙ pow-same _ _ (sym c.new-evals.ensures.size ∙ size ∙ rows) in
+    let count : variables_in poly ≡ n = c.new_in-poly.ensures.variables ∙ pow-same _ _ (sym c.new-evals.ensures.size ∙ size ∙ rows) in
     let evals = entries-is n _ p.table ((pair_rows N poly).0 ∙ ap (λ k. 2 ^ k) count)
-    (λ b low. ap (λ t. t b) (c.new_unpacked-poly.ensures.evals ∙ c.new-evals.ensures.table)
+    (λ b low. ap (λ t. t b) (c.new_in-poly.ensures.evals ∙ c.new-evals.ensures.table)
     ∙ entry-embedded g.EF.Algebra.embedding g.F.Field.number N job.table.items c.in_ok-embedded.field-0.items b same (omega (arith, low, rows))) in
     let weights = entries-is n _ (weights_of o p) ((pair_rows N poly).1 ∙ ap (λ k. 2 ^ k) count)
-    (λ b low. weights-batched o p b _ (ap (λ t. t b) c.new_unpacked-poly.ensures.weights ∙ c.in_ok-weights.ensures.weights b low)) in
+    (λ b low. weights-batched o p b _ (ap (λ t. t b) c.new_in-poly.ensures.weights ∙ c.in_ok-weights.ensures.weights b low)) in
     let claim = claim-batched o p _ c.in_ok-weights.ensures.claim in
-    c.new.ensures.shown ∙ (λ i. record { order = c.new_unpacked-poly.ensures.order i; variables = count i; evals = evals i; weights = weights i; claim = claim i })
+    c.new.ensures.shown ∙ (λ i. record { basis = c.new_in-poly.ensures.basis i; order = c.new_in-poly.ensures.order i; variables = count i; evals = evals i; weights = weights i; claim = claim i })

@@ -1,4 +1,4 @@
-use Rattle.std.proofs.Common.{◌<◌, refl, sym, ◌∙◌, ap, arith, map}
+use Rattle.std.proofs.Common.{◌<◌, sym, ◌∙◌, ap, arith, map}
 use Rattle.std.proofs.lemmas.List.Elements.{All-map}
 use Rattle.sc_definitions.specs.Shown.{Shown}
 use Rattle.sc_rounds.specs.ProverViews.{image_standing_of}
@@ -23,10 +23,10 @@ returns g c =
     let ring = g.met.EF.Field.is_field.ring in
     let degree = sym g.met.EF.ExtensionField.degree_is in
     let shows = c.in_ok-prover.ensures.shown ∙ c.in_ok-prover_of.ensures in
-    let setting = same_setting q ring refl c.in_ok-copied.ensures.rules c.in_ok-copied.ensures.history shows c.new-rounds.ensures degree c.num_variables.ensures in
-    let start = same_start q ring refl c.in_ok-copied.ensures.rules c.in_ok-copied.ensures.history shows c.new-rounds.ensures degree c.num_variables.ensures in
+    let setting = same_setting q ring c.args.fitting.now.offered c.in_ok-copied.ensures.rules c.in_ok-copied.ensures.history shows c.new-rounds.ensures degree c.num_variables.ensures in
+    let start = same_start q ring c.args.fitting.now.offered c.in_ok-copied.ensures.rules c.in_ok-copied.ensures.history shows c.new-rounds.ensures degree c.num_variables.ensures in
     let after = image_standing_of c.compute_sumcheck_polynomials.new.self c.compute_sumcheck_polynomials.new.sumcheck_data (g.C.Challenger.party c.compute_sumcheck_polynomials.new.challenger).history in
-    built_case q ring refl _ setting start c.num_variables.ensures after c.in-Ok.ensures.batch (c.claimed_sum-claim.ensures ∙ ap (λ (s : Shown). s.claim) shows)
+    built_case q ring c.args.fitting.now.offered _ setting start c.num_variables.ensures after c.in-Ok.ensures.batch (c.claimed_sum-claim.ensures ∙ ap (λ (s : Shown). s.claim) shows)
     c.in_ok-eval.ensures.eval c.in_ok-eval.ensures.weight (g.met.EF.Field.number_below _) (g.met.EF.Field.number_below _)
     (ap (map (grid_shown N)) c.empty.ensures)
 
@@ -39,8 +39,8 @@ returns-in-Err g c =
     let ring = g.met.EF.Field.is_field.ring in
     let degree = sym g.met.EF.ExtensionField.degree_is in
     let shows = c.in_ok-prover.ensures.shown ∙ c.in_ok-prover_of.ensures in
-    let setting = same_setting q ring refl c.in_ok-copied.ensures.rules c.in_ok-copied.ensures.history shows c.new-rounds.ensures degree c.num_variables.ensures in
-    let start = same_start q ring refl c.in_ok-copied.ensures.rules c.in_ok-copied.ensures.history shows c.new-rounds.ensures degree c.num_variables.ensures in
+    let setting = same_setting q ring c.args.fitting.now.offered c.in_ok-copied.ensures.rules c.in_ok-copied.ensures.history shows c.new-rounds.ensures degree c.num_variables.ensures in
+    let start = same_start q ring c.args.fitting.now.offered c.in_ok-copied.ensures.rules c.in_ok-copied.ensures.history shows c.new-rounds.ensures degree c.num_variables.ensures in
     let after = image_standing_of c.compute_sumcheck_polynomials.new.self c.compute_sumcheck_polynomials.new.sumcheck_data (g.C.Challenger.party c.compute_sumcheck_polynomials.new.challenger).history in
-    build_refused q ring refl _ setting start c.num_variables.ensures after g.F.Field.number N c.in-Err.error c.refusal.result c.refusal.ensures
+    build_refused q ring c.args.fitting.now.offered _ setting start c.num_variables.ensures after g.F.Field.number N c.in-Err.error c.refusal.result c.refusal.ensures
     (All-map (λ n. n < g.F.Field.ops.size) g.F.Field.number _ (λ k d low. g.met.F.Field.number_below _)) c.in-Err.ensures.batch

@@ -1,4 +1,4 @@
-use Rattle.std.proofs.Common.{◌≡◌, ◌^◌, length, map, sym, ◌∙◌, ap, refl, arith}
+use Rattle.std.proofs.Common.{◌≡◌, ◌^◌, length, map, sym, ◌∙◌, ap, arith}
 use Rattle.std.proofs.lemmas.Nat.{pow_pos}
 use Rattle.sc_definitions.proofs.LoopLaws.{entry-read}
 use Rattle.sc_table.specs.declared.strategy.Strategy.TheVariants.{Plain}
@@ -19,7 +19,7 @@ returns g c = λ R h.
     let first = entry-read g.F.Field.number job.table.items 0 c.index.result.now (omega (arith, some, rows, job.table.ok.0)) c.index.ensures in
     let size : length c.as_slice.result.now ≡ 2 ^ p.variables = c.as_slice.ensures.size ∙ ap (λ k. 2 ^ k) c.in_ok-weights.ensures.variables in
     let read = entry-read N c.as_slice.result.now 0 c.index-as_slice-0.result (omega (arith, some, size)) c.index-as_slice-0.is in
-    built_none (asked_to job (build Plain) R h) g.met.EF.Field.is_field.ring refl c.requires _ c.new.ensures (ap (map N) (c.new-3.ensures ∙ c.new-2.ensures.items))
+    built_none (asked_to job (build Plain) R h) g.met.EF.Field.is_field.ring c.args.fitting.now.offered c.requires _ c.new.ensures (ap (map N) (c.new-3.ensures ∙ c.new-2.ensures.items))
     (claim-batched o p _ c.in_ok-weights.ensures.claim)
     (c.embed-eval.ensures ∙ ap g.EF.Algebra.embedding (sym first))
     (weights-batched o p 0 _ (sym read ∙ ap (λ t. t 0) c.as_slice.ensures.numbers ∙ c.in_ok-weights.ensures.weights 0 some))

@@ -2,6 +2,7 @@ use Rattle.std.proofs.Common.{◌≡◌, IfOk, [], map, Some, None, sym, ◌∙�
 use Rattle.std.specs.Option.{option_map}
 use Rattle.sc_definitions.specs.Roots.{root_count}
 use Rattle.sc_definitions.specs.Problem.{claim_of}
+use Rattle.sc_definitions.specs.TwoTables.{tables_in}
 use Rattle.sc_definitions.specs.Lucky.{true_claim_of, course_of, first_turn, in_round}
 use Rattle.sc_transcript.specs.Data.{pair_of, messages_in}
 use Rattle.sc_rounds.specs.Turns.{turn_in}
@@ -36,7 +37,7 @@ returns-in-Some g c =
     c.if-index.false (c.index.ensures ∙ c.in_ok-pair.ensures.claim ∙ e
     ∙ sym (pair-truth o g.met.EF.Field.is_field.ring N p c.in_ok-pair.pair _ pair c.dot_product.ensures) ∙ sym c.index-2.ensures) in
     let first : Some (turn_in N turn) ≡ first_turn (course_of o p) 0 (claim_of o p) ms [] rs =
-    ap (option_map (turn_in N)) (sym c.in-Some.is) ∙ c.in_ok-turn.ensures p pair
+    ap (option_map (turn_in N)) (sym c.in-Some.is) ∙ c.in_ok-turn.ensures.found (tables_in o p) p.variables pair
     ∙ ap (λ x. first_turn (course_of o p) 0 x (map (pair_of N) c.polynomial_evaluations-messages.result.now) [] (map N c.as_slice.result.now)) c.in_ok-pair.ensures.claim
     ∙ ap (λ l. first_turn (course_of o p) 0 (claim_of o p) (map (pair_of N) l) [] (map N c.as_slice.result.now)) c.polynomial_evaluations-messages.ensures
     ∙ ap (λ l. first_turn (course_of o p) 0 (claim_of o p) ms [] (map N l)) c.as_slice.ensures in
@@ -56,7 +57,7 @@ returns-in-None g c =
     c.if-index.false (c.index.ensures ∙ c.in_ok-pair.ensures.claim ∙ e
     ∙ sym (pair-truth o g.met.EF.Field.is_field.ring N p c.in_ok-pair.pair _ pair c.dot_product.ensures) ∙ sym c.index-2.ensures) in
     let first : None ≡ first_turn (course_of o p) 0 (claim_of o p) ms [] rs =
-    ap (option_map (turn_in N)) (sym c.in-None.is) ∙ c.in_ok-turn.ensures p pair
+    ap (option_map (turn_in N)) (sym c.in-None.is) ∙ c.in_ok-turn.ensures.found (tables_in o p) p.variables pair
     ∙ ap (λ x. first_turn (course_of o p) 0 x (map (pair_of N) c.polynomial_evaluations-messages.result.now) [] (map N c.as_slice.result.now)) c.in_ok-pair.ensures.claim
     ∙ ap (λ l. first_turn (course_of o p) 0 (claim_of o p) (map (pair_of N) l) [] (map N c.as_slice.result.now)) c.polynomial_evaluations-messages.ensures
     ∙ ap (λ l. first_turn (course_of o p) 0 (claim_of o p) ms [] (map N l)) c.as_slice.ensures in

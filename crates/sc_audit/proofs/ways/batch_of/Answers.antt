@@ -6,19 +6,20 @@ use Rattle.sc_svo.specs.Batches.{batch_in, IsTableOf}
 use Rattle.sc_svo.specs.Claims.{AreOn, claims_in}
 use Rattle.sc_jobs.specs.Cases.{problem_in}
 use Rattle.sc_jobs.proofs.ClaimLaws.{fits_small, batch_weights, batch_values}
+use Rattle.sc_jobs.proofs.OfferLaws.{values_taken}
 use Rattle.sc_audit.proofs.ways.batch_of.Goals as goal
 
 -- the statements are taken
 pub claims_of-requires : goal.claims_of-requires
 claims_of-requires g c =
     let p = problem_in c.args.fitting.now.job.now in
-    (fits_small p.variables p.statements c.args.variables c.requires).taken
+    (fits_small p.variables p.statements c.args.variables (values_taken p.basis _ c.requires).1).taken
 
 pub with_values-requires : goal.with_values-requires
 with_values-requires g c =
     let job = c.args.fitting.now.job.now in
     let p = problem_in job in
-    let fits = fits_small p.variables p.statements c.args.variables c.requires in
+    let fits = fits_small p.variables p.statements c.args.variables (values_taken p.basis _ c.requires).1 in
     record {
       some = fits.some;
       few = fits.few;
@@ -38,10 +39,11 @@ returns-clause-batch g c =
     let p = problem_in job in
     let o = g.EF.Field.ops in
     let N = g.EF.Field.number in
-    let fits = fits_small p.variables p.statements c.args.variables c.requires in
+    let fits = fits_small p.variables p.statements c.args.variables (values_taken p.basis _ c.requires).1 in
     let made = c.in_ok-batch.ensures.batch in
     let cs = c.in_ok-claimed.claimed.claims.items in
     record {
+      basis = (values_taken p.basis _ c.requires).0;
       order = made.order_is;
       variables = pow-same _ _ (sym made.variables ∙ ap length c.deref.ensures.value ∙ sym job.table.ok.0 ∙ c.args.fitting.now.rows);
       weights = λ row low. ap (λ l. combined_weight o l row) (made.claims ∙ ap (claims_in N) c.deref-2.ensures.value)
@@ -56,7 +58,7 @@ returns-clause-actual g c =
     let job = c.args.fitting.now.job.now in
     let p = problem_in job in
     let N = g.EF.Field.number in
-    let fits = fits_small p.variables p.statements c.args.variables c.requires in
+    let fits = fits_small p.variables p.statements c.args.variables (values_taken p.basis _ c.requires).1 in
     let variables = pow-same _ _ (sym c.in_ok-batch.ensures.batch.variables ∙ ap length c.deref.ensures.value ∙ sym job.table.ok.0 ∙ c.args.fitting.now.rows) in
     batch_values g.EF.Field.ops g.met.EF.Field.is_field.ring p N c.in_ok-claimed.claimed.claims.items c.in_ok-claimed.ensures.claims c.in_ok-claimed.ensures.on fits.taken
     (map N c.in_ok-batch.actual.items) _ _ _ c.in_ok-batch.ensures.values variables (ap (λ xs b. g.EF.Algebra.embedding (entries g.F.Field.number xs b)) c.deref.ensures.value)
