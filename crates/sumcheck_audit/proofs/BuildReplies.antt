@@ -30,6 +30,7 @@ use Rattle.sumcheck_audit.specs.Report.{answer_reply, judge, task_of, asked_by, 
 use Rattle.sc_jobs.specs.Results.{or_no_witness, rounds_of, report_from}
 use Rattle.sumcheck_replies.proofs.FieldLaws.{fields_field}
 use Rattle.sc_definitions.proofs.WitnessLaws.{IsBuiltOr, honest_rounds-built}
+use Rattle.sumcheck_audit.proofs.OfferedJobs.{unrefused-offered}
 
 capped-none : (found : Option FalseClaim) → false_refusal (capped found) ≡ None → found ≡ None
 capped-none None e = refl
@@ -88,7 +89,8 @@ case_holds lines q ring offered strategy task none =
 pub built_holds : (k : Fields) → IsRing k.ops → (job : Job) (strategy : Strategy) → job.mode ≡ Build strategy → refusal_of (asked_by k job) ≡ None →
     ((judge_over k job).outcome ≡ Holds) ⊎ ((0 < job.stated.bits) × ((judge_over k job).outcome ≡ NoWitness))
 unfolding judged_under
-built_holds k ring job strategy mode none = case_holds report_lines (asked_by k job) ring tt strategy (ap task_of mode) none
+built_holds k ring job strategy mode none =
+    case_holds report_lines (asked_by k job) ring (unrefused-offered (asked_by k job) none) strategy (ap task_of mode) none
 
 -- so a job's build holds
 pub job_holds : (job : Job) (strategy : Strategy) → job.mode ≡ Build strategy →

@@ -33,6 +33,7 @@ use Rattle.sumcheck_audit.specs.Report.{values_of, task_of, asked_by}
 use Rattle.sc_jobs.specs.Results.{or_no_witness, unless_failing, rounds_of}
 use Rattle.sumcheck_audit.specs.CertifiedJobs.{AreCertified, IsCertifiedJob}
 use Rattle.sumcheck_replies.proofs.FieldLaws.{fields_field, sizes-are}
+use Rattle.sumcheck_audit.proofs.OfferedJobs.{unrefused-offered}
 use Rattle.sumcheck_audit.proofs.BuildReplies.{or_later-none, all-true, built-finding}
 
 -- ---- rounds that are played
@@ -119,9 +120,9 @@ mode_pairs (Check None) = tt
 mode_pairs (Check (Some proof)) = pairs_sent proof.rounds
 
 pub job_certified : (job : Job) → JobFits (sizes_of job.stated.field) job → IsCertifiedJob job
-job_certified job fits =
+job_certified job fits none =
     let k = fields_of job.stated.field in
-    certified (asked_by k job) (fields_field job.stated.field) tt
+    certified (asked_by k job) (fields_field job.stated.field) (unrefused-offered (asked_by k job) none)
     (subst (λ n. All (λ c. c < n) (claimed_values (all_claims k.embedding job.stated.groups))) (sizes-are job.stated.field)
     (claims-low k.embedding (sizes_of job.stated.field) job.stated.variables job.stated.groups fits.stated.groups))
-    (mode_pairs job.mode)
+    (mode_pairs job.mode) none

@@ -5,14 +5,15 @@ use Rattle.std.proofs.lemmas.Option.{same_Some, none-some}
 use Rattle.serde_json.specs.Data.{Data}
 use Rattle.serde_json.specs.Find.{get, as_null}
 use Rattle.sc_forms.specs.Forms.{is_object, list_form, pair_form}
+use Rattle.sc_table.specs.declared.strategy.Basis.TheVariants.{Evaluation}
 use Rattle.sumcheck_members.specs.declared.job.FieldName.{FieldName}
 use Rattle.sumcheck_members.specs.declared.job.Sizes.{Sizes}
 use Rattle.sumcheck_audit.specs.declared.job.Proof.{Proof}
 use Rattle.sumcheck_audit.specs.declared.job.Mode.{Mode}
 use Rattle.sumcheck_audit.specs.declared.job.Mode.TheVariants.{Build, Check}
 use Rattle.sumcheck_audit.specs.declared.job.Job.{Job}
-use Rattle.sumcheck_members.specs.Members.{whole_job}
-use Rattle.sumcheck_members.specs.Elements.{element_form, field_form, sizes_of}
+use Rattle.sumcheck_members.specs.Members.{whole_job, needed_or}
+use Rattle.sumcheck_members.specs.Elements.{basis_form, element_form, field_form, sizes_of}
 use Rattle.sumcheck_members.specs.Stated.{stated_over}
 use Rattle.sumcheck_audit.specs.Job.{proof_form, check_form, strategy_form, mode_by, mode_form, members_over, members_of, job_of, ProofFits, ModeFits, JobFits}
 use Rattle.sumcheck_members.proofs.StatedLaws.{stated-fit}
@@ -64,8 +65,9 @@ module _ (sizes : Sizes) where
       unless_misfit-gives (stated_over field sizes d) _ job is (λ stated s is.
       needed-gives (mode_form sizes) (codes "mode") d _ job mode-gives is (λ mode m is.
       let fit = stated-fit sizes field d stated s in
-      subst (λ j. (j.stated.field ≡ field) × JobFits sizes j) (ok-same (record { stated = stated; mode = mode }) job is)
-      (fit.0, record { stated = fit.1; mode = m })))
+      unless_misfit-gives (needed_or Evaluation basis_form (codes "basis") d) _ job is (λ basis _ is.
+      subst (λ j. (j.stated.field ≡ field) × JobFits sizes j) (ok-same (record { stated = stated; mode = mode; basis = basis }) job is)
+      (fit.0, record { stated = fit.1; mode = m }))))
 
 -- each number of a job that a value describes is that of an element
 pub job_of-fits : (d : Data) (job : Job) → job_of d ≡ Ok job → JobFits (sizes_of job.stated.field) job

@@ -1,5 +1,6 @@
 pub mod JobLaws
 pub mod GroupLaws
+pub mod OfferedJobs
 pub mod BuildReplies
 pub mod CertifiedLaws
 pub mod ReportLaws

@@ -3,11 +3,11 @@ use Rattle.std.proofs.Common.{◌≡◌, ◌≢◌, ◌⊎◌, inl, inr, ℕ, Li
 use Rattle.std.specs.Prelude.{Ok, Err}
 use Rattle.std.proofs.lemmas.List.{length-map}
 use Rattle.sc_definitions.specs.declared.events.Event.{Event}
-use Rattle.sc_definitions.specs.Tables.{evaluation, entries}
+use Rattle.sc_definitions.specs.Tables.{entries}
 use Rattle.sc_definitions.specs.Statements.{Statement}
 use Rattle.sc_definitions.specs.Events.{Rules}
 use Rattle.sc_definitions.specs.Channels.{channel}
-use Rattle.sc_table.specs.Strategy.{order_of}
+use Rattle.sc_table.specs.Strategy.{basis_of, order_of}
 use Rattle.sc_verdicts.specs.declared.error.AuditError.{AuditError}
 use Rattle.sc_verdicts.specs.declared.error.AuditError.TheVariants.{NoMemory}
 use Rattle.sc_jobs.specs.Cases.{Task, Asked}
@@ -26,7 +26,7 @@ pub asked-same : {X : Type 0} (k : Fields) (number : X → ℕ) (xs : List X) {b
     ◌≡◌ {A = Asked} (record {
       case = record {
         rows = length xs;
-        problem = record { basis = evaluation; order = order_of job.stated.order; variables = n; table = λ b. k.embedding (entries number xs b); statements = ss; batching = c; initial = i };
+        problem = record { basis = basis_of job.basis; order = order_of job.stated.order; variables = n; table = λ b. k.embedding (entries number xs b); statements = ss; batching = c; initial = i };
         task = t;
       };
       ops = k.ops;

@@ -3,11 +3,12 @@ use Rattle.std.specs.Prelude.{ℕ, ◌<◌, List, All, ⊤, codes, bytes_eq, if�
 use Rattle.serde_json.specs.Data.{Data}
 use Rattle.serde_json.specs.Find.{get, as_null, as_str}
 use Rattle.sc_forms.specs.Forms.{at_most_form, is_object, list_form, member_form, pair_form}
-use Rattle.sumcheck_members.specs.Members.{Name, whole_job, needed, unless_misfit}
-use Rattle.sumcheck_members.specs.Elements.{with_member, element_form, field_form, sizes_of}
+use Rattle.sumcheck_members.specs.Members.{Name, whole_job, needed, needed_or, unless_misfit}
+use Rattle.sumcheck_members.specs.Elements.{with_member, basis_form, element_form, field_form, sizes_of}
 use Rattle.sumcheck_members.specs.Stated.{AreElements, StatedFits, stated_over}
 use Rattle.sumcheck_members.specs.declared.job.FieldName.{FieldName}
 use Rattle.sumcheck_members.specs.declared.job.Sizes.{Sizes}
+use Rattle.sc_table.specs.declared.strategy.Basis.TheVariants.{Evaluation}
 use Rattle.sc_table.specs.declared.strategy.Strategy.{Strategy}
 use Rattle.sc_table.specs.declared.strategy.Strategy.TheVariants.{Plain, Represented, SmallValue}
 use Rattle.sumcheck_audit.specs.declared.job.Proof.{Proof}
@@ -52,19 +53,20 @@ mode_by sizes (Some build) (Some check) = None
 abbrev pub mode_form : Sizes → Data → Option Mode
 mode_form sizes d = mode_by sizes (get (codes "build") d) (get (codes "check") d)
 
--- the members after the field: what is stated, and then what is done
+-- the members after the field: what is stated, then what is done, and then in which basis; a job without one is on values
 abbrev pub members_over : FieldName → Sizes → Data → Result Job Name
 members_over field sizes d =
     unless_misfit (stated_over field sizes d) (λ stated.
     unless_misfit (needed (mode_form sizes) (codes "mode") d) (λ mode.
-    Ok (record { stated = stated; mode = mode })))
+    unless_misfit (needed_or Evaluation basis_form (codes "basis") d) (λ basis.
+    Ok (record { stated = stated; mode = mode; basis = basis }))))
 
 -- the members, the field first
 abbrev pub members_of : Data → Result Job Name
 members_of d = unless_misfit (needed field_form (codes "field") d) (λ field. members_over field (sizes_of field) d)
 
--- the job that a value describes: one over one of three fields under a scripted or the hash challenger, in either order, at
--- any difficulty, with statements of every kind; else its first member that is missing or not of its form
+-- the job that a value describes: one over one of three fields under a scripted or the hash challenger, in either order and in
+-- either basis, at any difficulty, with statements of every kind; else its first member that is missing or not of its form
 abbrev pub job_of : Data → Result Job Name
 job_of d = if is_object d then members_of d else Err whole_job
 

@@ -1,17 +1,16 @@
 -- What a job is answered.
 use Rattle.std.specs.Prelude.{◌≡◌, ℕ, List, [], ◌∷◌, ◌++◌, length, map, Result, Ok, Err}
 use Rattle.std.specs.Option.{option_map}
-use Rattle.sc_definitions.specs.Tables.{evaluation, rows_of}
+use Rattle.sc_definitions.specs.Tables.{rows_of}
 use Rattle.sc_definitions.specs.declared.events.Event.{Event}
 use Rattle.sc_definitions.specs.Events.{Rules}
 use Rattle.sc_definitions.specs.Channels.{channel}
 use Rattle.sc_definitions.specs.Problem.{Problem}
-use Rattle.sc_table.specs.Strategy.{order_of}
+use Rattle.sc_table.specs.Strategy.{basis_of, order_of}
 use Rattle.sc_verdicts.specs.declared.error.AuditError.{AuditError}
 use Rattle.sc_jobs.specs.Cases.{Case, Given, Task, build, check, Asked}
 use Rattle.sc_jobs.specs.Figures.{Figures, Reported}
 use Rattle.sc_jobs.specs.Results.{answer_to}
-use Rattle.sumcheck_members.specs.declared.job.Stated.{Stated}
 use Rattle.sumcheck_audit.specs.declared.job.Job.{Job}
 use Rattle.sumcheck_audit.specs.declared.job.Proof.{Proof}
 use Rattle.sumcheck_audit.specs.declared.job.Mode.{Mode}
@@ -26,15 +25,15 @@ use Rattle.sumcheck_replies.specs.Lines.{claim_line, round_lines, residual_line,
 
 -- ---- the case that a job is
 
--- the job's problem: a table of values, with its statements batched from the power 0 on
-abbrev pub problem_of : (ℕ → ℕ) → Stated → Problem
-problem_of embedding s = record {
-  basis = evaluation;
-  order = order_of s.order;
-  variables = s.variables;
-  table = λ b. embedding (rows_of s.table b);
-  statements = all_claims embedding s.groups;
-  batching = s.batching;
+-- the job's problem: a table, with its statements batched from the power 0 on
+abbrev pub problem_of : (ℕ → ℕ) → Job → Problem
+problem_of embedding job = record {
+  basis = basis_of job.basis;
+  order = order_of job.stated.order;
+  variables = job.stated.variables;
+  table = λ b. embedding (rows_of job.stated.table b);
+  statements = all_claims embedding job.stated.groups;
+  batching = job.stated.batching;
   initial = 0;
 }
 
@@ -53,7 +52,7 @@ task_of (Check proof) = check (option_map given_of proof)
 abbrev pub case_of : (ℕ → ℕ) → Job → Case
 case_of embedding job = record {
   rows = length job.stated.table;
-  problem = problem_of embedding job.stated;
+  problem = problem_of embedding job;
   task = task_of job.mode;
 }
 

@@ -30,6 +30,7 @@ pub(crate) fn audit_job<F: Field, EF: ExtensionField<F>>(
         table: elements(alloc, job.stated.table.as_slice())?,
         constraint: constraint_of(alloc, job.stated.groups.as_slice(), variables, batching)?,
         order: job.stated.order,
+        basis: job.basis,
         pow_bits: job.stated.bits as usize,
         mode: audit_mode(alloc, &job.mode)?,
     })

@@ -1,5 +1,5 @@
 //! The job of `audit`.
-use sc_table::{Row, Strategy};
+use sc_table::{Basis, Row, Strategy};
 use sumcheck_members::Stated;
 
 /// A proof that is handed in, by the numbers of its elements.
@@ -20,11 +20,14 @@ pub enum Mode {
     Check(Option<Proof>),
 }
 
-/// A job: what it states, and what is done with it.
+/// A job: what it states, what is done with it, and in which basis.
 #[derive(Drop)]
 pub struct Job {
     /// What it states.
     pub stated: Stated,
     /// What is done.
     pub mode: Mode,
+    /// What the entries of the table and of the statements' weights are in the rounds: values at
+    /// the rows, or coefficients of the monomials that the rows name.
+    pub basis: Basis,
 }

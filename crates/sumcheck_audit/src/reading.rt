@@ -8,10 +8,12 @@ ghost use Rattle.sumcheck_audit.specs.Job.{job_of, members_over, mode_form, proo
 
 use crate::job::{Job, Mode, Proof};
 use sc_forms::{AtMost, Below, Form, ListOf, Misread, PairOf, is_object, member};
-use sc_table::Strategy;
+use sc_table::{Basis, Strategy};
 use serde_json::Value;
 use std::alloc::Global;
-use sumcheck_members::{FieldForm, FieldName, Member, Sizes, Unread, need, read_stated};
+use sumcheck_members::{
+    BasisForm, FieldForm, FieldName, Member, Sizes, Unread, need, need_or, read_stated,
+};
 
 // The greatest number of small-value rounds that can be named.
 const MOST_SMALL: u64 = 64;
@@ -135,8 +137,9 @@ pub fn read_job(alloc: Global, value: Value) -> Result<Job, Unread>
     read_members(alloc, value, field, field.sizes())
 }
 
-// The members after the field, which has these sizes. The mode is read first, since the value is
-// given up for the others; where one of these is not of its form, it is told before the mode.
+// The members after the field, which has these sizes. The mode and the basis are read first, since
+// the value is given up for the others; where one of these is not of its form, it is told before
+// them. A job without a basis is on values.
 fn read_members(alloc: Global, value: Value, field: FieldName, sizes: Sizes) -> Result<Job, Unread>
     ensures job { IfOk result (λ job. members_over field sizes (view value) ≡ Ok job) }
     ensures misfit { (m : Member) → result ≡ Err (Unread.Misfit m)
@@ -145,9 +148,11 @@ fn read_members(alloc: Global, value: Value, field: FieldName, sizes: Sizes) -> 
     ensures fits { IfOk result (λ job. JobFits sizes job) }
 {
     let mode = need(alloc, &ModeForm { sizes }, &value, "mode");
+    let basis = need_or(alloc, &BasisForm, &value, "basis", Basis::Evaluation);
     let stated = read_stated(alloc, value, field, sizes)?;
     Ok(Job {
         stated,
         mode: mode?,
+        basis: basis?,
     })
 }

@@ -127,9 +127,9 @@ unrefused-strategy o p n Represented count some named = refl
 unrefused-strategy o p n (SmallValue v) count some named =
     ap (λ first. or_later first None) (small-fits (length p.point) v (omega (arith, some, count)) (named ∙ ap (λ k. min k most_small) (sym count)))
 
-unrefused-shape : (rows n : ℕ) → n < 25 → rows ≡ 2 ^ n → shape_by (arity_of rows) 16 rows 0 n ≡ None
+unrefused-shape : (rows n : ℕ) → n < 25 → rows ≡ 2 ^ n → shape_by (arity_of rows) 16 rows 0 n evaluation prefix ≡ None
 unrefused-shape rows n low is =
-    ap (λ r. shape_by (arity_of r) 16 rows 0 n) is ∙ ap (λ k. shape_by k 16 rows 0 n) (power-arity n low)
+    ap (λ r. shape_by (arity_of r) 16 rows 0 n evaluation prefix) is ∙ ap (λ k. shape_by k 16 rows 0 n evaluation prefix) (power-arity n low)
     ∙ elim (eqb_tells n n) [ inl t ↦ rw t.0 refl | inr t ↦ absurd (t.1 refl) ]
 
 all_true : (o : Ops) (n : ℕ) (f : ℕ → ℕ) (i : ℕ) (kinds : List Kind) → first_false_claim o n f i (map (true_statement o n f) kinds) ≡ None

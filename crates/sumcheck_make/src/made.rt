@@ -24,7 +24,7 @@ use sc_challenger::{Challenger, ScriptedChallenger};
 use sc_field::{ExtensionField, Field, IntoTranscriptField, NoMemory};
 use sc_small_fields::F65537;
 use sc_statements::{Constraint, EqStatement, NextStatement, Statements};
-use sc_table::{Point, RoundMessage, Strategy, VariableOrder};
+use sc_table::{Basis, Point, RoundMessage, Strategy, VariableOrder};
 use std::alloc::Global;
 use sumcheck_audit::say_verdict;
 use sumcheck_replies::{Answer, Outcome, lines, refuse};
@@ -104,6 +104,7 @@ fn job_of<F: Field>(
         constraint: Constraint::new(parts.batching, variables, groups),
         table: parts.table,
         order: VariableOrder::Prefix,
+        basis: Basis::Evaluation,
         pow_bits: 0,
         mode: Mode::Build(strategy),
     })

@@ -1,4 +1,4 @@
--- The forms of a job's smallest parts: fields, elements, and orders.
+-- The forms of a job's smallest parts: fields, elements, orders, and bases.
 use Rattle.std.specs.Prelude.{ℕ, List, codes, bytes_eq, if◌then◌else◌, Option, Some, None, option_and_then}
 use Rattle.serde_json.specs.Data.{Data}
 use Rattle.serde_json.specs.Find.{as_str}
@@ -6,6 +6,8 @@ use Rattle.sc_forms.specs.Forms.{below_form, member_form}
 use Rattle.sumcheck_members.specs.declared.job.FieldName.{FieldName}
 use Rattle.sumcheck_members.specs.declared.job.FieldName.TheVariants.{F65537, F257x2, F16}
 use Rattle.sumcheck_members.specs.declared.job.Sizes.{Sizes}
+use Rattle.sc_table.specs.declared.strategy.Basis.{Basis}
+use Rattle.sc_table.specs.declared.strategy.Basis.TheVariants.{Evaluation, Projective}
 use Rattle.sc_table.specs.declared.strategy.VariableOrder.{VariableOrder}
 use Rattle.sc_table.specs.declared.strategy.VariableOrder.TheVariants.{Prefix, Suffix}
 
@@ -41,3 +43,11 @@ order_named name = if bytes_eq name (codes "prefix") then Some Prefix else (if b
 -- which variable a round binds, or on which side a selector stands
 abbrev pub order_form : Data → Option VariableOrder
 order_form d = option_and_then order_named (as_str d)
+
+-- the basis of this name
+abbrev pub basis_named : List ℕ → Option Basis
+basis_named name = if bytes_eq name (codes "evaluation") then Some Evaluation else (if bytes_eq name (codes "projective") then Some Projective else None)
+
+-- what the entries of a table are in the rounds on it
+abbrev pub basis_form : Data → Option Basis
+basis_form d = option_and_then basis_named (as_str d)

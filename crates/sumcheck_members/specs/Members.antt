@@ -1,7 +1,8 @@
 -- The members of a job, and what is said of one that is missing or not of its form.
-use Rattle.std.specs.Prelude.{ℕ, List, ◌++◌, codes, Option, Result, Ok, Err}
+use Rattle.std.specs.Prelude.{ℕ, List, ◌++◌, codes, if◌then◌else◌, Option, is_some, Result, Ok, Err}
 use Rattle.std.specs.Option.{ok_or}
 use Rattle.serde_json.specs.Data.{Data}
+use Rattle.serde_json.specs.Find.{get}
 use Rattle.sc_forms.specs.Forms.{member_form}
 use Rattle.sumcheck_members.specs.declared.member.Member.{Member}
 
@@ -24,6 +25,10 @@ misfit_text m = codes "bad-job " ++ m
 -- what a member is read as in its form, or else the member
 abbrev pub needed : {A : Type 0} → (Data → Option A) → Name → Data → Result A Name
 needed form m d = ok_or (member_form form m d) m
+
+-- the same of a member that may be missing, and means this then
+abbrev pub needed_or : {A : Type 0} → A → (Data → Option A) → Name → Data → Result A Name
+needed_or missing form m d = if is_some (get m d) then needed form m d else Ok missing
 
 -- what goes on where there was no misfit
 abbrev pub unless_misfit : {A B : Type 0} → Result A Name → (A → Result B Name) → Result B Name

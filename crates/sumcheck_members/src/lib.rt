@@ -1,7 +1,7 @@
 //! The members that the jobs of several commands have, each read in its form from a JSON value.
 //!
-//! What a value states is one function of the definitions, `stated_over` in `specs/Stated.antt`, and
-//! what the numbers have that were read is one relation, `StatedFits`. Elements stand by their
+//! What a value states is one function of the definitions, `stated_over` in `specs/Stated.antt`,
+//! and what the numbers have that were read is one relation, `StatedFits`. Elements stand by their
 //! numbers; which statements the claims make is said in `specs/Statements.antt`. The jobs of a
 //! command, which say more than this, are read in the command's crate.
 #![tactic(auto)]
@@ -16,6 +16,6 @@ pub use job::{
     Challenger, EqualityClaim, FieldName, Group, ProductClaim, ScalarClaim, Script, Sizes, Stated,
     SuccessorClaim,
 };
-pub use member::{Member, Unread, need, take};
+pub use member::{Member, Unread, need, need_or, take};
 pub use mode::{BuildOrCheck, BuildOrCheckForm};
-pub use reading::{ChallengerForm, FieldForm, MOST_BITS, OrderForm, read_stated};
+pub use reading::{BasisForm, ChallengerForm, FieldForm, MOST_BITS, OrderForm, read_stated};

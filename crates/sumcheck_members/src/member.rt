@@ -1,7 +1,7 @@
 //! The members of a job, each read in its form.
 ghost use Rattle.std.specs.Prelude.{◌≡◌, Ok, Err, IfOk};
 ghost use Rattle.serde_json.specs.View.{view};
-ghost use Rattle.sumcheck_members.specs.Members.{member_name, needed};
+ghost use Rattle.sumcheck_members.specs.Members.{member_name, needed, needed_or};
 
 use sc_forms::{Form, Misread, member, take_member};
 use serde_json::Value;
@@ -59,7 +59,26 @@ pub fn need<F: Form>(
     }
 }
 
-/// The same of an object that is given up.
+/// A member of a job in its form, or `missing` where it is not there.
+pub fn need_or<F: Form>(
+    alloc: Global,
+    form: &F,
+    value: &Value,
+    name: &'static str,
+    missing: F::Out,
+) -> Result<F::Out, Unread>
+    ensures ok { IfOk result (λ x.
+        needed_or missing (F.reads form.now) name.now (view value.now) ≡ Ok x) }
+    ensures misfit { (m : Member) → result ≡ Err (Unread.Misfit m)
+        → needed_or missing (F.reads form.now) name.now (view value.now) ≡ Err (member_name m) }
+{
+    match value.get(name) {
+        Some(_) => need(alloc, form, value, name),
+        None => Ok(missing),
+    }
+}
+
+/// A member of a job in its form, of an object that is given up.
 pub fn take<F: Form>(
     alloc: Global,
     form: &F,

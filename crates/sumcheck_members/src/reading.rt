@@ -2,7 +2,7 @@
 ghost use Rattle.std.specs.Prelude.{◌≡◌, ◌<◌, Option, Some, None, Ok, Err, IfOk};
 ghost use Rattle.serde_json.specs.View.{view};
 ghost use Rattle.sumcheck_members.specs.Members.{member_name};
-ghost use Rattle.sumcheck_members.specs.Elements.{field_form, order_form, sizes_of};
+ghost use Rattle.sumcheck_members.specs.Elements.{basis_form, field_form, order_form, sizes_of};
 ghost use Rattle.sumcheck_members.specs.Stated.{ChallengerFits, ScriptFits, StatedFits};
 ghost use Rattle.sumcheck_members.specs.Stated.{challenger_form, script_form, stated_over};
 ghost use Rattle.sumcheck_members.specs.Rest.{rest_over, RestFits};
@@ -11,7 +11,7 @@ use crate::groups::GroupsForm;
 use crate::job::{Challenger, FieldName, Group, Script, Sizes, Stated};
 use crate::member::{Member, Unread, need, take};
 use sc_forms::{AtMost, Below, Form, ListOf, Misread, member};
-use sc_table::{Row, VariableOrder};
+use sc_table::{Basis, Row, VariableOrder};
 use serde_json::Value;
 use std::alloc::Global;
 
@@ -101,6 +101,24 @@ impl Form for OrderForm {
         match value.as_str() {
             Some(name) if name == "prefix" => Ok(VariableOrder::Prefix),
             Some(name) if name == "suffix" => Ok(VariableOrder::Suffix),
+            _ => Err(Misread::NotOfForm),
+        }
+    }
+}
+
+/// What the entries of a table are in the rounds on it, by its name.
+#[derive(Clone, Copy)]
+pub struct BasisForm;
+
+impl Form for BasisForm {
+    type Out = Basis;
+
+    ghost reads = { λ _. basis_form };
+
+    fn read(&self, _alloc: Global, value: &Value) -> Result<Basis, Misread> {
+        match value.as_str() {
+            Some(name) if name == "evaluation" => Ok(Basis::Evaluation),
+            Some(name) if name == "projective" => Ok(Basis::Projective),
             _ => Err(Misread::NotOfForm),
         }
     }

@@ -1,6 +1,6 @@
-//! The texts of the errors, the forms of a build, and jobs of `product`.
+//! The texts of the errors, the forms of a build and of a basis, and jobs of `product`.
 use sc_forms::read_value;
-use sc_table::Strategy;
+use sc_table::{Basis, Strategy};
 use std::alloc::Global;
 use std::process::Abort;
 use sumcheck_audit::{Mode, read_job};
@@ -101,6 +101,75 @@ fn anything_else_is_a_bad_mode(rt: HostRuntime) {
     for mode in &NO_BUILDS {
         let found = build_of(&rt, rt.alloc(), *mode);
         assert_eq!(rt; found, Err(Unread::Misfit(Member::named("mode"))), "{mode}");
+    }
+}
+
+// The basis of the job with these members after its mode, or why it is not read.
+fn basis_of<A: Abort>(rt: &A, alloc: Global, members: &str) -> Result<Basis, Unread> {
+    let text = JOB.replace(alloc, "MODE", members).expect(rt, "memory");
+    let value = read_value(alloc, text.as_bytes()).expect(rt, "JSON");
+    Ok(read_job(alloc, value)?.basis)
+}
+
+static BASES: [(&str, Basis); 7] = [
+    (r#"{"build":"plain"}"#, Basis::Evaluation),
+    (
+        r#"{"build":"plain"},"basis":"evaluation""#,
+        Basis::Evaluation,
+    ),
+    (
+        r#"{"build":"plain"},"basis":"projective""#,
+        Basis::Projective,
+    ),
+    (r#"{"check":null},"basis":"projective""#, Basis::Projective),
+    // other members are ignored, and the last of two counts
+    (r#"{"build":"plain"},"Basis":null"#, Basis::Evaluation),
+    (
+        r#"{"build":"plain","basis":"projective"}"#,
+        Basis::Evaluation,
+    ),
+    (
+        r#"{"build":"plain"},"basis":null,"basis":"projective""#,
+        Basis::Projective,
+    ),
+];
+
+#[test]
+fn a_basis_is_named_or_that_of_values(rt: HostRuntime) {
+    for (members, wanted) in &BASES {
+        assert_eq!(rt;
+            basis_of(&rt, rt.alloc(), *members),
+            Ok(*wanted),
+            "{members}"
+        );
+    }
+}
+
+// What is read of a job, and the member that is told.
+static NO_BASES: [(&str, &str); 8] = [
+    (r#"{"build":"plain"},"basis":null"#, "basis"),
+    (r#"{"build":"plain"},"basis":"coefficients""#, "basis"),
+    (r#"{"build":"plain"},"basis":"Projective""#, "basis"),
+    (r#"{"build":"plain"},"basis":0"#, "basis"),
+    (r#"{"build":"plain"},"basis":["projective"]"#, "basis"),
+    (
+        r#"{"build":"plain"},"basis":"projective","basis":1"#,
+        "basis",
+    ),
+    // the mode is told first
+    (r#"{"build":"masked"},"basis":null"#, "mode"),
+    (r#"{},"basis":"projective""#, "mode"),
+];
+
+#[test]
+fn anything_else_is_a_bad_basis(rt: HostRuntime) {
+    for (members, told) in &NO_BASES {
+        let found = basis_of(&rt, rt.alloc(), *members);
+        assert_eq!(rt;
+            found,
+            Err(Unread::Misfit(Member::named(*told))),
+            "{members}"
+        );
     }
 }
 

@@ -2,9 +2,9 @@
 use Rattle.std.specs.Prelude.{◌≡◌, ℕ, suc, List, [], ◌∷◌, ◌++◌, codes, decimal, Option, Some, None, String, string_bytes}
 use Rattle.sc_definitions.specs.Lucky.{Luck, in_batch, in_round}
 use Rattle.sc_verdicts.specs.declared.error.ShapeFault.{ShapeFault}
-use Rattle.sc_verdicts.specs.declared.error.ShapeFault.TheVariants.{TableLength, Difficulty, Arity}
+use Rattle.sc_verdicts.specs.declared.error.ShapeFault.TheVariants.{TableLength, Difficulty, Arity, ProjectiveSuffix}
 use Rattle.sc_verdicts.specs.declared.error.FitFault.{FitFault}
-use Rattle.sc_verdicts.specs.declared.error.FitFault.TheVariants.{Variables, Select, Selector}
+use Rattle.sc_verdicts.specs.declared.error.FitFault.TheVariants.{Projective, Variables, Select, Selector}
 
 -- a text had these bytes added
 abbrev pub Adds : {Z : Type 0} → String Z → String Z → List ℕ → Type 0
@@ -131,14 +131,20 @@ difficulty_text bits bound = codes "job-shape difficulty " ++ decimal bits ++ co
 unfoldable pub arity_text : ℕ → ℕ → List ℕ
 arity_text expected actual = codes "job-shape variables " ++ decimal actual ++ codes " expected " ++ decimal expected
 
+-- coefficients whose rounds are to bind the last variable
+unfoldable pub projective_suffix_text : List ℕ
+projective_suffix_text = codes "job-shape projective-suffix"
+
 -- a job of a wrong shape
 abbrev pub shape_fault_text : ShapeFault → List ℕ
 shape_fault_text (TableLength len) = table_length_text len
 shape_fault_text (Difficulty bits bound) = difficulty_text bits bound
 shape_fault_text (Arity expected actual) = arity_text expected actual
+shape_fault_text ProjectiveSuffix = projective_suffix_text
 
 -- a strategy that does not fit the job
 unfoldable pub fit_fault_text : FitFault → List ℕ
+fit_fault_text Projective = codes "strategy-unfit projective"
 fit_fault_text (Variables variables bound) = codes "strategy-unfit variables " ++ decimal variables ++ codes " bound " ++ decimal bound
 fit_fault_text (Select statement) = codes "strategy-unfit select " ++ decimal statement
 fit_fault_text (Selector statement) = codes "strategy-unfit selector " ++ decimal statement

@@ -7,6 +7,7 @@ ghost use Rattle.sumcheck_replies.specs.Lines.{lucky_round_line, lucky_round_nam
 ghost use Rattle.sumcheck_replies.specs.Lines.{pairs_line, refuted_line, residual_line, round_line};
 ghost use Rattle.sumcheck_replies.specs.Lines.{rounds_text, shape_fault_text, spaced};
 ghost use Rattle.sumcheck_replies.specs.Lines.{arity_text, difficulty_text, table_count_text, table_length_text};
+ghost use Rattle.sumcheck_replies.specs.Lines.{projective_suffix_text};
 ghost use Rattle.sumcheck_replies.specs.Lines.{weight_line, witness_text, witnesses_text};
 ghost use Rattle.sumcheck_replies.specs.Lines.{challenge_part, product_line, round_name, width_text};
 ghost use Rattle.sumcheck_replies.specs.Lines.{layer_name, round_text, witness_part};
@@ -277,6 +278,14 @@ fn arity_text(alloc: Global, expected: usize, actual: usize) -> Result<String, A
     format!(in alloc; "job-shape variables {actual} expected {expected}")
 }
 
+// Coefficients whose rounds are to bind the last variable.
+#[tactic(auto, unfolding(crate::specs::Lines::projective_suffix_text))]
+fn projective_suffix_text(alloc: Global) -> Result<String, AllocError>
+    ensures { IfOk result (λ s. string_bytes s ≡ projective_suffix_text) }
+{
+    format!(in alloc; "job-shape projective-suffix")
+}
+
 /// What does not fit in the shape of a job.
 pub fn shape_fault_text(alloc: Global, fault: ShapeFault) -> Result<String, AllocError>
     ensures { IfOk result (λ s. string_bytes s ≡ shape_fault_text fault) }
@@ -285,6 +294,7 @@ pub fn shape_fault_text(alloc: Global, fault: ShapeFault) -> Result<String, Allo
         ShapeFault::TableLength { len } => table_length_text(alloc, len),
         ShapeFault::Difficulty { bits, bound } => difficulty_text(alloc, bits, bound),
         ShapeFault::Arity { expected, actual } => arity_text(alloc, expected, actual),
+        ShapeFault::ProjectiveSuffix => projective_suffix_text(alloc),
     }
 }
 
@@ -294,6 +304,7 @@ pub fn fit_fault_text(alloc: Global, fault: FitFault) -> Result<String, AllocErr
     ensures { IfOk result (λ s. string_bytes s ≡ fit_fault_text fault) }
 {
     match fault {
+        FitFault::Projective => format!(in alloc; "strategy-unfit projective"),
         FitFault::Variables { variables, bound } => {
             format!(in alloc; "strategy-unfit variables {variables} bound {bound}")
         }

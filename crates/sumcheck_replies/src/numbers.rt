@@ -18,7 +18,7 @@ pub fn elements<F: Field>(alloc: Global, numbers: &[u64]) -> Result<Vec<F>, NoMe
     Ok(found)
 }
 
-/// The same for a list of lists.
+/// The lists of elements with these numbers, list by list.
 pub fn element_lists<F: Field>(alloc: Global, lists: &[Row<u64>]) -> Result<Vec<Vec<F>>, NoMemory>
     requires { All (All (λ n. n < F.ops.size)) lists.now }
     ensures { IfOk result (λ v. map (λ list. map F.number list.items) v.items ≡ lists.now) }

@@ -100,7 +100,7 @@ impl Answer {
         Ok(Answer::new(Outcome::NoWitness, text))
     }
 
-    /// The same in this round.
+    /// A build that finds no witness in this round, in one line that says so.
     pub fn no_witness(alloc: Global, round: usize) -> Result<Self, NoMemory>
         ensures { Replies result (no_witness round) }
     {

@@ -8,6 +8,7 @@ mod lucky;
 mod lucky_products;
 mod made;
 mod products;
+mod projective;
 mod refusals;
 mod small_value;
 mod streams;
@@ -229,7 +230,8 @@ fn list_of<A: Abort>(rt: &A, alloc: Global, claim: &str, count: usize) -> String
 
 const MANY_TEXT: &str = "claim 28672\nresidual 28672\neval 7\nweight 4096\nverdict holds\n";
 
-// How many claims a job has at points, and how many after them at scalars, all of them true, and what is answered.
+// How many claims a job has at points, and how many after them at scalars, all of them true, and
+// what is answered.
 static COUNTS: [(usize, usize, u8, &str); 4] = [
     // 4,096 times 7, and 4,096 weights of 1
     (4096, 0, 0, MANY_TEXT),

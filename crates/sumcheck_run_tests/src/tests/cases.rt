@@ -194,13 +194,13 @@ pub(super) static SAME: [Changed; 10] = [
     // other members are not looked at
     (
         FIRST,
-        (r#""bits""#, r#""basis":"monomial","bits""#),
+        (r#""bits""#, r#""bases":"monomial","bits""#),
         0,
         FIRST_TEXT,
     ),
     (
         FIRST,
-        (r#""bits""#, r#""basis":[],"other":{"field":"16"},"bits""#),
+        (r#""bits""#, r#""bases":[],"other":{"field":"16"},"bits""#),
         0,
         FIRST_TEXT,
     ),

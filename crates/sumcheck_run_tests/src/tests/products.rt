@@ -169,7 +169,9 @@ verdict holds
     ),
 ];
 
-static CHANGED: [Changed; 38] = [
+static CHANGED: [Changed; 39] = [
+    // a product's job has no basis
+    (TWO, (BUILD, r#""build","basis":7"#), 0, TWO_TEXT),
     (
         TWO,
         (
