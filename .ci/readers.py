@@ -24,12 +24,14 @@ SLIPS = [([[65535, 2], [65535, 0]], "the same two values in the other order"),
          ([[2, 0], [0, 65519]], "the value at 1 in the place of the leading coefficient"),
          ([[2, 65531], [0, 0]], "the value at 2 in the place of the leading coefficient"),
          ([[0, 65535], [0, 65535]], "the value at 1 in the place of that at 0"),
-         ([[0, 1], [12, 65531]], 'the round of a build in the order "suffix"')]
+         ([[0, 1], [12, 65531]], 'the round of a build in the order "suffix"'),
+         ([[6, 0], [24, 14]], 'the round of a build in the basis "projective"')]
 
 REFUSALS = {
     "too-long": "", "bad-json": "", "bad-job": " {member}", "false-claim": " {statement} claimed {claimed} true {true}",
     "job-shape table-length": " {length}", "job-shape difficulty": " {difficulty} bound {bound}",
     "job-shape variables": " {variables} expected {expected}", "strategy-unfit variables": " {variables} bound {bound}",
+    "job-shape projective-suffix": "", "strategy-unfit projective": "",
     "strategy-unfit select": " {statement}", "strategy-unfit selector": " {statement}",
 }
 PROOFS = {

@@ -1,7 +1,7 @@
 #!/usr/bin/env python3
 """Measures `audit` on a job with one equality claim, for one program or for several side by side.
 
-usage: bench/audit.py [--variables N] [--repeats N] [--field NAME] [--represented | --small-value L] [--kinds] [--suffix] [--hash] [--bits N] [--seed N] [--check] PROGRAM [PROGRAM ..]
+usage: bench/audit.py [--variables N] [--repeats N] [--field NAME] [--represented | --small-value L] [--kinds] [--suffix | --projective] [--hash] [--bits N] [--seed N] [--check] PROGRAM [PROGRAM ..]
 
 The field is "65537", or by --field "257x2" or "16"; with --represented the build is so, and with --small-value its first L rounds are from grids. With --kinds the job has one claim of each kind: an equality, a successor in the slot of a selector of one coordinate, a
 scalar and a direct point. The job is built in prefix order, or with --suffix in suffix order, under a script of draws, or with --hash under the hash challenger; with --bits each
@@ -58,7 +58,7 @@ def job(given, mode):
         "bits": given.bits, "table": table, "variables": variables,
         "groups": groups(field, table, point, rng, given),
         "batching": 40503 % field.size, "mode": mode,
-    }, separators=(",", ":"))
+    } | ({"basis": "projective"} if given.projective else {}), separators=(",", ":"))
 
 
 def proof(command, given, folder):
@@ -83,6 +83,7 @@ def main():
     arguments.add_argument("--small-value", dest="build", type=lambda rounds: {"small-value": int(rounds)}, metavar="L")
     arguments.add_argument("--kinds", action="store_true")
     arguments.add_argument("--suffix", action="store_true")
+    arguments.add_argument("--projective", action="store_true")
     arguments.add_argument("--hash", action="store_true")
     arguments.add_argument("--bits", type=int, default=0)
     arguments.add_argument("--seed", type=int)

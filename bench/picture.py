@@ -37,9 +37,11 @@ def inner(field, table, weights):
     return total(field, map(field.mul, table, weights))
 
 
-def bound(field, table, challenge, order):
+def bound(field, table, challenge, order, basis="evaluation"):
     """A table with its first variable, or its last one, at a challenge."""
     half = len(table) // 2
+    if basis == "projective":
+        return [field.add(a, field.mul(b, challenge)) for a, b in zip(table[:half], table[half:])]
     pairs = zip(table[:half], table[half:]) if order == "prefix" else zip(table[::2], table[1::2])
     return [field.add(a, field.mul(field.sub(b, a), challenge)) for a, b in pairs]
 
@@ -58,12 +60,12 @@ def batched(field, job):
 
 def audit_courses(job, report):
     """Of a job for `audit`: the claim that runs through the rounds and the true one, before the first round and after each; what is false at the start."""
-    field = FIELDS[job["field"]]
+    field, basis = FIELDS[job["field"]], job.get("basis", "evaluation")
     weights, claim, false, count = batched(field, job)
     table, claims, true = job["table"], [claim], [inner(field, job["table"], weights)]
     for it in report["rounds"]:
-        claims.append(left(field, claims[-1], it["values"], it["challenge"]))
-        table, weights = (bound(field, part, it["challenge"], job["order"]) for part in (table, weights))
+        claims.append(left(field, claims[-1], it["values"], it["challenge"], basis))
+        table, weights = (bound(field, part, it["challenge"], job["order"], basis) for part in (table, weights))
         true.append(inner(field, table, weights))
     agree = (table, weights) == ([report["eval"]], [report["weight"]])
     return claims, true, false and f"{false} of {count} false", agree

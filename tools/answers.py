@@ -26,6 +26,8 @@ SINGLE = [(re.compile(line.replace("N", NUMBER)), outcome, cause, names) for lin
     ("refused job-shape (table-length) N", "refused", "job-shape", "fault", "length"),
     ("refused job-shape (difficulty) N bound N", "refused", "job-shape", "fault", "difficulty", "bound"),
     ("refused job-shape (variables) N expected N", "refused", "job-shape", "fault", "variables", "expected"),
+    ("refused job-shape (projective-suffix)", "refused", "job-shape", "fault"),
+    ("refused strategy-unfit (projective)", "refused", "strategy-unfit", "fault"),
     ("refused strategy-unfit (variables) N bound N", "refused", "strategy-unfit", "fault", "variables", "bound"),
     ("refused strategy-unfit (select|selector) N", "refused", "strategy-unfit", "fault", "statement"),
     ("refused false-claim N claimed N true N", "refused", "false-claim", "statement", "claimed", "true"),

@@ -79,11 +79,14 @@ def total(field, numbers):
     return result
 
 
-def left(field, claim, values, challenge):
+def left(field, claim, values, challenge, basis="evaluation"):
     """What a round of two values leaves of a claim at its challenge."""
     a, b = values
-    slope = field.sub(field.sub(field.sub(claim, a), a), b)
-    return field.add(a, field.mul(challenge, field.add(slope, field.mul(b, challenge))))
+    if basis == "projective":
+        constant, slope = field.sub(claim, b), field.sub(a, claim)
+    else:
+        constant, slope = a, field.sub(field.sub(field.sub(claim, a), a), b)
+    return field.add(constant, field.mul(challenge, field.add(slope, field.mul(b, challenge))))
 
 
 def inverse(field, x):

@@ -150,6 +150,9 @@ class Forms:
         name = exactly_one(value, path, "build", "check")
         member(value, path, name, self.strategy if name == "build" else self.check)
 
+    def basis(self, value, path):
+        one_of("evaluation", "projective")(value, path)
+
     def strategy(self, value, path):
         if value.kind == "string":
             one_of("plain", "represented")(value, path)
@@ -186,10 +189,12 @@ class Forms:
         member(value, path, "witnesses", list_of(self.base, named="witness"))
 
 
-# The members of a job in the order in which they are tested, each with its form.
+# The members of a job in the order in which they are tested, each with its form; and those that may be missing.
 AUDIT = {"field": Forms.field, "challenger": Forms.challenger, "order": lambda forms, *it: forms.order(*it), "bits": Forms.bits,
-         "table": Forms.table, "variables": Forms.count, "groups": Forms.groups, "batching": Forms.batching, "mode": Forms.mode}
+         "table": Forms.table, "variables": Forms.count, "groups": Forms.groups, "batching": Forms.batching, "mode": Forms.mode,
+         "basis": Forms.basis}
 PRODUCT = {"field": Forms.field, "challenger": Forms.challenger, "bits": Forms.bits, "tables": Forms.tables, "mode": Forms.product_mode}
+OPTIONAL = {"basis"}
 
 
 def members_of(command):
@@ -202,6 +207,8 @@ def misfit(job, command):
         return "job", Misfit("job", job, "an object")
     forms = Forms(job)
     for name, form in members_of(command).items():
+        if name in OPTIONAL and job.member(name) is None:
+            continue
         try:
             member(job, "", name, lambda value, path: form(forms, value, path))
         except Misfit as found:

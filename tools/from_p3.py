@@ -168,8 +168,6 @@ def checked(kind, rest):
         raise Refused(f"a proof of the struct {kind}; carried are SumcheckData and GenericDegreeProof")
     if "challenger" in rest:
         raise Refused(f"the challenger {rest['challenger']}: its transcript is not replayed here; hand in the challenges that it drew")
-    if str(rest.get("basis", "evaluation")).lower() != "evaluation":
-        raise Refused(f"rounds in the {rest['basis']} basis")
     unknown = sorted(set(rest) - MEMBERS[kind])
     if unknown:
         raise Refused(f"the member {unknown[0]} of the rest; known are " + ", ".join(sorted(MEMBERS[kind])))
@@ -213,11 +211,14 @@ def quadratic(elements, proof, rest):
     table = elements.bases(needed(rest, "table"), "table entry")
     rounds = [elements.extensions(it, f"round {i}, value") for i, it in enumerate(listed(needed(proof, "polynomial_evaluations", "proof"), "polynomial_evaluations"))]
     witnesses = elements.bases(needed(proof, "pow_witnesses", "proof"), "witness")
+    basis = str(rest.get("basis", "evaluation")).lower()
+    if basis not in ("evaluation", "projective"):
+        raise Refused(f"rounds in the {rest['basis']} basis")
     return {
         "field": elements.field, "challenger": challenger(elements, rest, rounds, witnesses), "order": str(rest.get("order", "prefix")).lower(),
         "bits": rest.get("bits", 0), "table": table, "variables": max(len(table), 1).bit_length() - 1, "groups": groups(elements, rest),
         "batching": batching(elements, rest), "mode": {"check": {"rounds": rounds, "witnesses": witnesses}},
-    }
+    } | ({"basis": basis} if basis == "projective" else {})
 
 
 def product(elements, proof, rest):

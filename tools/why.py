@@ -136,8 +136,13 @@ def variables(case):
              f"{case.told['expected']} variables.")
 
 
+def projective_suffix(case):
+    case.say(f'At {case.at(case.value.member("order").start)}, the order is "suffix", and the basis is "projective", at '
+             f'{case.at(case.value.member("basis").start)}: a table of coefficients has rounds in the order "prefix" alone.')
+
+
 def job_shape(case):
-    {"table-length": table_length, "difficulty": difficulty, "variables": variables}[case.told["fault"]](case)
+    {"table-length": table_length, "difficulty": difficulty, "variables": variables, "projective-suffix": projective_suffix}[case.told["fault"]](case)
 
 
 def strategy_unfit(case):
@@ -145,6 +150,10 @@ def strategy_unfit(case):
         value = case.value.member("mode").member("build").member("small-value")
         case.say(f"At {case.at(value.start)}, grids are asked for in {case.told['variables']} rounds, and can be made in 1 to {case.told['bound']}: "
                  "at most as many as there are variables, and at most 12.")
+        return
+    if case.told["fault"] == "projective":
+        case.say(f'At {case.at(case.value.member("mode").member("build").start)}, the build is not "plain", and the basis is "projective", at '
+                 f'{case.at(case.value.member("basis").start)}: a table of coefficients has a "plain" build alone.')
         return
     what = 'is of the kind "select"' if case.told["fault"] == "select" else "has a selector"
     case.say(f"Statement {case.told['statement']} {what}: {statement_at(case, case.told['statement'])}.",
@@ -185,9 +194,9 @@ def parts(case, challenge):
     return [challenge % 257, challenge // 257] if case.job()["field"] == "257x2" else [challenge]
 
 
-def true_build(case, challenges, order=None):
+def true_build(case, challenges, changed=None):
     """A build of the same job with true claims: under the challenges that were drawn, or else the job's own challenger."""
-    job = case.job() | ({"order": order} if order else {})
+    job = case.job() | (changed or {})
     if challenges is not None:
         draws = [part for it in challenges for part in parts(case, it)]
         job |= {"challenger": {"draws": draws, "witnesses": []}, "bits": 0}
@@ -196,11 +205,20 @@ def true_build(case, challenges, order=None):
     return truth.built("audit", truth.filled(job) | {"mode": {"build": "plain"}})
 
 
+def other_jobs(job):
+    """What a job may have been meant to say: the other order, where its basis has it, and the other basis, where its order has it."""
+    projective = job.get("basis") == "projective"
+    if not projective:
+        yield "order", "suffix" if job["order"] == "prefix" else "prefix"
+    if job["order"] == "prefix":
+        yield "basis", "evaluation" if projective else "projective"
+
+
 def say_likely(case, built, number, challenges):
     """What the first round that differs looks like, where it is one for `audit`."""
     if case.command == "audit" and len(rounds_of(case)[0][number]) == 2:
-        other = true_build(case, challenges, "suffix" if case.job()["order"] == "prefix" else "prefix")[1].get("rounds", [])
-        case.say(*likely.guesses(case.job(), built, number, rounds_of(case)[0][number], other))
+        others = {f'{member} "{word}"': true_build(case, challenges, {member: word})[1].get("rounds", []) for member, word in other_jobs(case.job())}
+        case.say(*likely.guesses(case.job(), built, number, rounds_of(case)[0][number], others))
 
 
 def compare(case, built, whose):
