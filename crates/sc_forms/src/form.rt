@@ -48,15 +48,16 @@ pub trait Form {
     /// What each value that is read has, as being below a bound.
     ghost fits: { Self → Self.Out → Type 0 } = { λ _ _. ⊤ };
 
-    /// Reads a value. `NotOfForm` is answered exactly where the value is not of the form, unless there
-    /// is no memory.
+    /// Reads a value. `NotOfForm` is answered exactly where the value is not of the form, unless
+    /// there is no memory.
     fn read(&self, alloc: Global, value: &Value) -> Result<Self::Out, Misread>
         ensures ok { IfOk result (λ x. reads self.now (view value.now) ≡ Some x) }
         ensures not_of_form { IsErrOf result Misread.NotOfForm
             → reads self.now (view value.now) ≡ None }
         ensures fits { IfOk result (fits self.now) };
 
-    /// The same of a value that is given up. A long list is given up as it is read, item by item.
+    /// Reads a value, as [`Form::read`] does, and gives it up: a long list as it is read, item by
+    /// item.
     fn take(&self, alloc: Global, value: Value) -> Result<Self::Out, Misread>
         ensures ok { IfOk result (λ x. reads self.now (view value) ≡ Some x) }
         ensures not_of_form { IsErrOf result Misread.NotOfForm
@@ -94,7 +95,7 @@ pub fn member<F: Form>(
     }
 }
 
-/// The same of an object that is given up.
+/// Reads a member of an object, as [`member`] does, and gives the object up.
 pub fn take_member<F: Form>(
     alloc: Global,
     form: &F,
