@@ -118,10 +118,12 @@ impl<A: Field> RoundMessage<A> {
         requires weights { half + half ≤ length weights.now }
         requires few { rows ≤ 512 }
         ensures first { A.number result.c_a
-            ≡ A.number self.c_a +⟨ A.ops ⟩ sum_from A.ops from rows (first_term projective prefix A.ops half
+            ≡ A.number self.c_a +⟨ A.ops ⟩ sum_from A.ops from rows
+            (first_term projective prefix A.ops half
             (entries (λ x. A.embedding (B.number x)) evals.now) (entries A.number weights.now)) }
         ensures leading { A.number result.c_inf
-            ≡ A.number self.c_inf +⟨ A.ops ⟩ sum_from A.ops from rows (leading_term projective prefix A.ops half
+            ≡ A.number self.c_inf +⟨ A.ops ⟩ sum_from A.ops from rows
+            (leading_term projective prefix A.ops half
             (entries (λ x. A.embedding (B.number x)) evals.now) (entries A.number weights.now)) }
     {
         let high = half + from;
