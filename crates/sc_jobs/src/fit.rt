@@ -26,10 +26,10 @@ pub fn check_strategy<F: Field, EF: ExtensionField<F>>(
     match strategy {
         Strategy::Plain => Ok(()),
         Strategy::Represented => check_values(fitting.job.basis),
-        Strategy::SmallValue { variables } => match check_values(fitting.job.basis) {
-            Ok(()) => check_small_values(&fitting.job.constraint, variables),
-            Err(error) => Err(error),
-        },
+        Strategy::SmallValue { variables } => {
+            check_values(fitting.job.basis)?;
+            check_small_values(&fitting.job.constraint, variables)
+        }
     }
 }
 
