@@ -100,6 +100,4 @@ impl Field for F31 {
             Some(self.exp_u64(29))
         }
     }
-
-    fn blocks_fit() {}
 }

@@ -68,6 +68,21 @@ only_line o table (u ∷ us) t i j x some is = ap (λ v. times o (line_at o (tab
 pub record AreProducts {X T : Type 0} (number : X → ℕ) (o : Ops) (table : T → ℕ → ℕ) (tables : List T) (low high x n : ℕ) (rows : List X) : Type 0 where
   pub are : (b : ℕ) → b < length rows → entries number rows b ≡ lines_at o (map table (take n tables)) (low + b) (high + b) x
 
+module _ {T : Type 0} (o : Ops) (ring : IsRing o) (table : T → ℕ → ℕ) (tables : List T) (low high x : ℕ) where
+  -- the product of no lines
+  pub lines-none : (v : ℕ) → v ≡ 1 → v ≡ lines_at o (map table (take 0 tables)) low high x
+  unfolding lines_at
+  lines-none v is = is
+
+  -- one table more
+  pub lines-next : (n : ℕ) (t : T) (before after line : ℕ) → n < length tables → t ≡ get_or tables n t →
+      before ≡ lines_at o (map table (take n tables)) low high x → line ≡ line_at o (table t low) (table t high) x → after ≡ times o before line →
+      after ≡ lines_at o (map table (take (n + 1) tables)) low high x
+  lines-next n t before after line inside is so_far line_is more =
+      more ∙ ap (λ v. times o v line) so_far ∙ ap (times o (lines_at o (map table (take n tables)) low high x)) line_is
+      ∙ sym (lines_at-append o ring (map table (take n tables)) (table t) low high x)
+      ∙ sym (ap (λ fs. lines_at o fs low high x) (map_more table tables n t inside ∙ ap (λ u. map table (take n tables) ++ table u ∷ []) (sym is)))
+
 module _ {X T : Type 0} (number : X → ℕ) (o : Ops) (ring : IsRing o) (table : T → ℕ → ℕ) (tables : List T) (low high x : ℕ) where
   -- the product of the first one alone
   pub products-first : (rows : List X) (t : T) (f g : ℕ → ℕ) → 0 < length tables → t ≡ get_or tables 0 t →

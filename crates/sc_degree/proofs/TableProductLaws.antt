@@ -1,5 +1,5 @@
 -- Rounds over a product of tables, by the lines through the rows of their halves.
-use Rattle.std.proofs.Common.{◌≡◌, ◌≢◌, ℕ, zero, suc, ◌+◌, ◌-◌, ◌/◌, ◌^◌, ◌<◌, List, [], ◌∷◌, length, map, slice_index, if◌then◌else◌, ne_eqb, sym, ◌∙◌, ap, refl, arith}
+use Rattle.std.proofs.Common.{◌≡◌, ◌≢◌, ℕ, zero, suc, ◌+◌, ◌-◌, ◌/◌, ◌^◌, ◌<◌, List, [], ◌∷◌, length, map, slice_index, if◌then◌else◌, ne_eqb, get_or, All, sym, ◌∙◌, ap, refl, subst, arith}
 use Rattle.std.specs.List.{range_with_len}
 use Rattle.sc_definitions.specs.Ring.{Ops, IsRing, times}
 use Rattle.sc_definitions.specs.Tables.{sum_below, value, digits, bound}
@@ -9,6 +9,11 @@ use Rattle.sc_definitions.specs.Products.{values_product, product_claim, product
 use Rattle.sc_definitions.proofs.Sums.{sum-same}
 use Rattle.sc_definitions.proofs.TableLaws.{two_halves, value-bound, value-digits, length-digits}
 use Rattle.sc_definitions.proofs.ProductLaws.{product_round-at}
+use Rattle.sc_definitions.proofs.Lists.{read_has}
+use Rattle.sc_table.specs.declared.poly.Poly.{Poly}
+use Rattle.sc_table.specs.Polys.{variables_of, table_of}
+use Rattle.sc_degree.specs.declared.table_product.TableProduct.{TableProduct}
+use Rattle.sc_degree.specs.Products.{tables_of, product_arity}
 use Rattle.sc_degree.specs.Nodes.{node_of}
 use Rattle.sc_degree.specs.Lines.{line_at, lines_at}
 use Rattle.sc_degree.proofs.LineLaws.{element-line_at, line_at-zero}
@@ -57,6 +62,17 @@ module _ (o : Ops) (ring : IsRing o) where
   claim-rows fs m n x none size =
       ap (λ k. sum_below o k (λ b. lines_at o fs b b x)) size
       ∙ sum-same o (2 ^ m) _ _ (λ b low. sym (values-rows fs m b x none low))
+
+  -- the same of a product's own tables, which have as many rows as the first of them
+  pub sum-whole : {A : Type 0} (number : A → ℕ) (p : TableProduct A) (tables : List (Poly A)) (first : Poly A) (n x : ℕ) →
+      tables ≡ p.tables.items → first ≡ get_or tables 0 first → n ≡ 2 ^ variables_of first → x ≡ 0 →
+      sum_below o n (λ b. lines_at o (map (table_of number) tables) b b x) ≡ product_claim o (tables_of number p) [] (product_arity p)
+  sum-whole number p tables first n x are is size none =
+      let some : 0 < length tables = omega (arith, ap length are, p.some) in
+      let all = subst (All (λ t. variables_of t ≡ p.variables)) (sym are) p.same in
+      let arity : variables_of first ≡ p.variables = read_has (λ t. variables_of t ≡ p.variables) tables 0 first all some is in
+      claim-rows (map (table_of number) tables) p.variables n x none (size ∙ ap (λ k. 2 ^ k) arity)
+      ∙ ap (λ ts. product_claim o (map (table_of number) ts) [] p.variables) are
 
   -- the sum of the lines at x is the round's polynomial there
   pub round-lines : (fs : List (ℕ → ℕ)) (m half x : ℕ) → half ≡ 2 ^ m →

@@ -5,6 +5,7 @@ ghost use Rattle.sc_definitions.specs.Ring.{◌+⟨◌⟩◌, ◌*⟨◌⟩◌};
 ghost use Rattle.sc_definitions.specs.Tables.{prefix, sum_below, entries};
 ghost use Rattle.sc_definitions.specs.Products.{product_claim};
 ghost use Rattle.sc_table.specs.declared.poly.Poly.{Poly};
+ghost use Rattle.sc_table.specs.Blocks.{FitsInBlocks};
 ghost use Rattle.sc_table.specs.Polys.{variables_of, table_of, IsFixed};
 ghost use Rattle.sc_degree.specs.Nodes.{node_of};
 ghost use Rattle.sc_degree.specs.Lines.{line_at, lines_at};
@@ -13,7 +14,7 @@ ghost use Rattle.sc_degree.specs.Arities.{first_arity, HaveArity};
 use crate::prover::RoundProver;
 use crate::util::RoundPolyInterpolator;
 use sc_field::{Field, NoMemory};
-use sc_table::Poly;
+use sc_table::{Poly, fits_in_blocks};
 use std::alloc::Global;
 
 // How many rows a pass takes in one go.
@@ -53,28 +54,14 @@ impl<EF: Field> TableProduct<EF> {
         ensures { EF.number result ≡ product_claim EF.ops (tables_of EF.number self.now) []
             (product_arity self.now) }
     {
-        EF::blocks_fit();
-        let mut products = [EF::ZERO; BLOCK];
-        let ones = [EF::ONE; BLOCK];
+        // A line through one row twice is its value.
         let tables = self.tables.as_slice();
-        let len = tables[0].num_evals();
-        let mut sum = EF::ZERO;
-        let mut from = 0;
-        while from < len {
-            // A line through one row twice is its value.
-            let rows = (len - from).min(BLOCK);
-            let gained = block_sum(
-                tables,
-                from,
-                from,
-                EF::ZERO,
-                &mut products[..rows],
-                &ones[..rows],
-            );
-            sum = sum.add(gained);
-            from += rows;
+        let rows = tables[0].num_evals();
+        if fits_in_blocks::<EF>() {
+            sum_by_blocks(tables, rows)
+        } else {
+            sum_singly(tables, rows, 0, EF::ZERO)
         }
-        sum
     }
 }
 
@@ -108,6 +95,65 @@ impl<EF: Field> RoundProver<EF> for TableProduct<EF> {
     }
 }
 
+// The sum, over so many rows, of the product of the tables, by blocks of rows.
+fn sum_by_blocks<EF: Field>(tables: &[Poly<EF>], rows: usize) -> EF
+    requires fits { FitsInBlocks EF.row }
+    requires some { 0 < length tables.now }
+    requires rows { All (λ t. rows ≤ 2 ^ variables_of t) tables.now }
+    ensures { EF.number result ≡ sum_below EF.ops rows
+        (λ b. lines_at EF.ops (map (table_of EF.number) tables.now) b b 0) }
+{
+    let mut products = [EF::ZERO; BLOCK];
+    let ones = [EF::ONE; BLOCK];
+    let mut sum = EF::ZERO;
+    let mut from = 0;
+    while from < rows {
+        let block = (rows - from).min(BLOCK);
+        let gained = block_sum(
+            tables,
+            from,
+            from,
+            EF::ZERO,
+            &mut products[..block],
+            &ones[..block],
+        );
+        sum = sum.add(gained);
+        from += block;
+    }
+    sum
+}
+
+// The sum, over so many rows, of the product of the tables' lines at `x`, row after row: each line
+// goes from a row to the one so many rows further on.
+fn sum_singly<EF: Field>(tables: &[Poly<EF>], rows: usize, apart: usize, x: EF) -> EF
+    requires fits { apart + rows < 2 ^ 64 }
+    requires rows { All (λ t. apart + rows ≤ 2 ^ variables_of t) tables.now }
+    ensures { EF.number result ≡ sum_below EF.ops rows
+        (λ b. lines_at EF.ops (map (table_of EF.number) tables.now) b (apart + b) (EF.number x)) }
+{
+    let mut sum = EF::ZERO;
+    for b in 0..rows {
+        sum = sum.add(product_at(tables, b, apart + b, x));
+    }
+    sum
+}
+
+// The product of the values at `x` of the tables' lines through two rows.
+fn product_at<EF: Field>(tables: &[Poly<EF>], low: usize, high: usize, x: EF) -> EF
+    requires low { All (λ t. low < 2 ^ variables_of t) tables.now }
+    requires high { All (λ t. high < 2 ^ variables_of t) tables.now }
+    ensures { EF.number result
+        ≡ lines_at EF.ops (map (table_of EF.number) tables.now) low high (EF.number x) }
+{
+    let mut product = EF::ONE;
+    for index in 0..tables.len() {
+        let table = tables[index].as_slice();
+        let (lo, hi) = (table[low], table[high]);
+        product = product.mul(lo.add(hi.sub(lo).mul(x)));
+    }
+    product
+}
+
 // Binds the first variable of each table at `r`, in its place.
 fn bind_first<EF: Field>(tables: &mut [Poly<EF>], r: EF)
     requires { All (λ t. 0 < variables_of t) tables.old }
@@ -132,7 +178,42 @@ fn add_rows<EF: Field>(values: &mut [EF], tables: &[Poly<EF>], half: usize)
         +⟨ EF.ops ⟩ sum_below EF.ops half
         (λ b. lines_at EF.ops (map (table_of EF.number) tables.now) b (half + b) (node_of k)) }
 {
-    EF::blocks_fit();
+    if fits_in_blocks::<EF>() {
+        add_rows_by_blocks(values, tables, half);
+    } else {
+        add_rows_singly(values, tables, half);
+    }
+}
+
+// The same, row after row.
+fn add_rows_singly<EF: Field>(values: &mut [EF], tables: &[Poly<EF>], half: usize)
+    requires halves { All (λ t. half + half ≡ 2 ^ variables_of t) tables.now }
+    requires fits { half + half < 2 ^ 64 }
+    requires nodes { length values.old < EF.ops.size }
+    ensures { (k : ℕ) → k < length values.old → entries EF.number values.new k
+        ≡ entries EF.number values.old k
+        +⟨ EF.ops ⟩ sum_below EF.ops half
+        (λ b. lines_at EF.ops (map (table_of EF.number) tables.now) b (half + b) (node_of k)) }
+{
+    for index in 0..values.len() {
+        let node = RoundPolyInterpolator::transmitted_node(index);
+        let gained = sum_singly(tables, half, half, node);
+        values[index] = values[index].add(gained);
+    }
+}
+
+// The same, by blocks of rows.
+fn add_rows_by_blocks<EF: Field>(values: &mut [EF], tables: &[Poly<EF>], half: usize)
+    requires blocks { FitsInBlocks EF.row }
+    requires some { 0 < length tables.now }
+    requires halves { All (λ t. half + half ≡ 2 ^ variables_of t) tables.now }
+    requires fits { half + half < 2 ^ 64 }
+    requires nodes { length values.old < EF.ops.size }
+    ensures { (k : ℕ) → k < length values.old → entries EF.number values.new k
+        ≡ entries EF.number values.old k
+        +⟨ EF.ops ⟩ sum_below EF.ops half
+        (λ b. lines_at EF.ops (map (table_of EF.number) tables.now) b (half + b) (node_of k)) }
+{
     let mut products = [EF::ZERO; BLOCK];
     let ones = [EF::ONE; BLOCK];
     let mut from = 0;

@@ -1,15 +1,15 @@
 //! The round of a proof that turned a false claim about a product of tables into the true one.
-ghost use Rattle.std.specs.Prelude.{◌≡◌, ◌≢◌, ◌+◌, ◌<◌, ◌≤◌, [], All, length, map, option_map};
+ghost use Rattle.std.specs.Prelude.{◌≡◌, ◌≢◌, ◌+◌, ◌<◌, ◌≤◌, [], length, map, option_map};
 ghost use Rattle.std.specs.Prelude.{IfOk, IfSome, IsSome, OnErr, OnOk};
 ghost use Rattle.sc_definitions.specs.Interpolation.{next_through, sent_through};
-ghost use Rattle.sc_definitions.specs.Lucky.{IsTurn, first_turn, product_course};
+ghost use Rattle.sc_definitions.specs.Lucky.{IsTurn, first_turn};
 ghost use Rattle.sc_definitions.specs.Polynomials.{poly_minus};
-ghost use Rattle.sc_definitions.specs.Products.{product_claim, values_product};
 ghost use Rattle.sc_definitions.specs.Rounds.{claim_along};
 ghost use Rattle.sc_degree.specs.Interpolators.{degree_of};
 ghost use Rattle.sc_degree.specs.Products.{product_arity, prover_of, tables_of};
 ghost use Rattle.sc_degree.specs.Provers.{IsFolded, IsFoldedInPart};
-ghost use Rattle.sc_degree.specs.Turns.{product_turn};
+ghost use Rattle.sc_degree.specs.Turns.{product_turn, messages_in, own_sum, own_course, own_value};
+ghost use Rattle.sc_degree.specs.Turns.{AreRoundsOf, IsBoundAt};
 
 use crate::coefficients::difference;
 use crate::prover::RoundProver;
@@ -45,28 +45,21 @@ pub fn find_turn<EF: Field>(
     messages: &[Vec<EF>],
     challenges: &[EF],
 ) -> Result<Option<FoundTurn<EF>>, NoMemory>
-    requires messages { length messages.now ≡ product_arity product.old }
-    requires challenges { length challenges.now ≡ product_arity product.old }
-    requires widths { All (λ m. length m.items ≡ length (tables_of EF.number product.old))
-        messages.now }
+    requires rounds { AreRoundsOf EF.number product.old messages.now challenges.now }
     requires few { length (tables_of EF.number product.old) < EF.ops.size }
     ensures found { IfOk result (λ found. option_map (product_turn EF.number) found
-        ≡ first_turn (product_course EF.ops (tables_of EF.number product.old)) 0
-        (EF.number claim) (map (λ m. map EF.number m.items) messages.now) []
-        (map EF.number challenges.now)) }
-    ensures certified { EF.number claim ≢ product_claim EF.ops (tables_of EF.number product.old) []
-        (product_arity product.old) → IfOk result (λ found. IfSome found (λ t. IsTurn EF.ops
-        (length (tables_of EF.number product.old) + 1) 0 (map EF.number challenges.now)
-        (product_turn EF.number t))) }
-    ensures some { EF.number claim ≢ product_claim EF.ops (tables_of EF.number product.old) []
-        (product_arity product.old) → claim_along (next_through EF.ops) (EF.number claim)
-        (map (λ m. map EF.number m.items) messages.now) (map EF.number challenges.now)
-        ≡ values_product EF.ops (tables_of EF.number product.old) (map EF.number challenges.now)
+        ≡ first_turn (own_course EF.ops EF.number product.old) 0 (EF.number claim)
+        (messages_in EF.number messages.now) [] (map EF.number challenges.now)) }
+    ensures certified { EF.number claim ≢ own_sum EF.ops EF.number product.old → IfOk result
+        (λ found. IfSome found (λ t. IsTurn EF.ops (length (tables_of EF.number product.old) + 1) 0
+        (map EF.number challenges.now) (product_turn EF.number t))) }
+    ensures some { EF.number claim ≢ own_sum EF.ops EF.number product.old
+        → claim_along (next_through EF.ops) (EF.number claim) (messages_in EF.number messages.now)
+        (map EF.number challenges.now)
+        ≡ own_value EF.ops EF.number product.old (map EF.number challenges.now)
         → IfOk result IsSome }
-    ensures arity { OnOk result (product_arity product.new ≡ 0) }
-    ensures bound { OnOk result (product_claim EF.ops (tables_of EF.number product.new) [] 0
-        ≡ values_product EF.ops (tables_of EF.number product.old)
-        (map EF.number challenges.now)) }
+    ensures bound { OnOk result (IsBoundAt EF.ops EF.number product.old
+        (map EF.number challenges.now) product.new) }
     ensures refused { OnErr result (IsFoldedInPart (map EF.number challenges.now)
         (prover_of EF.ops (tables_of EF.number product.old) (product_arity product.old))
         (prover_of EF.ops (tables_of EF.number product.new) (product_arity product.new))) }

@@ -3,8 +3,6 @@ ghost use Rattle.std.specs.Prelude.{◌≡◌, ℕ, ◌+◌, ◌*◌, ◌<◌, �
 ghost use Rattle.sc_definitions.specs.Ring.{Ops, IsField, opposite, power, ◌+⟨◌⟩◌, ◌-⟨◌⟩◌, ◌*⟨◌⟩◌};
 ghost use Rattle.sc_definitions.specs.Tables.{entries};
 ghost use Rattle.sc_field.specs.Products.{products, differences, even_rows, odd_rows};
-ghost use prog.Memory.{size as size_in_bytes};
-ghost use denote.Param.{layout};
 
 use crate::powers::Powers;
 
@@ -204,11 +202,6 @@ pub trait Field: Copy + Eq {
             base: self,
         }
     }
-
-    /// Elements are so small that 256 of them have fewer than 2^63 bytes as one array: a law, by which
-    /// generic code may make such an array. Its body is empty.
-    fn blocks_fit()
-        ensures { 256 * size_in_bytes (layout Self.row) < 2 ^ 63 };
 
     // The numbers below the size, with these operations, are a field: a commutative ring of 16 to
     // 2^32 numbers in which each but 0 has an inverse.

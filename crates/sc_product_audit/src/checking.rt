@@ -1,11 +1,11 @@
 //! Rounds of a proof over a product that are checked.
-ghost use Rattle.std.specs.Prelude.{◌≡◌, ◌≢◌, ◌<◌, ◌≤◌, ◌==◌, All, []};
+ghost use Rattle.std.specs.Prelude.{◌≡◌, ◌≢◌, ◌<◌, ◌≤◌, ◌==◌, []};
 ghost use Rattle.std.specs.Prelude.{IfOk, length, map, option_map};
 ghost use Rattle.sc_definitions.specs.Lucky.{first_turn, product_course};
 ghost use Rattle.sc_definitions.specs.Products.{values_product};
 ghost use Rattle.sc_challenger.specs.Parties.{channel_by};
 ghost use Rattle.sc_degree.specs.Products.{product_arity, tables_of};
-ghost use Rattle.sc_degree.specs.Turns.{product_turn};
+ghost use Rattle.sc_degree.specs.Turns.{product_turn, messages_in, AreRoundsOf};
 ghost use Rattle.sc_product_audit.specs.ProductCases.{to_check};
 ghost use Rattle.sc_product_audit.specs.ProductJobs.{given_by};
 ghost use Rattle.sc_product_audit.specs.ProductReports.{luck_found, product_finding, result_in};
@@ -103,10 +103,7 @@ fn end_at<F: Field, EF: ExtensionField<F>>(
     proof: &GenericDegreeProof<F, EF>,
     challenges: &[EF],
 ) -> Result<(EF, Option<FoundTurn<EF>>), NoMemory>
-    requires messages { length proof.now.round_polys.items ≡ product_arity product }
-    requires challenges { length challenges.now ≡ product_arity product }
-    requires widths { All (λ m. length m.items ≡ length (tables_of EF.number product))
-        proof.now.round_polys.items }
+    requires rounds { AreRoundsOf EF.number product proof.now.round_polys.items challenges.now }
     requires few { length (tables_of EF.number product) < EF.ops.size }
     ensures product { IfOk result (λ e. EF.number e.0 ≡ values_product EF.ops
         (tables_of EF.number product) (map EF.number challenges.now)) }
@@ -114,7 +111,7 @@ fn end_at<F: Field, EF: ExtensionField<F>>(
         → option_map (product_turn EF.number) e.1
         ≡ first_turn (product_course EF.ops (tables_of EF.number product)) 0
         (EF.number proof.now.claimed_sum)
-        (map (λ m. map EF.number m.items) proof.now.round_polys.items) []
+        (messages_in EF.number proof.now.round_polys.items) []
         (map EF.number challenges.now)) }
 {
     if proof.claimed_sum.index() == sum.index() {

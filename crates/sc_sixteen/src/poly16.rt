@@ -133,8 +133,6 @@ impl Field for Poly16 {
             })
         }
     }
-
-    fn blocks_fit() {}
 }
 
 // The numbers of the images of the elements of `Tower16`, in order.

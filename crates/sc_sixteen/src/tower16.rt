@@ -130,6 +130,4 @@ impl Field for Tower16 {
             })
         }
     }
-
-    fn blocks_fit() {}
 }

@@ -126,6 +126,4 @@ impl Field for F257 {
             })
         }
     }
-
-    fn blocks_fit() {}
 }

@@ -190,8 +190,6 @@ impl Field for F257x2 {
             None => None,
         }
     }
-
-    fn blocks_fit() {}
 }
 
 impl Algebra<F257> for F257x2 {

@@ -170,8 +170,6 @@ impl Field for F65537 {
             })
         }
     }
-
-    fn blocks_fit() {}
 }
 
 // The element of any number.

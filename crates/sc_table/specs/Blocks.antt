@@ -1,8 +1,15 @@
 -- What the kernels do with a block of rows, and what the rows of blocks weigh.
-use Rattle.std.specs.Prelude.{ℕ, ◌+◌, ◌/◌, ◌%◌, List}
+use Rattle.std.specs.Prelude.{ℕ, ◌+◌, ◌*◌, ◌/◌, ◌%◌, ◌^◌, ◌<◌, List}
+use prog.Memory.{size}
+use denote.RattleType.{RattleType}
+use denote.Param.{layout}
 use Rattle.sc_definitions.specs.Ring.{Ops, ◌*⟨◌⟩◌}
 use Rattle.sc_definitions.specs.Tables.{sum_below, weight}
 pub use Rattle.sc_field.specs.Written.{HasWritten}
+
+-- A block of 256 values of a type has so few bytes that it is an array.
+abbrev pub FitsInBlocks : RattleType → Type 0
+FitsInBlocks E = 256 * size (layout E) < 2 ^ 63
 
 -- the sum of f at n numbers, the first of which is given
 unfoldable pub sum_from : Ops → ℕ → ℕ → (ℕ → ℕ) → ℕ

@@ -3,37 +3,50 @@
 //! A block has 256 rows, which the last 8 coordinates of a point tell apart. The weights of these
 //! stand in an array, once for all blocks; the coordinates before them are taken by halves.
 
-ghost use Rattle.std.specs.Prelude.{◌≡◌, ℕ, ◌+◌, ◌*◌, ◌^◌, ◌<◌, ◌≤◌, ◌++◌, length, map};
+ghost use Rattle.std.specs.Prelude.{◌≡◌, ℕ, ◌+◌, ◌*◌, ◌^◌, ◌<◌, ◌≤◌, ◌++◌, true, length, map};
 ghost use Rattle.sc_definitions.specs.Ring.{◌+⟨◌⟩◌, ◌*⟨◌⟩◌};
 ghost use Rattle.sc_definitions.specs.Tables.{entries, weight, value};
 ghost use Rattle.sc_field.specs.Products.{products};
-ghost use Rattle.sc_table.specs.Blocks.{block_weight};
+ghost use Rattle.sc_table.specs.Blocks.{block_weight, FitsInBlocks};
 
 use sc_field::{Algebra, Field};
+use std::mem::size_of_val;
 
 /// How many coordinates tell the 256 rows of a block apart: the last ones of a point.
 pub const BLOCK_COORDINATES: usize = 8;
 
+// The most bytes of an element whose blocks are arrays: a block of larger ones would take more than
+// 16 KiB of the stack.
+const MOST_BYTES: usize = 64;
+
+/// Whether a block of elements is an array: whether an element has at most 64 bytes. Larger ones are
+/// taken row by row. No law of a field tells the size; the compiler knows it, and drops the test.
+pub fn fits_in_blocks<E: Field>() -> bool
+    ensures { result ≡ true → FitsInBlocks E.row }
+{
+    size_of_val(&E::ZERO) <= MOST_BYTES
+}
+
 /// The equality weights of `z`, as many coordinates as tell the rows of a block apart, at the rows
-/// of a block.
+/// of a block. `fits_in_blocks` tells whether a block is an array.
 pub fn block_weights<E: Field>(z: &[E]) -> [E; 256]
-    requires { length z.now ≡ 8 }
+    requires fits { FitsInBlocks E.row }
+    requires coordinates { length z.now ≡ 8 }
     ensures { (b : ℕ) → b < 256 → entries E.number result b ≡ weight E.ops (map E.number z.now) b }
 {
-    E::blocks_fit();
     let mut weights = [E::ZERO; 256];
     add_equality(&mut weights, z, E::ONE);
     weights
 }
 
 /// The equality weights of a point in two parts, which together have as many coordinates as tell
-/// the rows of a block apart.
+/// the rows of a block apart. `fits_in_blocks` tells whether a block is an array.
 pub fn joined_block_weights<E: Field>(front: &[E], back: &[E]) -> [E; 256]
-    requires { length front.now + length back.now ≡ 8 }
+    requires fits { FitsInBlocks E.row }
+    requires coordinates { length front.now + length back.now ≡ 8 }
     ensures { (b : ℕ) → b < 256 → entries E.number result b
         ≡ weight E.ops (map E.number front.now ++ map E.number back.now) b }
 {
-    E::blocks_fit();
     let mut z = [E::ZERO; BLOCK_COORDINATES];
     write_joined(&mut z, front, back);
     block_weights(&z)
@@ -51,16 +64,15 @@ fn write_joined<E: Copy>(items: &mut [E], front: &[E], back: &[E])
 /// The value at `z` of the table that a slice holds: as many entries as a power of two, whose
 /// exponent is the number of coordinates.
 ///
-/// It goes by blocks, in time linear in the table's length, and takes no memory.
+/// It goes by blocks where they fit, in time linear in the table's length, and takes no memory.
 pub fn eval_slice<A: Field, E: Algebra<A>>(evals: &[A], z: &[E]) -> E
     requires { length evals.now ≡ 2 ^ length z.now }
     ensures { E.number result ≡ value E.ops (entries
         (λ x. E.embedding (A.number x)) evals.now) (map E.number z.now) }
 {
-    if z.len() < BLOCK_COORDINATES {
+    if z.len() < BLOCK_COORDINATES || !fits_in_blocks::<E>() {
         return eval_halves(evals, z);
     }
-    E::blocks_fit();
     let (outer, inner) = z.split_at(z.len() - BLOCK_COORDINATES);
     let weights = block_weights(inner);
     eval_blocks(evals, outer, &weights)

@@ -19,7 +19,8 @@ mod strategy;
 mod sums;
 
 pub use blocks::{
-    BLOCK_COORDINATES, add_equality, block_weights, eval_blocks, eval_slice, joined_block_weights,
+    BLOCK_COORDINATES, add_equality, block_weights, eval_blocks, eval_slice, fits_in_blocks,
+    joined_block_weights,
 };
 pub use fused::{fold_and_round_coefficients_prefix, fold_and_round_coefficients_suffix};
 pub use lagrange::{extrapolate_01inf, lagrange_weights_01inf, lagrange_weights_01inf_multi};

@@ -6,9 +6,10 @@ ghost use Rattle.sc_definitions.specs.Tables.{entries, sum_below, weight};
 ghost use Rattle.sc_definitions.specs.Shifts.{shifted};
 ghost use Rattle.sc_definitions.specs.Partials.{summed_first, summed_last};
 ghost use Rattle.sc_field.specs.Products.{products};
+ghost use Rattle.sc_table.specs.Blocks.{FitsInBlocks};
 ghost use Rattle.sc_table.specs.Polys.{most_table_variables, variables_of, table_of};
 
-use crate::{Point, Poly, add_scaled, dot_slices};
+use crate::{Point, Poly, add_scaled, dot_slices, fits_in_blocks};
 use sc_field::{Algebra, Field, NoMemory};
 use std::alloc::Global;
 use std::marker::PhantomData;
@@ -227,7 +228,7 @@ impl<F, EF: Field> SplitEq<F, EF> {
             (entries (λ x. EF.embedding (A.number x)) poly.now) c) }
     {
         let width = poly.len() >> self.num_variables();
-        if width < MANY_SUMS {
+        if width < MANY_SUMS || !fits_in_blocks::<EF>() {
             return self.single_sums(alloc, poly, up);
         }
         let mut sums = Poly::new(zeros(alloc, width)?);
@@ -274,7 +275,43 @@ impl<F, EF: Field> SplitEq<F, EF> {
             (λ a. entries (λ x. EF.embedding (A.number x)) table.now (a * length sums.old + c)
             *⟨ EF.ops ⟩ split_weight EF.number EF.ops self.now a) }
     {
-        EF::blocks_fit();
+        if fits_in_blocks::<EF>() {
+            self.add_rows_by_blocks(sums, table, rows);
+        } else {
+            self.add_rows_singly(sums, table, rows);
+        }
+    }
+
+    // The same, row after row.
+    fn add_rows_singly<A: Field>(&self, sums: &mut [EF], table: &[A], rows: usize)
+    where
+        EF: Algebra<A>,
+        requires size { length table.now ≡ rows * length sums.old }
+        requires few { rows ≤ 2 ^ split_variables self.now }
+        ensures { (c : ℕ) → c < length sums.old → entries EF.number sums.new c
+            ≡ entries EF.number sums.old c +⟨ EF.ops ⟩ sum_below EF.ops rows
+            (λ a. entries (λ x. EF.embedding (A.number x)) table.now (a * length sums.old + c)
+            *⟨ EF.ops ⟩ split_weight EF.number EF.ops self.now a) }
+    {
+        let width = sums.len();
+        for a in 0..rows {
+            let from = a * width;
+            add_scaled::<A, EF>(sums, &table[from..from + width], self.weight(a));
+        }
+    }
+
+    // The same, by blocks of rows, whose weights are written out.
+    fn add_rows_by_blocks<A: Field>(&self, sums: &mut [EF], table: &[A], rows: usize)
+    where
+        EF: Algebra<A>,
+        requires fits { FitsInBlocks EF.row }
+        requires size { length table.now ≡ rows * length sums.old }
+        requires few { rows ≤ 2 ^ split_variables self.now }
+        ensures { (c : ℕ) → c < length sums.old → entries EF.number sums.new c
+            ≡ entries EF.number sums.old c +⟨ EF.ops ⟩ sum_below EF.ops rows
+            (λ a. entries (λ x. EF.embedding (A.number x)) table.now (a * length sums.old + c)
+            *⟨ EF.ops ⟩ split_weight EF.number EF.ops self.now a) }
+    {
         let width = sums.len();
         let mut from = 0;
         while from < rows {
@@ -291,6 +328,7 @@ impl<F, EF: Field> SplitEq<F, EF> {
     fn add_pieces<A: Field>(&self, sums: &mut [EF], table: &[A], up: usize)
     where
         EF: Algebra<A>,
+        requires fits { FitsInBlocks EF.row }
         requires size { length table.now ≡ length sums.old * 2 ^ split_variables self.now }
         requires up { up ≤ 2 ^ split_variables self.now }
         ensures { (c : ℕ) → c < length sums.old → entries EF.number sums.new c
@@ -299,7 +337,6 @@ impl<F, EF: Field> SplitEq<F, EF> {
             table.now (c * 2 ^ split_variables self.now + up + k)
             *⟨ EF.ops ⟩ split_weight EF.number EF.ops self.now k) }
     {
-        EF::blocks_fit();
         let rows = 1 << self.num_variables();
         let mut from = 0;
         while from < rows - up {
@@ -312,12 +349,12 @@ impl<F, EF: Field> SplitEq<F, EF> {
 
     // The weights of so many rows, from the given one on.
     fn weights_from(&self, from: usize, len: usize) -> [EF; 256]
+        requires fits { FitsInBlocks EF.row }
         requires inside { from + len ≤ 2 ^ split_variables self.now }
         requires few { len ≤ 256 }
         ensures { (k : ℕ) → k < len → entries EF.number result k
             ≡ split_weight EF.number EF.ops self.now (from + k) }
     {
-        EF::blocks_fit();
         let mut weights = [EF::ZERO; 256];
         for k in 0..len {
             weights[k] = self.weight(from + k);

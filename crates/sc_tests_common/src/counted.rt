@@ -153,8 +153,6 @@ impl<const STEP: u64> Field for Counted<STEP> {
             None => None,
         }
     }
-
-    fn blocks_fit() {}
 }
 
 impl FromTable<Traced> for Image {

@@ -6,8 +6,10 @@ mod counted;
 mod numbers;
 mod scripts;
 mod tables;
+mod wide;
 
 pub use counted::{Counted, Image, Traced};
 pub use numbers::{are_pairs, elements, have_numbers, of, point};
 pub use scripts::scripted;
 pub use tables::{entry, table};
+pub use wide::Wide;

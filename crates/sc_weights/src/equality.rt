@@ -10,6 +10,7 @@ use crate::values::equality_in;
 use sc_field::{Algebra, Field};
 use sc_table::{
     BLOCK_COORDINATES, Basis, Point, Poly, add_equality, add_scaled, block_weights, eval_slice,
+    fits_in_blocks,
 };
 
 impl<EF: Field> RowWeights<EF> for Point<EF> {
@@ -42,11 +43,10 @@ pub(crate) fn add_point<EF: Field>(rows: &mut [EF], z: &[EF], scale: EF)
         ≡ entries EF.number rows.old b +⟨ EF.ops ⟩ EF.number scale
         *⟨ EF.ops ⟩ weight EF.ops (map EF.number z.now) b }
 {
-    if z.len() < BLOCK_COORDINATES {
+    if z.len() < BLOCK_COORDINATES || !fits_in_blocks::<EF>() {
         add_equality(rows, z, scale);
         return;
     }
-    EF::blocks_fit();
     let (outer, inner) = z.split_at(z.len() - BLOCK_COORDINATES);
     let weights = block_weights(inner);
     add_blocks(rows, outer, &weights, scale);

@@ -4,13 +4,14 @@ ghost use Rattle.std.specs.Prelude.{◌≡◌, ℕ, ◌+◌, ◌*◌, ◌^◌, �
 ghost use Rattle.sc_definitions.specs.Ring.{◌+⟨◌⟩◌, ◌*⟨◌⟩◌};
 ghost use Rattle.sc_definitions.specs.Tables.{entries, weight, value};
 ghost use Rattle.sc_definitions.specs.Statements.{next_row, successor_weight};
+ghost use Rattle.sc_table.specs.Blocks.{FitsInBlocks};
 
 use crate::equality::add_blocks;
 use crate::row_weights::RowWeights;
 use crate::successor::{add_successor, successor_value};
 use crate::values::{equality_in, successor_in};
 use sc_field::{Algebra, Field};
-use sc_table::{BLOCK_COORDINATES, Basis, Point, Poly, VariableOrder, eval_blocks};
+use sc_table::{BLOCK_COORDINATES, Basis, Point, Poly, VariableOrder, eval_blocks, fits_in_blocks};
 
 /// A point whose value is taken through the successor map, in the slot that a selector's
 /// coordinates fix.
@@ -79,7 +80,7 @@ fn add_slots<EF: Field>(rows: &mut [EF], selector: &[EF], point: &[EF], scale: E
         +⟨ EF.ops ⟩ EF.number scale *⟨ EF.ops ⟩ (weight EF.ops (map EF.number selector.now) a
         *⟨ EF.ops ⟩ successor_weight EF.ops (map EF.number point.now) c) }
 {
-    if point.len() < BLOCK_COORDINATES && rows.len() >= 256 {
+    if point.len() < BLOCK_COORDINATES && rows.len() >= 256 && fits_in_blocks::<EF>() {
         add_slots_by_blocks(rows, selector, point, scale);
     } else {
         add_slots_by_halves(rows, selector, point, scale);
@@ -107,6 +108,7 @@ fn add_slots_by_halves<EF: Field>(rows: &mut [EF], selector: &[EF], point: &[EF]
 }
 
 fn add_slots_by_blocks<EF: Field>(rows: &mut [EF], selector: &[EF], point: &[EF], scale: EF)
+    requires fits { FitsInBlocks EF.row }
     requires size { length rows.old ≡ 2 ^ (length selector.now + length point.now) }
     requires short { length point.now < 8 }
     requires long { 256 ≤ length rows.old }
@@ -116,7 +118,6 @@ fn add_slots_by_blocks<EF: Field>(rows: &mut [EF], selector: &[EF], point: &[EF]
         +⟨ EF.ops ⟩ EF.number scale *⟨ EF.ops ⟩ (weight EF.ops (map EF.number selector.now) a
         *⟨ EF.ops ⟩ successor_weight EF.ops (map EF.number point.now) c) }
 {
-    EF::blocks_fit();
     let (outer, inner) = selector.split_at(selector.len() - (BLOCK_COORDINATES - point.len()));
     let weights = slot_weights(inner, point);
     add_blocks(rows, outer, &weights, scale);
@@ -125,13 +126,13 @@ fn add_slots_by_blocks<EF: Field>(rows: &mut [EF], selector: &[EF], point: &[EF]
 // The weights of the rows of a block in its slots, which the last coordinates of the selector tell
 // apart.
 fn slot_weights<EF: Field>(selector: &[EF], point: &[EF]) -> [EF; 256]
-    requires { length selector.now + length point.now ≡ 8 }
+    requires fits { FitsInBlocks EF.row }
+    requires coordinates { length selector.now + length point.now ≡ 8 }
     ensures { (a c : ℕ) → a < 2 ^ length selector.now → c < 2 ^ length point.now
         → entries EF.number result (a * 2 ^ length point.now + c)
         ≡ weight EF.ops (map EF.number selector.now) a
         *⟨ EF.ops ⟩ successor_weight EF.ops (map EF.number point.now) c }
 {
-    EF::blocks_fit();
     let mut weights = [EF::ZERO; 256];
     add_slots_by_halves(&mut weights, selector, point, EF::ONE);
     weights
@@ -146,7 +147,7 @@ fn slots_value<A: Field, EF: Algebra<A>>(rows: &[A], selector: &[EF], point: &[E
         (length point.now) c)))
         (map EF.number point.now)) (map EF.number selector.now) }
 {
-    if point.len() < BLOCK_COORDINATES && rows.len() >= 256 {
+    if point.len() < BLOCK_COORDINATES && rows.len() >= 256 && fits_in_blocks::<EF>() {
         slots_value_by_blocks(rows, selector, point)
     } else {
         slots_value_by_halves(rows, selector, point)
@@ -173,6 +174,7 @@ fn slots_value_by_halves<A: Field, EF: Algebra<A>>(rows: &[A], selector: &[EF], 
 }
 
 fn slots_value_by_blocks<A: Field, EF: Algebra<A>>(rows: &[A], selector: &[EF], point: &[EF]) -> EF
+    requires fits { FitsInBlocks EF.row }
     requires size { length rows.now ≡ 2 ^ (length selector.now + length point.now) }
     requires short { length point.now < 8 }
     requires long { 256 ≤ length rows.now }
@@ -181,7 +183,6 @@ fn slots_value_by_blocks<A: Field, EF: Algebra<A>>(rows: &[A], selector: &[EF], 
         (length point.now) c)))
         (map EF.number point.now)) (map EF.number selector.now) }
 {
-    EF::blocks_fit();
     let (outer, inner) = selector.split_at(selector.len() - (BLOCK_COORDINATES - point.len()));
     let weights = slot_weights(inner, point);
     eval_blocks(rows, outer, &weights)

@@ -3,11 +3,12 @@
 ghost use Rattle.std.specs.Prelude.{◌≡◌, ℕ, ◌-◌, ◌*◌, ◌^◌, ◌<◌, ◌≤◌, length, map, drop};
 ghost use Rattle.sc_definitions.specs.Ring.{power, ◌+⟨◌⟩◌, ◌*⟨◌⟩◌};
 ghost use Rattle.sc_definitions.specs.Tables.{entries, monomial, sum_below, inner, value};
+ghost use Rattle.sc_table.specs.Blocks.{FitsInBlocks};
 
 use crate::row_weights::RowWeights;
 use crate::values::{powers_in, products_in};
 use sc_field::{Algebra, ExtensionField, Field};
-use sc_table::{BLOCK_COORDINATES, Basis, Point, Poly, add_scaled};
+use sc_table::{BLOCK_COORDINATES, Basis, Point, Poly, add_scaled, fits_in_blocks};
 
 /// What selects in a table.
 #[derive(Drop)]
@@ -62,11 +63,10 @@ fn add_powers<F: Field, EF: Algebra<F>>(rows: &mut [EF], variables: usize, var: 
         ≡ entries EF.number rows.old b +⟨ EF.ops ⟩ EF.number scale
         *⟨ EF.ops ⟩ power EF.ops (EF.embedding (F.number var)) b }
 {
-    if variables < BLOCK_COORDINATES {
+    if variables < BLOCK_COORDINATES || !fits_in_blocks::<EF>() {
         add_powers_by_rows(rows, var, scale);
         return;
     }
-    EF::blocks_fit();
     let weights: [EF; 256] = power_weights(var);
     add_powers_by_blocks(rows, variables - BLOCK_COORDINATES, &weights, var, scale);
 }
@@ -86,10 +86,10 @@ fn add_powers_by_rows<F: Field, EF: Algebra<F>>(rows: &mut [EF], var: F, scale: 
 
 // The powers of `var` at the rows of the first block.
 fn power_weights<F: Field, EF: Algebra<F>>(var: F) -> [EF; 256]
+    requires fits { FitsInBlocks EF.row }
     ensures { (b : ℕ) → b < 256 → entries EF.number result b
         ≡ power EF.ops (EF.embedding (F.number var)) b }
 {
-    EF::blocks_fit();
     let mut weights = [EF::ZERO; 256];
     add_powers_by_rows(&mut weights, var, EF::ONE);
     weights
@@ -134,10 +134,9 @@ fn powers_value<F: Field, A: Field, EF: Algebra<F> + Algebra<A>>(
         (λ b. ⟦<EF as Algebra<A>>⟧.embedding (entries A.number rows.now b)
         *⟨ EF.ops ⟩ power EF.ops (⟦<EF as Algebra<F>>⟧.embedding (F.number var)) b) }
 {
-    if variables < BLOCK_COORDINATES {
+    if variables < BLOCK_COORDINATES || !fits_in_blocks::<EF>() {
         return powers_value_by_rows(rows, var);
     }
-    EF::blocks_fit();
     let weights: [EF; 256] = power_weights(var);
     let halvings = variables - BLOCK_COORDINATES;
     let (value, _next): (EF, EF) = powers_value_by_blocks(rows, halvings, &weights, var);
@@ -195,22 +194,21 @@ fn add_products<F: Field, EF: Algebra<F>>(rows: &mut [EF], z: &[F], scale: EF)
         ≡ entries EF.number rows.old b +⟨ EF.ops ⟩ EF.number scale
         *⟨ EF.ops ⟩ monomial EF.ops (map (λ x. EF.embedding (F.number x)) z.now) b }
 {
-    if z.len() < BLOCK_COORDINATES {
+    if z.len() < BLOCK_COORDINATES || !fits_in_blocks::<EF>() {
         add_products_by_halves(rows, z, scale);
         return;
     }
-    EF::blocks_fit();
     let weights: [EF; 256] = product_weights(&z[z.len() - BLOCK_COORDINATES..]);
     add_products_by_blocks(rows, z, &weights, scale);
 }
 
 // The products of the coordinates that tell the rows of a block apart.
 fn product_weights<F: Field, EF: Algebra<F>>(z: &[F]) -> [EF; 256]
-    requires { length z.now ≡ 8 }
+    requires fits { FitsInBlocks EF.row }
+    requires coordinates { length z.now ≡ 8 }
     ensures { (b : ℕ) → b < 256 → entries EF.number result b ≡ monomial EF.ops (map
         (λ x. EF.embedding (F.number x)) z.now) b }
 {
-    EF::blocks_fit();
     let mut weights = [EF::ZERO; 256];
     add_products_by_halves(&mut weights, z, EF::ONE);
     weights
@@ -264,10 +262,9 @@ fn products_value<F: Field, A: Field, EF: Algebra<F> + Algebra<A>>(rows: &[A], z
         (λ b. ⟦<EF as Algebra<A>>⟧.embedding (entries A.number rows.now b)) (monomial EF.ops (map
         (λ x. ⟦<EF as Algebra<F>>⟧.embedding (F.number x)) z.now)) }
 {
-    if z.len() < BLOCK_COORDINATES {
+    if z.len() < BLOCK_COORDINATES || !fits_in_blocks::<EF>() {
         return products_value_by_halves(rows, z);
     }
-    EF::blocks_fit();
     let weights: [EF; 256] = product_weights(&z[z.len() - BLOCK_COORDINATES..]);
     products_value_by_blocks(rows, z, &weights)
 }

@@ -9,12 +9,12 @@ ghost use Rattle.sc_definitions.specs.Tables.{entries, weight, value};
 ghost use Rattle.sc_definitions.specs.Shifts.{shifted};
 ghost use Rattle.sc_definitions.specs.Statements.{next_row, successor_weight};
 ghost use Rattle.sc_field.specs.Products.{products};
-ghost use Rattle.sc_table.specs.Blocks.{block_weight};
+ghost use Rattle.sc_table.specs.Blocks.{block_weight, FitsInBlocks};
 ghost use Rattle.sc_weights.specs.Moved.{moved_up, moved_down};
 
 use crate::equality::add_point;
 use sc_field::{Algebra, Field};
-use sc_table::{BLOCK_COORDINATES, add_scaled, eval_slice, joined_block_weights};
+use sc_table::{BLOCK_COORDINATES, add_scaled, eval_slice, fits_in_blocks, joined_block_weights};
 
 // ---- weights that are added to rows
 
@@ -36,7 +36,7 @@ pub(crate) fn add_successor<EF: Field>(
         (successor_weight EF.ops (map EF.number point.now) a
         *⟨ EF.ops ⟩ weight EF.ops (map EF.number selector.now) c) }
 {
-    if selector.len() > BLOCK_COORDINATES || rows.len() < 256 {
+    if selector.len() > BLOCK_COORDINATES || rows.len() < 256 || !fits_in_blocks::<EF>() {
         add_successor_by_halves(rows, point, selector, block, scale);
     } else {
         add_successor_by_blocks(rows, point, selector, block, scale);
@@ -103,6 +103,7 @@ fn add_successor_by_blocks<EF: Field>(
     block: usize,
     scale: EF,
 )
+    requires fits { FitsInBlocks EF.row }
     requires size { length rows.old ≡ 2 ^ (length point.now + length selector.now) }
     requires block { block ≡ 2 ^ length selector.now }
     requires short { length selector.now ≤ 8 }
@@ -114,7 +115,6 @@ fn add_successor_by_blocks<EF: Field>(
         (successor_weight EF.ops (map EF.number point.now) a
         *⟨ EF.ops ⟩ weight EF.ops (map EF.number selector.now) c) }
 {
-    EF::blocks_fit();
     let (outer, inner) = point.split_at(point.len() - (BLOCK_COORDINATES - selector.len()));
     let joined = joined_block_weights(inner, selector);
     let weights = &joined[..];
@@ -195,7 +195,7 @@ pub(crate) fn successor_value<A: Field, EF: Algebra<A>>(
         length selector.now + c)))
         (map EF.number selector.now)) (map EF.number point.now) }
 {
-    if selector.len() > BLOCK_COORDINATES || rows.len() < 256 {
+    if selector.len() > BLOCK_COORDINATES || rows.len() < 256 || !fits_in_blocks::<EF>() {
         successor_value_by_halves(rows, point, selector, block)
     } else {
         successor_value_by_blocks(rows, point, selector, block)
@@ -255,6 +255,7 @@ fn successor_value_by_blocks<A: Field, EF: Algebra<A>>(
     selector: &[EF],
     block: usize,
 ) -> EF
+    requires fits { FitsInBlocks EF.row }
     requires size { length rows.now ≡ 2 ^ (length point.now + length selector.now) }
     requires block { block ≡ 2 ^ length selector.now }
     requires short { length selector.now ≤ 8 }
@@ -264,7 +265,6 @@ fn successor_value_by_blocks<A: Field, EF: Algebra<A>>(
         length selector.now + c)))
         (map EF.number selector.now)) (map EF.number point.now) }
 {
-    EF::blocks_fit();
     let (outer, inner) = point.split_at(point.len() - (BLOCK_COORDINATES - selector.len()));
     let weights = joined_block_weights(inner, selector);
     moved_blocks_value(rows, outer, &weights, block, &rows[rows.len() - block..])

@@ -96,6 +96,4 @@ impl Field for F17 {
             Some(self.exp_u64(15))
         }
     }
-
-    fn blocks_fit() {}
 }

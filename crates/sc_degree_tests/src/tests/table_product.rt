@@ -10,7 +10,7 @@ use sc_field::{Field, NoMemory};
 use sc_sixteen::Tower16;
 use sc_small_fields::{F257x2, F65537};
 use sc_table::Poly;
-use sc_tests_common::{elements, entry, have_numbers, of, table};
+use sc_tests_common::{Wide, elements, entry, have_numbers, of, table};
 use std::alloc::Global;
 
 // So many tables of so many variables, which differ.
@@ -162,7 +162,8 @@ fn rounds_of_each_number_of_tables(rt: HostRuntime) {
     }
 }
 
-// A block has 256 rows, as many as a half of 9 variables.
+// A block has 256 rows, as many as a half of 9 variables. Elements that are too large for blocks are
+// taken row by row.
 #[test]
 fn rounds_around_a_block(rt: HostRuntime) {
     for variables in 0..13 {
@@ -172,7 +173,7 @@ fn rounds_around_a_block(rt: HostRuntime) {
             "{variables}"
         );
         assert_eq!(rt;
-            rounds_agree::<Tower16>(rt.alloc(), 2, variables),
+            rounds_agree::<Wide<F65537>>(rt.alloc(), 2, variables),
             Ok(true),
             "{variables}"
         );

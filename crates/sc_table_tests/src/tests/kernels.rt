@@ -7,10 +7,10 @@ use sc_field::{Algebra, Field, NoMemory};
 use sc_sixteen::Tower16;
 use sc_small_fields::{F257, F257x2, F65537};
 use sc_table::{
-    Poly, RoundMessage, VariableOrder, eval_slice, fold_and_round_coefficients_prefix,
-    fold_and_round_coefficients_suffix, joined_block_weights,
+    Poly, RoundMessage, VariableOrder, eval_slice, fits_in_blocks,
+    fold_and_round_coefficients_prefix, fold_and_round_coefficients_suffix, joined_block_weights,
 };
-use sc_tests_common::{Traced, entry, have_numbers, table};
+use sc_tests_common::{Traced, Wide, entry, have_numbers, table};
 use std::alloc::Global;
 
 pub(crate) fn list<F: Field>(alloc: Global, len: usize, factor: u64) -> Result<Vec<F>, NoMemory>
@@ -192,7 +192,9 @@ fn block_agrees<F: Field>(alloc: Global, k: usize) -> Result<bool, NoMemory>
 {
     let z: Vec<F> = list(alloc, 8, 23456)?;
     let (front, back) = z.split_at(k);
-    F::blocks_fit();
+    if !fits_in_blocks::<F>() {
+        return Ok(false);
+    }
     let weights = joined_block_weights(front, back);
     Ok(
         weights
@@ -241,7 +243,22 @@ fn values_around_a_block(rt: HostRuntime) {
             Ok(true),
             "{n}"
         );
+        assert_eq!(rt;
+            value_agrees::<Wide<F257>, Wide<F257>>(rt.alloc(), n),
+            Ok(true),
+            "{n}"
+        );
     }
+}
+
+// A block of elements is an array where they are small.
+#[test]
+fn blocks_of_small_elements(rt: HostRuntime) {
+    assert!(rt; fits_in_blocks::<F65537>());
+    assert!(rt; fits_in_blocks::<F257x2>());
+    assert!(rt; fits_in_blocks::<Tower16>());
+    assert!(rt; fits_in_blocks::<Traced>());
+    assert!(rt; !fits_in_blocks::<Wide<F257>>());
 }
 
 // A table is made by doubling: a row is made by the products of the rows that were doubled for it.

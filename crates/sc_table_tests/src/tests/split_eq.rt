@@ -9,7 +9,7 @@ use VariableOrder::{Prefix, Suffix};
 use sc_field::{Algebra, Field, NoMemory};
 use sc_small_fields::{F257, F257x2, F65537};
 use sc_table::{Point, Poly, SplitEq, VariableOrder, dot_slices, lagrange_weights_01inf_multi};
-use sc_tests_common::{Traced, elements, entry, have_numbers, point, table};
+use sc_tests_common::{Traced, Wide, elements, entry, have_numbers, point, table};
 use std::alloc::Global;
 
 // A table summed over its variables that come first or last, under weights that may be moved up.
@@ -159,7 +159,8 @@ fn each_way_agrees<A: Field, E: Algebra<A>>(
     Ok(true)
 }
 
-// The same over each field, of at most 16 variables.
+// The same over each field, of at most 16 variables; the last one's elements are too large for
+// blocks.
 fn each_field_agrees(alloc: Global, n: usize, m: usize) -> Result<bool, NoMemory> {
     if n > 16 || m > 16 - n {
         return Ok(false);
@@ -167,7 +168,8 @@ fn each_field_agrees(alloc: Global, n: usize, m: usize) -> Result<bool, NoMemory
     Ok(
         each_way_agrees::<F65537, F65537>(alloc, n, m)?
             && each_way_agrees::<F257, F257x2>(alloc, n, m)?
-            && each_way_agrees::<Traced, Traced>(alloc, n, m)?,
+            && each_way_agrees::<Traced, Traced>(alloc, n, m)?
+            && each_way_agrees::<Wide<F257>, Wide<F257>>(alloc, n, m)?,
     )
 }
 

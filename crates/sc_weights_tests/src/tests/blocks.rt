@@ -7,7 +7,7 @@ ghost use Rattle.sc_definitions.specs.Statements.{arity_of};
 use sc_field::{Algebra, ExtensionField, Field, NoMemory};
 use sc_small_fields::{F257, F257x2, F65537};
 use sc_table::{Poly, VariableOrder};
-use sc_tests_common::{of, point, table};
+use sc_tests_common::{Wide, of, point, table};
 use sc_weights::{NextConstraint, RowWeights, Selector};
 use std::alloc::Global;
 
@@ -173,6 +173,11 @@ fn equality_weights_around_a_block(rt: HostRuntime) {
             Ok(true),
             "{n}"
         );
+        assert_eq!(rt;
+            equality::<Wide<F257>, Wide<F257>>(rt.alloc(), coords),
+            Ok(true),
+            "{n}"
+        );
     }
 }
 
@@ -189,6 +194,11 @@ fn successor_weights_around_a_block(rt: HostRuntime) {
                 );
                 assert_eq!(rt;
                     successor::<F257, F257x2>(rt.alloc(), order, selector, coords),
+                    Ok(true),
+                    "{n} {k}"
+                );
+                assert_eq!(rt;
+                    successor::<Wide<F257>, Wide<F257>>(rt.alloc(), order, selector, coords),
                     Ok(true),
                     "{n} {k}"
                 );
@@ -211,6 +221,11 @@ fn products_around_a_block(rt: HostRuntime) {
             Ok(true),
             "{n}"
         );
+        assert_eq!(rt;
+            products::<Wide<F257>, Wide<F257>>(rt.alloc(), coords),
+            Ok(true),
+            "{n}"
+        );
     }
 }
 
@@ -225,6 +240,11 @@ fn powers_around_a_block(rt: HostRuntime) {
             );
             assert_eq!(rt;
                 powers::<F257, F257x2>(rt.alloc(), var, n),
+                Ok(true),
+                "{var} {n}"
+            );
+            assert_eq!(rt;
+                powers::<Wide<F257>, Wide<F257>>(rt.alloc(), var, n),
                 Ok(true),
                 "{var} {n}"
             );

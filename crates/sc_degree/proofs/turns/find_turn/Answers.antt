@@ -47,8 +47,8 @@ returns-then-index-clause-found g c =
     let some : 1 ≤ length fs = omega (arith, length-map first.tables.items (table_of N), first.some, first.tables.ok.0) in
     let honest = c.in_ok-honest.honest.items in
     sym (finds-here o g.met.EF.Field.is_field fs gs (product_arity first) m some c.requires.few N sends ms rs i (N c.args.claim) (N c.loop-i.claim) (N c.loop-i.truth) found y x
-    (omega (arith, c.loop-i-test.true, c.requires.messages, c.requires.challenges)) c.loop-i-test.true c.index-messages-i.is c.index-challenges-i.is
-    (omega (arith, c.requires.messages, c.requires.challenges, inv.left, more)) (N c.eval-next.result) (N c.eval-next_truth.result)
+    (omega (arith, c.loop-i-test.true, c.requires.rounds.messages, c.requires.rounds.challenges)) c.loop-i-test.true c.index-messages-i.is c.index-challenges-i.is
+    (omega (arith, c.requires.rounds.messages, c.requires.rounds.challenges, inv.left, more)) (N c.eval-next.result) (N c.eval-next_truth.result)
     (c.eval-next.ensures ∙ ap (λ l. next_through o (N c.loop-i.claim) (map N l) (N x)) c.as_slice-values.ensures.value)
     (map N honest) c.in_ok-honest.ensures
     (c.eval-next_truth.ensures ∙ ap (λ l. next_through o (N c.loop-i.truth) (map N l) (N x)) c.as_slice.ensures.value)
@@ -66,7 +66,7 @@ returns-then-index-clause-certified g c = λ wrong.
     let fs = tables_of N first in
     let some : 1 ≤ length fs = omega (arith, length-map first.tables.items (table_of N), first.some, first.tables.ok.0) in
     certified-turn e.ops g.met.EF.Field.is_field fs (product_arity first) some c.requires.few N (N c.args.claim) c.args.messages.now (map N c.args.challenges.now)
-    (g.met.EF.Field.number_below c.args.claim) c.requires.messages c.requires.widths wrong _ (returns-then-index-clause-found g c)
+    (g.met.EF.Field.number_below c.args.claim) c.requires.rounds.messages c.requires.rounds.widths wrong _ (returns-then-index-clause-found g c)
 
 pub returns-then-index-clause-bound : goal.returns-then-index-clause-bound
 returns-then-index-clause-bound g c =
@@ -75,8 +75,13 @@ returns-then-index-clause-bound g c =
     let first = c.args.product.now in
     let last = c.fold_all.new.product in
     let rs = c.args.challenges.now in
-    value-left e.ops g.met.EF.Field.is_field.ring (tables_of N first) (tables_of N last) (product_arity first) (product_arity last) (map N rs)
-    (folded-rest N rs _ c.loop-i.i _ _ _ (take_all (length rs - c.loop-i.i) _ (omega (arith, length-drop c.loop-i.i rs))) c.loop-i.invariant.finds.folded c.fold_all.ensures) (length-map rs N ∙ c.requires.challenges)
+    let folded =
+    folded-rest N rs _ c.loop-i.i _ _ _ (take_all (length rs - c.loop-i.i) _ (omega (arith, length-drop c.loop-i.i rs))) c.loop-i.invariant.finds.folded c.fold_all.ensures in
+    record {
+      arity = omega (arith, folded.variables, length-map rs N, c.requires.rounds.challenges);
+      value = value-left e.ops g.met.EF.Field.is_field.ring (tables_of N first) (tables_of N last) (product_arity first) (product_arity last) (map N rs)
+          folded (length-map rs N ∙ c.requires.rounds.challenges);
+    }
 
 -- it does not
 pub loop-i-preserved : goal.loop-i-preserved
@@ -107,8 +112,8 @@ loop-i-preserved g c =
       left = omega (arith, inv.left, more);
       degree = c.fold.ensures.degree ∙ inv.degree;
       finds = finds-more o g.met.EF.Field.is_field fs gs (product_arity first) m some c.requires.few N sends ms rs i (N c.args.claim) (N c.loop-i.claim) (N c.loop-i.truth) found y x
-          (omega (arith, c.loop-i-test.true, c.requires.messages, c.requires.challenges)) c.loop-i-test.true c.index-messages-i.is c.index-challenges-i.is
-          (omega (arith, c.requires.messages, c.requires.challenges, inv.left, more)) (N c.eval-next.result) (N c.eval-next_truth.result)
+          (omega (arith, c.loop-i-test.true, c.requires.rounds.messages, c.requires.rounds.challenges)) c.loop-i-test.true c.index-messages-i.is c.index-challenges-i.is
+          (omega (arith, c.requires.rounds.messages, c.requires.rounds.challenges, inv.left, more)) (N c.eval-next.result) (N c.eval-next_truth.result)
           (c.eval-next.ensures ∙ ap (λ l. next_through o (N c.loop-i.claim) (map N l) (N x)) c.as_slice-values.ensures.value)
           (map N honest) (c.in_ok-honest.ensures ∙ ap (λ k. node_values o (length gs) (product_round o gs [] k)) one_less)
           (c.eval-next_truth.ensures ∙ ap (λ l. next_through o (N c.loop-i.truth) (map N l) (N x)) c.as_slice.ensures.value)
@@ -123,7 +128,7 @@ returns-clause-found g c =
     let N = e.number in
     let ms = c.args.messages.now in
     sym (finds-none e.ops c.loop-i.i (map (λ v. map N v.items) ms) c.loop-i.invariant.finds
-    (omega (arith, c.loop-i-test.false, c.requires.messages, c.requires.challenges, length-map ms (λ v. map N v.items))))
+    (omega (arith, c.loop-i-test.false, c.requires.rounds.messages, c.requires.rounds.challenges, length-map ms (λ v. map N v.items))))
 
 pub returns-clause-bound : goal.returns-clause-bound
 returns-clause-bound g c =
@@ -132,8 +137,12 @@ returns-clause-bound g c =
     let first = c.args.product.now in
     let last = c.loop-i.product in
     let rs = c.args.challenges.now in
-    value-left e.ops g.met.EF.Field.is_field.ring (tables_of N first) (tables_of N last) (product_arity first) (product_arity last) (map N rs)
-    (folded-whole (map N rs) c.loop-i.i _ _ (omega (arith, length-map rs N, c.loop-i-test.false)) c.loop-i.invariant.finds.folded) (length-map rs N ∙ c.requires.challenges)
+    record {
+      arity = omega (arith, c.loop-i-test.false, c.loop-i.invariant.left);
+      value = value-left e.ops g.met.EF.Field.is_field.ring (tables_of N first) (tables_of N last) (product_arity first) (product_arity last) (map N rs)
+          (folded-whole (map N rs) c.loop-i.i _ _ (omega (arith, length-map rs N, c.loop-i-test.false)) c.loop-i.invariant.finds.folded)
+          (length-map rs N ∙ c.requires.rounds.challenges);
+    }
 
 -- which cannot be where it was false and ends as the true one
 pub returns-clause-some : goal.returns-clause-some
@@ -146,4 +155,4 @@ returns-clause-some g c = λ wrong right.
     let some : 1 ≤ length fs = omega (arith, length-map first.tables.items (table_of N), first.some, first.tables.ok.0) in
     absurd
     (some-turn e.ops g.met.EF.Field.is_field fs (product_arity first) some c.requires.few N (N c.args.claim) c.args.messages.now (map N rs)
-    (g.met.EF.Field.number_below c.args.claim) c.requires.messages c.requires.widths wrong (length-map rs N ∙ c.requires.challenges) right (returns-clause-found g c))
+    (g.met.EF.Field.number_below c.args.claim) c.requires.rounds.messages c.requires.rounds.widths wrong (length-map rs N ∙ c.requires.rounds.challenges) right (returns-clause-found g c))

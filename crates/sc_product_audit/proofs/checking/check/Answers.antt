@@ -6,7 +6,7 @@ use Rattle.sc_definitions.specs.Products.{values_product}
 use Rattle.sc_definitions.specs.Lucky.{first_turn, product_course}
 use Rattle.sc_transcript.specs.Walks.{IsWalked}
 use Rattle.sc_transcript.specs.Replayed.{Replay, IsCounted}
-use Rattle.sc_degree.specs.Proofs.{proof_wire, LeavesVerify}
+use Rattle.sc_degree.specs.Proofs.{LeavesVerify}
 use Rattle.sc_degree.specs.Turns.{product_turn}
 use Rattle.sc_product_audit.specs.declared.error.ProductError.TheVariants.{NoMemory}
 use Rattle.sc_product_audit.specs.ProductCases.{ProductGiven, ProductCase, to_check, true_sum}
@@ -17,9 +17,9 @@ use Rattle.sc_product_audit.specs.ProductPlays.{case_at}
 use Rattle.sc_product_audit.proofs.AnswerLaws.{replay-is, first-luck, figures-found, given-count, given-wide, given-told, given-refused, given-left, given-broken, passed_on, wide_items}
 use Rattle.sc_product_audit.proofs.checking.check.Goals as goal
 
--- there are as many challenges as variables
-pub end_at-requires-clause-challenges : goal.end_at-requires-clause-challenges
-end_at-requires-clause-challenges g c =
+-- there are as many challenges as variables, as many rounds, and as many values in each of them as tables
+pub end_at-requires-clause-rounds : goal.end_at-requires-clause-rounds
+end_at-requires-clause-rounds g c =
     let B = g.F.Field.number in
     let N = g.EF.Field.number in
     let k : ProductCase = case_at g.EF.Field.ops N c.args.product
@@ -28,33 +28,13 @@ end_at-requires-clause-challenges g c =
     let rs = map N c.in-Ok.challenges in
     let end : Footing = footing (g.C.Challenger.party c.verify.new.challenger).history (N c.in-Ok.residual) in
     let same = replay-is k _ _ p.claimed p.came c.num_variables-variables.ensures c.degree-degree.ensures in
-    ap length c.as_slice.ensures ∙ sym (length-map c.in-Ok.challenges N)
-    ∙ given-count k p rs end (subst IsCounted same c.in-Ok.ensures.left.1.0)
-    (subst (λ (t : Replay). IsWalked t.walk rs end) same c.in-Ok.ensures.left.1.1)
-
--- as many rounds
-pub end_at-requires-clause-messages : goal.end_at-requires-clause-messages
-end_at-requires-clause-messages g c =
-    let B = g.F.Field.number in
-    let N = g.EF.Field.number in
-    let k : ProductCase = case_at g.EF.Field.ops N c.args.product
-    (channel (g.C.Challenger.party c.args.challenger.now).rules g.EF.ExtensionField.extension g.F.Field.ops.size c.args.pow_bits) (g.C.Challenger.party c.args.challenger.now).history in
-    let same = replay-is k _ _ (N c.args.proof.claimed_sum) (proof_wire B N c.args.proof) c.num_variables-variables.ensures c.degree-degree.ensures in
-    sym (length-map c.args.proof.round_polys.items (λ v. map N v.items)) ∙ (subst IsCounted same c.in-Ok.ensures.left.1.0).as_rounds
-
--- each of them with as many values as there are tables
-pub end_at-requires-clause-widths : goal.end_at-requires-clause-widths
-end_at-requires-clause-widths g c =
-    let B = g.F.Field.number in
-    let N = g.EF.Field.number in
-    let k : ProductCase = case_at g.EF.Field.ops N c.args.product
-    (channel (g.C.Challenger.party c.args.challenger.now).rules g.EF.ExtensionField.extension g.F.Field.ops.size c.args.pow_bits) (g.C.Challenger.party c.args.challenger.now).history in
-    let p : ProductGiven = given_by B N c.args.proof in
-    let rs = map N c.in-Ok.challenges in
-    let end : Footing = footing (g.C.Challenger.party c.verify.new.challenger).history (N c.in-Ok.residual) in
-    let same = replay-is k _ _ p.claimed p.came c.num_variables-variables.ensures c.degree-degree.ensures in
-    wide_items N (length k.tables) c.args.proof.round_polys.items
-    (given-wide k p rs end (subst (λ (t : Replay). IsWalked t.walk rs end) same c.in-Ok.ensures.left.1.1))
+    let counted = subst IsCounted same c.in-Ok.ensures.left.1.0 in
+    let walked = subst (λ (t : Replay). IsWalked t.walk rs end) same c.in-Ok.ensures.left.1.1 in
+    record {
+      messages = sym (length-map c.args.proof.round_polys.items (λ v. map N v.items)) ∙ counted.as_rounds;
+      challenges = ap length c.as_slice.ensures ∙ sym (length-map c.in-Ok.challenges N) ∙ given-count k p rs end counted walked;
+      widths = wide_items N (length k.tables) c.args.proof.round_polys.items (given-wide k p rs end walked);
+    }
 
 -- a proof that was replayed
 pub returns-in_ok-product-in-Ok : goal.returns-in_ok-product-in-Ok

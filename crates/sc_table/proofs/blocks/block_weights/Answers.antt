@@ -15,7 +15,7 @@ returns g c = λ b low.
     let ring = met.is_field.ring in
     let zs = map e.number c.args.z.now in
     let w = weight e.ops zs b in
-    let size : 2 ^ length c.args.z.now ≡ 256 = ap (λ k. 2 ^ k) c.requires in
+    let size : 2 ^ length c.args.z.now ≡ 256 = ap (λ k. 2 ^ k) c.requires.coordinates in
     c.add_equality.ensures b (omega (arith, low, size))
     ∙ ap (λ k. plus e.ops k (times e.ops (e.number c.ONE.result) w)) (entry-replicate e.number c.ZERO-weights.result 256 b (ap e.number c.ZERO-weights.ensures ∙ met.zero_is))
     ∙ ap (λ k. plus e.ops 0 (times e.ops k w)) (ap e.number c.ONE.ensures ∙ met.one_is)

@@ -11,7 +11,7 @@ returns g c = λ b low.
     let met = g.met.EF.Field in
     let of : g.row.F.Denot → ℕ = λ x. g.EF.Algebra.embedding (g.F.Field.number x) in
     let zs = map of c.args.z.now in
-    let size : 2 ^ length c.args.z.now ≡ 256 = ap (λ k. 2 ^ k) c.requires in
+    let size : 2 ^ length c.args.z.now ≡ 256 = ap (λ k. 2 ^ k) c.requires.coordinates in
     c.add_products_by_halves.ensures b (omega (arith, low, size))
     ∙ ap (λ k. plus f.ops k (times f.ops (f.number c.ONE.result) (monomial f.ops zs b))) (entry-replicate f.number c.ZERO-weights.result 256 b (ap f.number c.ZERO-weights.ensures ∙ met.zero_is))
     ∙ ap (λ k. plus f.ops 0 (times f.ops k (monomial f.ops zs b))) (ap f.number c.ONE.ensures ∙ met.one_is)

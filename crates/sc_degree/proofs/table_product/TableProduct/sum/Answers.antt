@@ -1,60 +1,24 @@
-use Rattle.std.proofs.Common.{◌≡◌, ℕ, ◌+◌, ◌^◌, ◌<◌, [], length, map, take, All, sym, ◌∙◌, ap, subst, arith}
-use Rattle.std.proofs.lemmas.List.{length-take, length-replicate}
-use Rattle.sc_definitions.specs.Ring.{plus}
-use Rattle.sc_definitions.specs.Tables.{sum_below}
-use Rattle.sc_definitions.proofs.Sums.{sum-zero, sum-split}
-use Rattle.sc_definitions.specs.Products.{product_claim}
-use Rattle.sc_definitions.proofs.Lists.{read_has}
-use Rattle.sc_table.specs.Polys.{variables_of, table_of}
+use Rattle.std.proofs.Common.{◌≡◌, ◌+◌, map, ◌∙◌, ap, refl, arith}
+use Rattle.sc_definitions.proofs.Sums.{sum-same}
+use Rattle.sc_table.specs.Polys.{table_of}
 use Rattle.sc_degree.specs.Lines.{lines_at}
-use Rattle.sc_degree.proofs.LineLaws.{ones-part, room-kept}
-use Rattle.sc_degree.proofs.TableProductLaws.{claim-rows}
+use Rattle.sc_degree.proofs.TableProductLaws.{sum-whole}
 use Rattle.sc_degree.proofs.table_product.TableProduct.sum.Goals as goal
 
-pub loop-from-init : goal.loop-from-init
-loop-from-init g c = record {
-  within = omega arith;
-  room = length-replicate 256 c.ZERO-products.result;
-  so_far = ap g.EF.Field.number c.ZERO-sum.ensures ∙ g.met.EF.Field.zero_is ∙ sym (sum-zero g.EF.Field.ops _);
-}
-
-pub loop-from-preserved : goal.loop-from-preserved
-loop-from-preserved g c =
+pub returns-then-fits_in_blocks : goal.returns-then-fits_in_blocks
+returns-then-fits_in_blocks g c =
     let e = g.EF.Field in
-    let ring = g.met.EF.Field.is_field.ring in
-    let fs = map (table_of e.number) c.as_slice-tables.result.now in
-    let from = c.loop-from.from in
-    let rows = c.min-rows.result in
-    let term : ℕ → ℕ = λ b. lines_at e.ops fs b b (e.number e.ZERO) in
-    let taken : length (take rows c.loop-from.products) ≡ rows = omega (arith, length-take rows c.loop-from.products, c.loop-from.invariant.room, c.min-rows.ensures) in
-    record {
-      within = omega (arith, c.loop-from.invariant.within);
-      room = room-kept 256 rows c.loop-from.products c.block_sum-gained.new.products c.loop-from.invariant.room c.block_sum-gained.auto.products;
-      so_far = c.add-sum.ensures
-          ∙ ap (λ s. plus e.ops s (e.number c.block_sum-gained.result)) c.loop-from.invariant.so_far
-          ∙ ap (plus e.ops (sum_below e.ops from term)) (c.block_sum-gained.ensures
-          ∙ ap (λ x. sum_below e.ops (length (take rows c.loop-from.products)) (λ b. lines_at e.ops fs (from + b) (from + b) (e.number x))) c.ZERO.ensures
-          ∙ ap (λ n. sum_below e.ops n (λ b. term (from + b))) taken)
-          ∙ sym (sum-split e.ops ring from rows term);
-    }
+    c.sum_by_blocks.ensures
+    ∙ sum-whole e.ops g.met.EF.Field.is_field.ring e.number c.args.self.now c.as_slice-tables.result.now c.index-tables-0.result c.num_evals-rows.result 0
+    c.as_slice-tables.ensures.value c.index-tables-0.is c.num_evals-rows.ensures refl
 
-pub block_sum-gained-requires-clause-ones : goal.block_sum-gained-requires-clause-ones
-block_sum-gained-requires-clause-ones g c = λ b inside.
-    ones-part g.EF.Field.number c.ONE-ones.result c.min-rows.result 256 b (ap g.EF.Field.number c.ONE-ones.ensures ∙ g.met.EF.Field.one_is) inside
-
-pub returns : goal.returns
-returns g c =
+pub returns-else-fits_in_blocks : goal.returns-else-fits_in_blocks
+returns-else-fits_in_blocks g c =
     let e = g.EF.Field in
-    let product = c.args.self.now in
     let tables = c.as_slice-tables.result.now in
-    let are : tables ≡ product.tables.items = c.as_slice-tables.ensures.value in
-    let some : 0 < length tables = omega (arith, c.as_slice-tables.ensures.len, product.some) in
-    let arity : variables_of c.index-tables-0.result ≡ product.variables =
-    read_has (λ t. variables_of t ≡ product.variables) tables 0 c.index-tables-0.result
-    (subst (All (λ t. variables_of t ≡ product.variables)) (sym are) product.same) some c.index-tables-0.is in
-    let all : c.loop-from.from ≡ c.num_evals-len.result = omega (arith, c.loop-from.invariant.within, c.loop-from-test.false) in
-    let fs = map (table_of e.number) tables in
-    c.loop-from.invariant.so_far
-    ∙ claim-rows e.ops g.met.EF.Field.is_field.ring fs product.variables c.loop-from.from (e.number e.ZERO) g.met.EF.Field.zero_is
-    (all ∙ c.num_evals-len.ensures ∙ ap (λ n. 2 ^ n) arity)
-    ∙ ap (λ ts. product_claim e.ops (map (table_of e.number) ts) [] product.variables) are
+    let rows = c.num_evals-rows.result in
+    let x = e.number c.ZERO.result in
+    c.sum_singly.ensures
+    ∙ sum-same e.ops rows _ _ (λ b low. let same : 0 + b ≡ b = omega arith in ap (λ j. lines_at e.ops (map (table_of e.number) tables) b j x) same)
+    ∙ sum-whole e.ops g.met.EF.Field.is_field.ring e.number c.args.self.now tables c.index-tables-0.result rows x
+    c.as_slice-tables.ensures.value c.index-tables-0.is c.num_evals-rows.ensures (ap e.number c.ZERO.ensures ∙ g.met.EF.Field.zero_is)

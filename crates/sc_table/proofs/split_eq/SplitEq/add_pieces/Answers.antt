@@ -19,7 +19,7 @@ pub weights_from-weights-requires : goal.weights_from-weights-requires
 weights_from-weights-requires g c =
     let s = c.args.self.now in
     let rows_are = ap (λ k. 1 * 2 ^ k % 18446744073709551616) c.num_variables-rows.ensures ∙ one-shifted (split_variables s) s.few in
-    (c.blocks_fit.ensures, (omega (arith, rows_are), omega arith))
+    (c.requires.fits, (omega (arith, rows_are), omega arith))
 
 pub loop-from-preserved : goal.loop-from-preserved
 loop-from-preserved g c =

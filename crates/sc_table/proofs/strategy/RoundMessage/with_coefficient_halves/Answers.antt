@@ -1,4 +1,4 @@
-use Rattle.std.proofs.Common.{◌≡◌, ℕ, ◌+◌, ◌-◌, ◌<◌, List, ◌∙◌, ap, refl, length, take, drop, arith}
+use Rattle.std.proofs.Common.{◌≡◌, ◌+◌, ◌-◌, ◌∙◌, ap, refl, length, take, drop, arith}
 use Rattle.sc_definitions.specs.Ring.{plus}
 use Rattle.sc_definitions.specs.Tables.{entries}
 use Rattle.sc_field.specs.Products.{products}

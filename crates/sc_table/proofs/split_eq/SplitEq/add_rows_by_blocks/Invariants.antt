@@ -3,7 +3,7 @@ use Rattle.sc_definitions.specs.Ring.{times}
 use Rattle.sc_definitions.specs.Tables.{entries}
 use Rattle.sc_table.specs.SplitEqs.{split_weight}
 use Rattle.sc_table.proofs.SumLaws.{HaveGained}
-use Rattle.sc_table.proofs.split_eq.SplitEq.add_rows.Given as goal
+use Rattle.sc_table.proofs.split_eq.SplitEq.add_rows_by_blocks.Given as goal
 
 abbrev pub invariant-loop-from : goal.invariant-loop-from
 invariant-loop-from g l =

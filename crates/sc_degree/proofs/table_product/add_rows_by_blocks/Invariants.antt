@@ -3,7 +3,7 @@ use Rattle.sc_table.specs.Polys.{table_of}
 use Rattle.sc_table.proofs.SumLaws.{HaveGained}
 use Rattle.sc_degree.specs.Nodes.{node_of}
 use Rattle.sc_degree.specs.Lines.{lines_at}
-use Rattle.sc_degree.proofs.table_product.add_rows.Given as goal
+use Rattle.sc_degree.proofs.table_product.add_rows_by_blocks.Given as goal
 
 abbrev pub invariant-loop-from : goal.invariant-loop-from
 invariant-loop-from g l =

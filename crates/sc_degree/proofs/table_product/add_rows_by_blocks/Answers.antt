@@ -8,7 +8,7 @@ use Rattle.sc_table.proofs.SumLaws.{gained-none, gained-block}
 use Rattle.sc_degree.specs.Nodes.{node_of}
 use Rattle.sc_degree.specs.Lines.{lines_at}
 use Rattle.sc_degree.proofs.LineLaws.{ones-part, room-kept}
-use Rattle.sc_degree.proofs.table_product.add_rows.Goals as goal
+use Rattle.sc_degree.proofs.table_product.add_rows_by_blocks.Goals as goal
 
 pub loop-from-init : goal.loop-from-init
 loop-from-init g c = record {

@@ -7,7 +7,7 @@ use Rattle.sc_field.proofs.EntryLaws.{entry-take, part-entry}
 use Rattle.sc_table.specs.SplitEqs.{split_weight}
 use Rattle.sc_table.proofs.SumLaws.{gained-none, gained-block, products-sum}
 use Rattle.sc_table.proofs.SplitLaws.{row-within}
-use Rattle.sc_table.proofs.split_eq.SplitEq.add_rows.Goals as goal
+use Rattle.sc_table.proofs.split_eq.SplitEq.add_rows_by_blocks.Goals as goal
 
 pub loop-from-init : goal.loop-from-init
 loop-from-init g c = record {

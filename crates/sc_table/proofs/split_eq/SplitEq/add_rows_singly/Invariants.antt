@@ -1,0 +1,15 @@
+use Rattle.std.proofs.Common.{◌+◌, ◌*◌, length}
+use Rattle.sc_definitions.specs.Ring.{times}
+use Rattle.sc_definitions.specs.Tables.{entries}
+use Rattle.sc_table.specs.SplitEqs.{split_weight}
+use Rattle.sc_table.proofs.SumLaws.{HaveGained}
+use Rattle.sc_table.proofs.split_eq.SplitEq.add_rows_singly.Given as goal
+
+abbrev pub invariant-loop-a : goal.invariant-loop-a
+invariant-loop-a g l =
+    let f = g.EF.Field in
+    let images = entries (λ x. g.EF.Algebra.embedding (g.A.Field.number x)) l.table in
+    record {
+      rows : HaveGained f.number f.ops (λ c a. times f.ops (images (a * length l.fn.sums + c)) (split_weight f.number f.ops l.self a))
+          l.a l.fn.sums l.sums;
+    }
