@@ -1,11 +1,12 @@
 -- Lists that are joined, and draws, one more at a time.
-use Rattle.std.proofs.Common.{◌≡◌, ℕ, zero, suc, ◌+◌, ◌*◌, ◌/◌, ◌%◌, ◌<◌, ◌==◌, if◌then◌else◌, List, [], ◌∷◌, ◌++◌, length, map, take, get_or, Vec, refl, ap, sym, ◌∙◌, arith, length-append}
+use Rattle.std.proofs.Common.{◌≡◌, ℕ, zero, suc, ◌+◌, ◌*◌, ◌/◌, ◌%◌, ◌<◌, ◌==◌, if◌then◌else◌, List, [], ◌∷◌, ◌++◌, length, map, take, get_or, Vec, refl, ap, sym, ◌∙◌, arith, length-append, subst, All}
 use Rattle.std.proofs.Math.Nat.{zero-mul, suc-mul, add_comm}
 use Rattle.std.proofs.lemmas.List.{take_more, map-append, length-take-le, length-map, append-nil}
+use Rattle.std.proofs.lemmas.List.Elements.{All-nil, All-push}
 use Rattle.std.proofs.lemmas.Grind.{flat_map-append}
 use Rattle.std.specs.List.{range_with_len, flat_map}
 use Rattle.rand_core.specs.Stream.{Stream, next_u64}
-use Rattle.sc_commitments.specs.Draws.{draws_from}
+use Rattle.sc_commitments.specs.Draws.{draws_from, lists_from}
 use Rattle.sc_commitments.specs.Codes.{joined, values_at}
 use Rattle.sc_definitions.specs.Ring.{Ops}
 use Rattle.sc_definitions.specs.Polynomials.{poly_at}
@@ -38,7 +39,33 @@ draws-push number size n s s' t xs ys x put so_far at drawn left = (
   left ∙ ap (λ u. (next_u64 u).1) at ∙ sym (ap (λ p. p.1) (draws-next size n s)),
 )
 
--- one list more
+-- one list more is drawn
+lists-next : (from : Stream → List ℕ × Stream) (n : ℕ) (s : Stream) →
+    lists_from from (n + 1) s ≡ ((lists_from from n s).0 ++ (from (lists_from from n s).1).0 ∷ [], (from (lists_from from n s).1).1)
+unfolding lists_from
+lists-next from n s = let e : n + 1 ≡ suc n = omega arith in ap (λ k. lists_from from k s) e
+
+pub lists-none : (from : Stream → List ℕ × Stream) (s : Stream) → lists_from from 0 s ≡ ([], s)
+unfolding lists_from
+lists-none from s = refl
+
+pub lists-push : {X Z : Type 0} (number : X → ℕ) (from : Stream → List ℕ × Stream) (n : ℕ) (s s' t : Stream) (xs ys : List (Vec X Z)) (v : Vec X Z) →
+    ys ≡ xs ++ v ∷ [] → lists_in number xs ≡ (lists_from from n s).0 → s' ≡ (lists_from from n s).1 → (numbers_in number v, t) ≡ from s' →
+    (lists_in number ys ≡ (lists_from from (n + 1) s).0) × (t ≡ (lists_from from (n + 1) s).1)
+lists-push number from n s s' t xs ys v put so_far at drawn = (
+  ap (lists_in number) put ∙ map-append (numbers_in number) xs (v ∷ []) ∙ ap (λ l. l ++ numbers_in number v ∷ []) so_far
+      ∙ ap (λ l. (lists_from from n s).0 ++ l ∷ []) (ap (λ p. p.0) drawn ∙ ap (λ u. (from u).0) at) ∙ sym (ap (λ p. p.0) (lists-next from n s)),
+  ap (λ p. p.1) drawn ∙ ap (λ u. (from u).1) at ∙ sym (ap (λ p. p.1) (lists-next from n s)),
+)
+
+pub lengths-none : {X Z : Type 0} (k : ℕ) (xs : List (Vec X Z)) → xs ≡ [] → All (λ u. length u.items ≡ k) xs
+lengths-none k xs none = subst (All (λ u. length u.items ≡ k)) (sym none) (All-nil (λ u. length u.items ≡ k))
+
+pub lengths-push : {X Z : Type 0} (k : ℕ) (xs ys : List (Vec X Z)) (v : Vec X Z) → ys ≡ xs ++ v ∷ [] → All (λ u. length u.items ≡ k) xs →
+    length v.items ≡ k → All (λ u. length u.items ≡ k) ys
+lengths-push k xs ys v put so_far size = subst (All (λ u. length u.items ≡ k)) (sym put) (All-push (λ u. length u.items ≡ k) xs v so_far size)
+
+-- one list more is joined
 lists-take : {X Z : Type 0} (number : X → ℕ) (vs : List (Vec X Z)) (j : ℕ) (v : Vec X Z) → j < length vs → v ≡ get_or vs j v →
     lists_in number (take (j + 1) vs) ≡ lists_in number (take j vs) ++ numbers_in number v ∷ []
 lists-take number vs j v low is =

@@ -15,7 +15,8 @@ joined (m ∷ ms) (r ∷ rs) = (m ++ r) ∷ joined ms rs
 abbrev pub values_at : Ops → List (List ℕ) → ℕ → List ℕ
 values_at o polynomials x = map (λ cs. poly_at o cs x) polynomials
 
--- The codewords of n places of messages and their randomness, as columns: row z has the values at node z.
+-- The codewords of n places of messages and their randomness, as columns: row z has the values at
+-- node z.
 abbrev pub node_matrix : Ops → ℕ → List (List ℕ) → List (List ℕ) → Matrix
 node_matrix o n messages randomness = record {
   values = flat_map (values_at o (joined messages randomness)) (range_with_len 0 n);

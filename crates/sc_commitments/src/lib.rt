@@ -4,6 +4,7 @@
 
 mod draws;
 mod encoding;
+mod masks;
 mod matrix;
 mod mmcs;
 mod node_code;
@@ -11,6 +12,7 @@ mod sha2_mmcs;
 
 pub use draws::{DrawElement, draw_list};
 pub use encoding::ZkEncoding;
+pub use masks::sample_masks;
 pub use matrix::RowMajorMatrix;
 pub use mmcs::Mmcs;
 pub use node_code::NodeCode;

@@ -50,7 +50,8 @@ module _ (o : Ops) (ring : IsRing o) (half : ℕ) (halves : times o (plus o 1 1)
   length-aux aux [] = refl
   length-aux aux (p ∷ ps) = ap suc (length-aux (times o half aux) ps)
 
-  -- the residual of an honest masked run: eps times the plain residual with what is left of aux, and the masks at the challenges
+  -- the residual of an honest masked run: eps times the plain residual with what is left of aux,
+  -- and the masks at the challenges
   pub honest_run : (eps claim aux : ℕ) (ss : List (List ℕ)) (gs : List ℕ) (ps : List Piece) → length ss ≡ length gs → length ss ≡ length ps →
       target_after o (first_target o eps (plus o claim aux) (masks_total o ss)) (map wire_of (masked_rounds o eps 0 ss gs (with_aux o half aux ps))) gs
       ≡ plus o (times o eps (plus o (plain_after o claim ps gs) (aux_after o half aux (length ps)))) (masks_at o ss gs)

@@ -5,7 +5,7 @@ use Rattle.sc_definitions.specs.Ring.{Ops, IsRing, IsField, plus, times, minus, 
 use Rattle.sc_definitions.specs.Polynomials.{poly_at, poly_scaled}
 use Rattle.sc_zk_definitions.specs.Masks.{masks_total, Piece, two_power, sum_of, endpoint, total_of, masked_round, masked_rounds, wire_of}
 use Rattle.sc_zk_definitions.specs.Views.{view_of, later_endpoints, AreListsOf}
-use Rattle.sc_zk_definitions.specs.Explained.{half_of, explained_mask, explained_masks, first_endpoint, explained, ViewsAreExplained}
+use Rattle.sc_zk_definitions.specs.Explained.{half_of, unmixing, explained_mask, explained_masks, first_endpoint, explained, ViewsAreExplained}
 use Rattle.sc_definitions.proofs.RingLaws.{element-plus, element-small, plus_below, times_below, times-one}
 use Rattle.sc_definitions.proofs.PolyLaws.{length-scaled}
 use Rattle.sc_definitions.proofs.InterpolationLaws.{inverse-product}
@@ -76,7 +76,7 @@ module _ (o : Ops) (ring : IsRing o) (half : ℕ) (halves : times o (plus o 1 1)
       ∙ element-small o ring e low
 
   -- the mask of one round
-  mask-length : (eps done e : ℕ) (ends : List ℕ) (p : Piece) (w v : ℕ) (ws : List ℕ) → length (explained_mask o half eps done e ends p (w ∷ v ∷ ws)) ≡ suc (suc (suc (length ws)))
+  mask-length : (eps done e : ℕ) (ends : List ℕ) (p : Piece) (w v : ℕ) (ws : List ℕ) → length (explained_mask o (unmixing half eps) done e ends p (w ∷ v ∷ ws)) ≡ suc (suc (suc (length ws)))
   unfolding explained_mask
   mask-length eps done e ends p w v ws = ap (λ n. suc (suc (suc n))) (length-scaled o ring (power o half (length ends)) ws)
 
@@ -85,7 +85,7 @@ module _ (o : Ops) (ring : IsRing o) (half : ℕ) (halves : times o (plus o 1 1)
       let P : ℕ → Type 0 = λ c. c < o.size in
       All-cons P x (y ∷ z ∷ cs) hx (All-cons P y (z ∷ cs) hy (All-cons P z cs hz h))
 
-  mask-below : (eps done e : ℕ) (ends : List ℕ) (p : Piece) (w v : ℕ) (ws : List ℕ) → All (λ c. c < o.size) (explained_mask o half eps done e ends p (w ∷ v ∷ ws))
+  mask-below : (eps done e : ℕ) (ends : List ℕ) (p : Piece) (w v : ℕ) (ws : List ℕ) → All (λ c. c < o.size) (explained_mask o (unmixing half eps) done e ends p (w ∷ v ∷ ws))
   unfolding explained_mask
   mask-below eps done e ends p w v ws =
       let u = power o half (length ends) in
@@ -99,7 +99,7 @@ module _ (o : Ops) (ring : IsRing o) (half : ℕ) (halves : times o (plus o 1 1)
       three-below c0 (minus o b r) c2 cs (plus_below o ring a (opposite o done)) (plus_below o ring b (opposite o r)) (times_below o ring u d) (below-scaled u ws)
 
   mask-wire : (eps done e : ℕ) (ends : List ℕ) (p : Piece) (w v : ℕ) (ws : List ℕ) → All (λ c. c < o.size) (w ∷ v ∷ ws) →
-      wire_of (masked_round o eps done (explained_mask o half eps done e ends p (w ∷ v ∷ ws)) ends p) ≡ w ∷ v ∷ ws
+      wire_of (masked_round o eps done (explained_mask o (unmixing half eps) done e ends p (w ∷ v ∷ ws)) ends p) ≡ w ∷ v ∷ ws
   unfolding explained_mask
   mask-wire eps done e ends p w v ws low =
       let k = two_power o (length ends) in
@@ -115,7 +115,7 @@ module _ (o : Ops) (ring : IsRing o) (half : ℕ) (halves : times o (plus o 1 1)
       ∙ ap (λ x. w ∷ x ∷ poly_scaled o k cs) (second-back k u v e2 inv (low 1 0 (omega arith)))
       ∙ ap (λ xs. w ∷ v ∷ xs) (scaled-back k u ws inv (λ i d h. low (suc (suc i)) d (omega arith)))
 
-  mask-end : (eps done e : ℕ) (ends : List ℕ) (p : Piece) (w v : ℕ) (ws : List ℕ) → e < o.size → endpoint o (explained_mask o half eps done e ends p (w ∷ v ∷ ws)) ≡ e
+  mask-end : (eps done e : ℕ) (ends : List ℕ) (p : Piece) (w v : ℕ) (ws : List ℕ) → e < o.size → endpoint o (explained_mask o (unmixing half eps) done e ends p (w ∷ v ∷ ws)) ≡ e
   unfolding explained_mask endpoint sum_of
   mask-end eps done e ends p w v ws low =
       let u = power o half (length ends) in
@@ -131,7 +131,7 @@ module _ (o : Ops) (ring : IsRing o) (half : ℕ) (halves : times o (plus o 1 1)
 
   masks-explain : (l eps done : ℕ) (es : List ℕ) (gs : List ℕ) (ps : List Piece) (ws : List (List ℕ)) → 2 ≤ l →
       length ws ≡ length es → length ws ≡ length gs → length ws ≡ length ps → All (λ e. e < o.size) es → AreListsOf o l ws →
-      Explains l eps done es gs ps ws (explained_masks o half eps done es gs ps ws)
+      Explains l eps done es gs ps ws (explained_masks o (unmixing half eps) done es gs ps ws)
   unfolding explained_masks masked_rounds
   masks-explain l eps done [] [] [] [] long a b c low are = record { are = tt; wires = refl; ends = refl }
   masks-explain l eps done [] gs ps (w ∷ ws) long a b c low are = absurd (omega arith)
@@ -143,8 +143,8 @@ module _ (o : Ops) (ring : IsRing o) (half : ℕ) (halves : times o (plus o 1 1)
   masks-explain l eps done (e ∷ es) (g ∷ gs) (p ∷ ps) ([] ∷ ws) long a b c low are = absurd (omega (arith, are.0))
   masks-explain l eps done (e ∷ es) (g ∷ gs) (p ∷ ps) ((x ∷ []) ∷ ws) long a b c low are = absurd (omega (arith, are.0))
   masks-explain l eps done (e ∷ es) (g ∷ gs) (p ∷ ps) ((x ∷ y ∷ xs) ∷ ws) long a b c low are =
-      let s = explained_mask o half eps done e es p (x ∷ y ∷ xs) in
-      let ss = explained_masks o half eps (plus o done (poly_at o s g)) es gs ps ws in
+      let s = explained_mask o (unmixing half eps) done e es p (x ∷ y ∷ xs) in
+      let ss = explained_masks o (unmixing half eps) (plus o done (poly_at o s g)) es gs ps ws in
       let later = masks-explain l eps (plus o done (poly_at o s g)) es gs ps ws long (omega arith) (omega arith) (omega arith) (λ i d h. low (suc i) d (omega arith)) are.2 in
       let size : length s ≡ suc l = mask-length eps done e es p x y xs ∙ ap suc are.0 in
       record {

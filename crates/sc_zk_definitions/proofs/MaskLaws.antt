@@ -5,7 +5,7 @@ use Rattle.sc_definitions.specs.Ring.{Ops, IsRing, plus, times, minus, power}
 use Rattle.sc_definitions.specs.Tables.{evaluation, sum_below, digits}
 use Rattle.sc_definitions.specs.Polynomials.{poly_at, poly_plus, poly_scaled}
 use Rattle.sc_definitions.specs.Rounds.{sent_pair, sent_polynomial, next_claim, claim_along}
-use Rattle.sc_zk_definitions.specs.Masks.{masks_at, masks_total, Piece, pair_of, masked_round_at, two_power, sum_of, endpoint, total_of, masked_round, masked_rounds, wire_of, unwired, next_target, first_target, target_after, plain_after}
+use Rattle.sc_zk_definitions.specs.Masks.{masks_at, masks_total, Piece, pair_of, masked_round_at, two_power, sum_of, endpoint, total_of, masked_round, masked_rounds, wire_of, unwired, next_target, first_target, target_after, plain_after, RoundsAreSums, TotalsAreOfEndpoints}
 use Rattle.sc_definitions.proofs.PolyLaws.{poly_at-plus, poly_at-scaled}
 use Rattle.sc_definitions.proofs.Sums.{sum-same, sum-split, sum-plus}
 use Rattle.sc_definitions.proofs.TableLaws.{two_halves}
@@ -176,7 +176,8 @@ module _ (o : Ops) (ring : IsRing o) where
       identity o ring (claim ∷ p.constant ∷ p.leading ∷ g ∷ [])
       (C ⊕ X ⊗ ((((K ⊖ C) ⊖ C) ⊖ L) ⊕ X ⊗ (L ⊕ X ⊗ nought))) ((C ⊕ (((K ⊖ C) ⊖ C) ⊖ L) ⊗ X) ⊕ L ⊗ (X ⊗ X)) tt tt refl
 
-  -- the target before a round: eps times the plain claim, and the masks that are done and those with the endpoints es, which are to come
+  -- the target before a round: eps times the plain claim, and the masks that are done and those
+  -- with the endpoints es, which are to come
   target : ℕ → ℕ → ℕ → List ℕ → ℕ
   target eps claim done es = plus o (times o eps claim) (plus o (times o (two_power o (length es)) done) (total_of o es))
 
@@ -242,3 +243,10 @@ module _ (o : Ops) (ring : IsRing o) where
       (identity o ring (times o eps claim ∷ two_power o (length ends) ∷ total_of o ends ∷ []) (A ⊕ T) (A ⊕ (P ⊗ nought ⊕ T)) tt tt refl)
       ∙ target-after eps claim 0 ss gs ps e e'
       ∙ identity o ring (times o eps (plain_after o claim ps gs) ∷ masks_at o ss gs ∷ []) (atom 0 ⊕ (nought ⊕ atom 1)) (atom 0 ⊕ atom 1) tt tt refl
+
+-- both closed forms, as contracts say them
+pub rounds_are_sums : (o : Ops) → IsRing o → RoundsAreSums o
+rounds_are_sums o ring eps earlier later gs s p x e = sym (masked_round-sum o ring eps earlier gs s later p x e)
+
+pub totals_are_of_endpoints : (o : Ops) → IsRing o → TotalsAreOfEndpoints o
+totals_are_of_endpoints o ring ss = total-endpoints o ring ss

@@ -7,12 +7,13 @@ use Rattle.sc_definitions.specs.Polynomials.{poly_at, poly_plus, poly_scaled}
 use Rattle.sc_definitions.specs.Rounds.{claim_along}
 use Rattle.sc_zk_definitions.specs.Masks.{masks_at, masks_total, powers_below, sum_of, endpoint, total_of, piece, masked_round, masked_rounds, masked_round_at, wire_of, unwired, next_target, first_target, target_after, aux_after}
 use Rattle.sc_zk_definitions.specs.Views.{view_of}
-use Rattle.sc_zk_definitions.specs.Explained.{explained_mask, explained_masks, first_endpoint}
+use Rattle.sc_zk_definitions.specs.Explained.{unmixing, explained_mask, explained_masks, first_endpoint}
 
 abbrev o : Ops
 o = residues 65537
 
--- one mask of three coefficients over the plain piece 7 + 13 X^2, combined by 31; two masks at two challenges, and the powers that make their values
+-- one mask of three coefficients over the plain piece 7 + 13 X^2, combined by 31; two masks at two
+-- challenges, and the powers that make their values
 one_mask :
     (masked_rounds o 31 0 ((2 ∷ 3 ∷ 5 ∷ []) ∷ []) (2 ∷ []) (piece 7 13 ∷ []) ≡ (219 ∷ 3 ∷ 408 ∷ []) ∷ [])
     × (wire_of (219 ∷ 3 ∷ 408 ∷ []) ≡ 219 ∷ 408 ∷ [])
@@ -35,13 +36,14 @@ two_masks = (refl, refl, refl, refl)
 -- the masks that explain that view: one half is 32769
 explained_view :
     (first_endpoint o 32769 52 (19 ∷ []) ≡ 7)
-    × (explained_masks o 32769 1 0 (7 ∷ 19 ∷ []) (2 ∷ 3 ∷ []) (piece 0 0 ∷ piece 0 0 ∷ []) ((21 ∷ 6 ∷ []) ∷ (21 ∷ 6 ∷ []) ∷ [])
+    × (explained_masks o (unmixing 32769 1) 0 (7 ∷ 19 ∷ []) (2 ∷ 3 ∷ []) (piece 0 0 ∷ piece 0 0 ∷ []) ((21 ∷ 6 ∷ []) ∷ (21 ∷ 6 ∷ []) ∷ [])
     ≡ (1 ∷ 2 ∷ 3 ∷ []) ∷ (4 ∷ 5 ∷ 6 ∷ []) ∷ [])
-    × (explained_masks o 32769 31 0 (first_endpoint o 32769 12 [] ∷ []) (2 ∷ []) (piece 7 13 ∷ []) ((219 ∷ 408 ∷ []) ∷ []) ≡ (2 ∷ 3 ∷ 5 ∷ []) ∷ [])
+    × (explained_masks o (unmixing 32769 31) 0 (first_endpoint o 32769 12 [] ∷ []) (2 ∷ []) (piece 7 13 ∷ []) ((219 ∷ 408 ∷ []) ∷ []) ≡ (2 ∷ 3 ∷ 5 ∷ []) ∷ [])
 unfolding explained_masks explained_mask first_endpoint total_of sum_of power poly_at poly_scaled plus times opposite
 explained_view = (refl, refl, refl)
 
--- a masked round over a claim: the table [1, 2] under the weights [1, 0] has the claim 1, aux is 4 and its half 2, the combination 31, the challenge 2
+-- a masked round over a claim: the table [1, 2] under the weights [1, 0] has the claim 1, aux is 4
+-- and its half 2, the combination 31, the challenge 2
 veiled :
     (masks_total o ((2 ∷ 3 ∷ 5 ∷ []) ∷ []) ≡ 12)
     × (masked_round o 31 0 (2 ∷ 3 ∷ 5 ∷ []) [] (piece 3 65536) ≡ 95 ∷ 3 ∷ 65511 ∷ [])

@@ -1,4 +1,5 @@
--- A masked batch that is asked of a prover, a simulator or a verifier: what fixes it, where its rounds begin, and what it leaves.
+-- A masked batch that is asked of a prover, a simulator or a verifier: what fixes it, where its
+-- rounds begin, and what it leaves.
 use Rattle.std.specs.Prelude.{◌≡◌, ◌⊎◌, ℕ, List, [], ◌++◌, length, slice_index_or}
 use Rattle.sc_definitions.specs.declared.events.Event.{Event}
 use Rattle.sc_definitions.specs.Ring.{Ops, ◌+⟨◌⟩◌}
@@ -7,12 +8,13 @@ use Rattle.sc_definitions.specs.Transcript.{Round, messages_of, rounds_events, c
 use Rattle.sc_definitions.specs.Channels.{Channel, Footing, footing, IsBuilt, IsReplayed}
 use Rattle.sc_definitions.specs.Standings.{Setting, Standing}
 use Rattle.sc_zk_definitions.specs.Masks.{masks_total, next_target, first_target}
-use Rattle.sc_zk_definitions.specs.Masked.{Shape, Head, head, masked_seed, begun_events, combination_at, rounds_from}
+use Rattle.sc_zk_definitions.specs.MaskedTranscripts.{Shape, Head, head, masked_seed, begun_events, combination_at, rounds_from}
 use Rattle.sc_zk_definitions.specs.MaskedRuns.{Masking, IsMasked}
 
 -- ---- where it begins
 
--- a history that ends before the masks of a batch that begins at h: nothing came, the seed, or the first step too
+-- a history that ends before the masks of a batch that begins at h: nothing came, the seed, or the
+-- first step too
 abbrev pub IsHeadPart : Channel → Shape → ℕ → List Event → List Event → Type 0
 IsHeadPart c s claim h h' = (h' ≡ h) ⊎ (h' ≡ h ++ words (masked_seed c.extension.degree s)) ⊎ (h' ≡ h ++ begun_events c.extension s claim)
 
@@ -22,7 +24,8 @@ combination_of c s b h = combination_at c.rules c.extension h s b
 
 -- ---- a prover's batch
 
--- What a prover is asked for: what stays, the shape, where it stands before the seed, the masks and the words of their commitment, and aux with one half.
+-- What a prover is asked for: what stays, the shape, where it stands before the seed, the masks and
+-- the words of their commitment, and aux with one half.
 pub record MaskedBatch : Type 0 where
   pub setting : Setting
   pub shape : Shape
@@ -53,26 +56,42 @@ pub record PlaysMasked (b : MaskedBatch) (after : Standing) (rs : List ℕ) : Ty
   pub whole : length b.masks ≡ length rs
   pub played : IsMasked b.setting (masking_of b) (start_of b) after rs
 
--- ---- a batch that is replayed
+-- ---- a batch whose head is given
 
--- Where a replay of a claim stands behind its head, the batch having begun at h.
-abbrev pub head_footing : Ops → Channel → Shape → Head → List Event → Footing
-head_footing o c s b h = footing (rounds_from c.extension h s b) (first_target o (combination_of c s b h) b.claim b.mu)
+-- A batch with what both sides have put before its rounds, and the history where it begins.
+pub record HeadedBatch : Type 0 where
+  pub channel : Channel
+  pub shape : Shape
+  pub given : Head
+  pub begun : List Event
+
+-- the history where its rounds begin
+abbrev pub behind_head : HeadedBatch → List Event
+behind_head b = rounds_from b.channel.extension b.begun b.shape b.given
+
+-- where a replay of a claim stands behind the head: the first target is eps times the claim and the
+-- total of the masks
+abbrev pub head_footing : Ops → HeadedBatch → Footing
+head_footing o b =
+    footing (behind_head b) (first_target o (combination_of b.channel b.shape b.given b.begun) b.given.claim b.given.mu)
 
 -- ---- a batch that is simulated
 
 -- Rounds of these wires, whatever the challenges are; each witness is the first.
 abbrev pub AreSent : Channel → List Event → List (List ℕ) → List Round → Type 0
-AreSent c h ws rounds = (messages_of rounds ≡ ws) × IsBuilt (λ rs m. slice_index_or ws (length rs) []) c h [] (length ws) rounds
+AreSent c h ws rounds =
+    (messages_of rounds ≡ ws) × IsBuilt (λ rs m. slice_index_or ws (length rs) []) c h [] (length ws) rounds
 
--- Rounds of these wires were sent behind a head, with the challenges rs, and h' is the history after them.
-pub record IsSimulated (c : Channel) (s : Shape) (b : Head) (h : List Event) (ws : List (List ℕ)) (rounds : List Round) (rs : List ℕ) (h' : List Event) : Type 0 where
-  pub sent : AreSent c (rounds_from c.extension h s b) ws rounds
-  pub drawn : rs ≡ challenges c.rules c.extension c.bits (rounds_from c.extension h s b) rounds
-  pub history : h' ≡ rounds_from c.extension h s b ++ rounds_events c.extension c.bits rounds
+-- Rounds of these wires were sent behind the head, with the challenges rs, and h is the history
+-- after them.
+pub record IsSimulated (b : HeadedBatch) (ws : List (List ℕ)) (rounds : List Round) (rs : List ℕ) (h : List Event) : Type 0 where
+  pub sent : AreSent b.channel (behind_head b) ws rounds
+  pub drawn : rs ≡ challenges b.channel.rules b.channel.extension b.channel.bits (behind_head b) rounds
+  pub history : h ≡ behind_head b ++ rounds_events b.channel.extension b.channel.bits rounds
 
 -- What was simulated is replayed, whatever the claim is: with its challenges, to its history.
 abbrev pub SimulationsReplay : Type 0
 SimulationsReplay =
-    (o : Ops) (c : Channel) (s : Shape) (b : Head) (h : List Event) (ws : List (List ℕ)) (rounds : List Round) (rs : List ℕ) (h' : List Event) →
-    IsSimulated c s b h ws rounds rs h' → (target : ℕ) × IsReplayed (next_target o) c (head_footing o c s b h) (footing h' target) rounds rs
+    (o : Ops) (b : HeadedBatch) (ws : List (List ℕ)) (rounds : List Round) (rs : List ℕ) (h : List Event) →
+    IsSimulated b ws rounds rs h →
+    (target : ℕ) × IsReplayed (next_target o) b.channel (head_footing o b) (footing h target) rounds rs

@@ -1,4 +1,5 @@
--- Masked rounds move a standing: what stays while a prover plays them on two tables, and what they leave.
+-- Masked rounds move a standing: what stays while a prover plays them on two tables, and what they
+-- leave.
 use Rattle.std.specs.Prelude.{◌≡◌, ℕ, zero, suc, ◌+◌, List, [], ◌∷◌, ◌++◌, length, drop, map, slice_index}
 use Rattle.sc_definitions.specs.Ring.{Ops, IsRing, ◌+⟨◌⟩◌, ◌*⟨◌⟩◌}
 use Rattle.sc_definitions.specs.Tables.{evaluation, IsOffered, rows_of, bound_in, bound_by}
@@ -9,7 +10,8 @@ use Rattle.sc_definitions.specs.Standings.{Setting, Standing, entries_of, messag
 use Rattle.sc_definitions.specs.Shown.{Shown, with_scaled}
 use Rattle.sc_zk_definitions.specs.Masks.{masks_at, masks_total, endpoint, Piece, piece, pair_of, masked_round, wire_of, next_target, first_target, plain_after, aux_after}
 
--- What stays beside the setting: the masks, one for each round, the combination, and aux with one half.
+-- What stays beside the setting: the masks, one for each round, the combination, and aux with one
+-- half.
 pub record Masking : Type 0 where
   pub masks : List (List ℕ)
   pub eps : ℕ
@@ -30,7 +32,8 @@ piece_in s t rs m = piece_of (honest_in s t rs m)
 abbrev pub piece_with : Ops → Masking → ℕ → Piece → Piece
 piece_with o k before p = piece (p.constant +⟨ o ⟩ aux_after o k.half k.aux (suc before)) p.leading
 
--- the wire of a round, of which these masks are its own and those behind it, and `done` is the sum of the earlier ones at their challenges
+-- the wire of a round, of which these masks are its own and those behind it, and `done` is the sum
+-- of the earlier ones at their challenges
 abbrev pub wire_from : Ops → ℕ → ℕ → List (List ℕ) → Piece → List ℕ
 wire_from o eps done [] p = []
 wire_from o eps done (s ∷ ss) p = wire_of (masked_round o eps done s (map (endpoint o) ss) p)
@@ -43,8 +46,8 @@ wire_after o k rs p = wire_from o k.eps (masks_at o k.masks rs) (drop (length rs
 abbrev pub masked_in : Setting → Standing → Masking → List ℕ → ℕ → List ℕ
 masked_in s t k rs m = wire_after s.ops k rs (piece_in s t rs m)
 
--- What a function of the challenges before a round and of the number of variables behind it gives for each round, where n variables are left and the
--- challenges are these.
+-- What a function of the challenges before a round and of the number of variables behind it gives
+-- for each round, where n variables are left and the challenges are these.
 abbrev pub along : {X : Type 0} → (List ℕ → ℕ → X) → List ℕ → ℕ → List ℕ → List X
 along f before n [] = []
 along f before zero (r ∷ rs) = []
@@ -52,8 +55,8 @@ along f before (suc n) (r ∷ rs) = f before n ∷ along f (before ++ r ∷ []) 
 
 -- ---- rounds
 
--- Masked rounds with the challenges rs: what the tables before them make under the masks is put on the wire, both tables are bound at rs, and the plain
--- claim is folded along the plain messages.
+-- Masked rounds with the challenges rs: what the tables before them make under the masks is put on
+-- the wire, both tables are bound at rs, and the plain claim is folded along the plain messages.
 pub record IsMasked (s : Setting) (k : Masking) (before after : Standing) (rs : List ℕ) : Type 0 where
   pub rounds : List Round
   pub built : IsBuilt (masked_in s before k) s.channel before.history [] before.variables rounds
@@ -65,8 +68,9 @@ pub record IsMasked (s : Setting) (k : Masking) (before after : Standing) (rs : 
   pub weights : after.weights ≡ entries_of after.variables (bound_by s.basis s.order s.ops rs after.variables (rows_of before.weights))
   pub claim : after.claim ≡ plain_after s.ops before.claim (along (piece_in s before) [] before.variables rs) rs
 
--- One round, after others with the challenges rs: the message of the tables is put under the masks and sent with the first witness, both tables are bound
--- at r, and the plain claim is what the message sends there.
+-- One round, after others with the challenges rs: the message of the tables is put under the masks
+-- and sent with the first witness, both tables are bound at r, and the plain claim is what the
+-- message sends there.
 pub record IsMaskedRound (s : Setting) (k : Masking) (before after : Standing) (rs : List ℕ) (r : ℕ) : Type 0 where
   pub round : Round
   pub fewer : before.variables ≡ suc after.variables
@@ -82,7 +86,8 @@ pub record IsMaskedInPart (s : Setting) (k : Masking) (before after : Standing) 
   pub rs : List ℕ
   pub played : IsMasked s k before after rs
 
--- Masked rounds, with some challenges, and then one for which no witness was found: the history ends with its wire.
+-- Masked rounds, with some challenges, and then one for which no witness was found: the history
+-- ends with its wire.
 pub record IsMaskedWithoutWitness (s : Setting) (k : Masking) (before after : Standing) : Type 0 where
   pub rs : List ℕ
   pub last : Standing
@@ -94,7 +99,8 @@ pub record IsMaskedWithoutWitness (s : Setting) (k : Masking) (before after : St
 
 -- ---- the residual
 
--- What a replay of the wires leaves of the first target: the combination times the plain residual with what is left of aux, and the masks at their challenges.
+-- What a replay of the wires leaves of the first target: the combination times the plain residual
+-- with what is left of aux, and the masks at their challenges.
 abbrev pub residual_of : Ops → Masking → ℕ → List ℕ → ℕ
 residual_of o k residual rs = k.eps *⟨ o ⟩ (residual +⟨ o ⟩ aux_after o k.half k.aux (length rs)) +⟨ o ⟩ masks_at o k.masks rs
 
@@ -112,15 +118,19 @@ handed o k s = with_scaled o s k.eps
 abbrev pub IsHalf : Ops → ℕ → Type 0
 IsHalf o half = (1 +⟨ o ⟩ 1) *⟨ o ⟩ half ≡ 1
 
--- Masked rounds, one for each mask, can be replayed with their challenges, from the first target to the residual.
+-- Masked rounds, one for each mask, can be replayed with their challenges, from the first target to
+-- the residual.
 abbrev pub RunsReplay : Type 0
 RunsReplay =
-    (s : Setting) (k : Masking) (before after : Standing) (rs : List ℕ) → IsRing s.ops → IsHalf s.ops k.half → length k.masks ≡ length rs →
+    (s : Setting) (k : Masking) (before after : Standing) (rs : List ℕ) →
+    IsRing s.ops → IsHalf s.ops k.half → length k.masks ≡ length rs →
     (p : IsMasked s k before after rs) →
-    IsReplayed (next_target s.ops) s.channel (footing before.history (target_of s.ops k before.claim)) (footing after.history (residual_of s.ops k after.claim rs)) p.rounds rs
+    IsReplayed (next_target s.ops) s.channel (footing before.history (target_of s.ops k before.claim))
+    (footing after.history (residual_of s.ops k after.claim rs)) p.rounds rs
 
 -- A masked round behind masked rounds makes one more.
 abbrev pub RunsGrow : Type 0
 RunsGrow =
-    (s : Setting) (k : Masking) (start before after : Standing) (rs : List ℕ) (r : ℕ) → IsRing s.ops → IsOffered s.basis s.order →
+    (s : Setting) (k : Masking) (start before after : Standing) (rs : List ℕ) (r : ℕ) →
+    IsRing s.ops → IsOffered s.basis s.order →
     IsMasked s k start before rs → IsMaskedRound s k before after rs r → IsMasked s k start after (rs ++ r ∷ [])

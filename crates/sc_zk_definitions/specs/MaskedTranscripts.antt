@@ -21,7 +21,8 @@ round_length mask_length = max mask_length 3
 abbrev pub wire_length : ℕ → ℕ
 wire_length mask_length = round_length mask_length - 1
 
--- What fixes the transcript of a masked batch: what it begins with, how many rounds it has, how long its masks are, and the difficulty.
+-- What fixes the transcript of a masked batch: what it begins with, how many rounds it has, how
+-- long its masks are, and the difficulty.
 pub record Shape : Type 0 where
   pub prelude : ZkPrelude
   pub rounds : ℕ
@@ -35,10 +36,12 @@ abbrev pub prelude_step : ℕ → ZkPrelude → Interaction
 prelude_step parts RecordedClaims = step Challenge parts Scalar ClaimBatching
 prelude_step parts InheritedClaim = step Message parts Scalar JointClaim
 
--- the steps before the rounds: the first one, the commitment, which has no parts, the masks' total, and the combination
+-- the steps before the rounds: the first one, the commitment, which has no parts, the masks' total,
+-- and the combination
 abbrev pub head_steps : ℕ → ZkPrelude → List Interaction
 head_steps parts prelude =
-    prelude_step parts prelude ∷ step Message 0 Scalar MaskCommitment ∷ step Message parts Scalar MuTilde ∷ step Challenge parts Scalar MaskCombination ∷ []
+    prelude_step parts prelude ∷ step Message 0 Scalar MaskCommitment ∷ step Message parts Scalar MuTilde
+    ∷ step Challenge parts Scalar MaskCombination ∷ []
 
 -- all steps
 abbrev pub masked_steps : ℕ → Shape → List Interaction
@@ -59,7 +62,8 @@ abbrev pub prelude_events : Extension → ZkPrelude → ℕ → List Event
 prelude_events E RecordedClaims claim = replicate E.degree Draw
 prelude_events E InheritedClaim claim = sent E (claim ∷ [])
 
--- those of the masks before the combination is drawn: the words of their commitment, and their total
+-- those of the masks before the combination is drawn: the words of their commitment, and their
+-- total
 abbrev pub commitment_events : Extension → List ℕ → ℕ → List Event
 commitment_events E commitment mu = words commitment ++ sent E (mu ∷ [])
 
@@ -67,7 +71,8 @@ commitment_events E commitment mu = words commitment ++ sent E (mu ∷ [])
 abbrev pub masks_events : Extension → List ℕ → ℕ → List Event
 masks_events E commitment mu = commitment_events E commitment mu ++ replicate E.degree Draw
 
--- What both sides have put before the rounds: the claim that a batch inherits, the words of the masks' commitment, and their total.
+-- What both sides have put before the rounds: the claim that a batch inherits, the words of the
+-- masks' commitment, and their total.
 pub record Head : Type 0 where
   pub claim : ℕ
   pub commitment : List ℕ
@@ -97,7 +102,8 @@ batching_at R E h s = extension_draw R E (h ++ words (masked_seed E.degree s))
 
 -- the one that combines the masks with what they mask
 abbrev pub combination_at : Rules → Extension → List Event → Shape → Head → ℕ
-combination_at R E h s b = extension_draw R E (h ++ begun_events E s b.claim ++ commitment_events E b.commitment b.mu)
+combination_at R E h s b =
+    extension_draw R E (h ++ begun_events E s b.claim ++ commitment_events E b.commitment b.mu)
 
 -- where the rounds begin
 abbrev pub rounds_from : Extension → List Event → Shape → Head → List Event
