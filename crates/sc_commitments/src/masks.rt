@@ -23,7 +23,7 @@ pub fn sample_masks<EF: Field, Enc: ZkEncoding<EF>, G: Rng>(
     ensures drawn { IfOk result (λ made. drawn (lists_in EF.number made.0.items)
         (lists_in EF.number made.1.items) (G.stream rng.new)
         ≡ masks_from (Enc.message_from encoding.now) (Enc.randomness_from encoding.now) count
-            (G.stream rng.old)) }
+        (G.stream rng.old)) }
     ensures counts { IfOk result (λ made. (length made.0.items ≡ count)
         × (length made.1.items ≡ count)) }
     ensures masks { IfOk result (λ made. All
