@@ -5,7 +5,7 @@ use Rattle.sc_definitions.specs.Ring.{Ops}
 use Rattle.sc_definitions.specs.Polynomials.{poly_at}
 use Rattle.sc_commitments.specs.Matrices.{Matrix}
 
--- each list of the first with that of the second behind it
+-- each list of the first with that of the second after it
 abbrev pub joined : List (List ℕ) → List (List ℕ) → List (List ℕ)
 joined [] rs = []
 joined (m ∷ ms) [] = []

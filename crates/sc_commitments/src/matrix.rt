@@ -6,7 +6,7 @@ use sc_memory::Row;
 
 /// A matrix: its values row by row, and how many of them a row has.
 ///
-/// Nothing ties the number of values to the width: values behind the last whole row belong to no
+/// Nothing ties the number of values to the width: values after the last whole row belong to no
 /// row, and a matrix of width 0 has no row.
 #[derive(Drop)]
 pub struct RowMajorMatrix<T> {

@@ -14,7 +14,7 @@ use sc_memory::Row;
 use std::alloc::Global;
 use std::marker::PhantomData;
 
-/// The code of a polynomial's values. The message, and the randomness behind it, are the
+/// The code of a polynomial's values. The message, and the randomness after it, are the
 /// coefficients, the constant first; position z of the codeword is the value at node z, which is
 /// the element number z.
 ///
@@ -102,7 +102,7 @@ impl<EF: DrawElement> ZkEncoding<EF> for NodeCode<EF> {
     }
 }
 
-// Each message with its randomness behind it.
+// Each message with its randomness after it.
 fn joined_lists<EF: Field>(
     alloc: Global,
     messages: &[Vec<EF>],

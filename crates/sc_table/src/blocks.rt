@@ -19,8 +19,9 @@ pub const BLOCK_COORDINATES: usize = 8;
 // 16 KiB of the stack.
 const MOST_BYTES: usize = 64;
 
-/// Whether a block of elements is an array: whether an element has at most 64 bytes. Larger ones are
-/// taken row by row. No law of a field tells the size; the compiler knows it, and drops the test.
+/// Whether a block of elements is an array: whether an element has at most 64 bytes. Larger ones
+/// are taken row by row. No law of a field tells the size; the compiler knows it, and drops the
+/// test.
 pub fn fits_in_blocks<E: Field>() -> bool
     ensures { result ≡ true → FitsInBlocks E.row }
 {

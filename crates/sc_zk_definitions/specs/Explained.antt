@@ -20,7 +20,7 @@ abbrev pub unmixing : ℕ → ℕ → Unmixing
 unmixing half eps = record { half = half; eps = eps }
 
 -- The mask of a round whose endpoint is e, by the round's wire: `done` is the sum of the earlier
--- masks at their challenges, and `ends` are the endpoints of the masks behind it. Each coefficient
+-- masks at their challenges, and `ends` are the endpoints of the masks after it. Each coefficient
 -- but the linear one is read off the wire, and that one off the endpoint.
 unfoldable pub explained_mask : Ops → Unmixing → ℕ → ℕ → List ℕ → Piece → List ℕ → List ℕ
 explained_mask o m done e ends p [] = []

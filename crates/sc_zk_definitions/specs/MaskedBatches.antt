@@ -69,7 +69,7 @@ pub record HeadedBatch : Type 0 where
 abbrev pub behind_head : HeadedBatch → List Event
 behind_head b = rounds_from b.channel.extension b.begun b.shape b.given
 
--- where a replay of a claim stands behind the head: the first target is eps times the claim and the
+-- where a replay of a claim stands after the head: the first target is eps times the claim and the
 -- total of the masks
 abbrev pub head_footing : Ops → HeadedBatch → Footing
 head_footing o b =
@@ -82,7 +82,7 @@ abbrev pub AreSent : Channel → List Event → List (List ℕ) → List Round �
 AreSent c h ws rounds =
     (messages_of rounds ≡ ws) × IsBuilt (λ rs m. slice_index_or ws (length rs) []) c h [] (length ws) rounds
 
--- Rounds of these wires were sent behind the head, with the challenges rs, and h is the history
+-- Rounds of these wires were sent after the head, with the challenges rs, and h is the history
 -- after them.
 pub record IsSimulated (b : HeadedBatch) (ws : List (List ℕ)) (rounds : List Round) (rs : List ℕ) (h : List Event) : Type 0 where
   pub sent : AreSent b.channel (behind_head b) ws rounds

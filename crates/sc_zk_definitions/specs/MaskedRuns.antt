@@ -18,7 +18,7 @@ pub record Masking : Type 0 where
   pub half : ℕ
   pub aux : ℕ
 
--- ---- what each round sends, by the challenges before it and the number of variables behind it
+-- ---- what each round sends, by the challenges before it and the number of variables after it
 
 -- the piece of a message of two values
 abbrev pub piece_of : List ℕ → Piece
@@ -28,11 +28,11 @@ piece_of message = piece (slice_index message 0) (slice_index message 1)
 abbrev pub piece_in : Setting → Standing → List ℕ → ℕ → Piece
 piece_in s t rs m = piece_of (honest_in s t rs m)
 
--- a piece of the round behind so many others, with what is left of aux then in its constant
+-- a piece of the round after so many others, with what is left of aux then in its constant
 abbrev pub piece_with : Ops → Masking → ℕ → Piece → Piece
 piece_with o k before p = piece (p.constant +⟨ o ⟩ aux_after o k.half k.aux (suc before)) p.leading
 
--- the wire of a round, of which these masks are its own and those behind it, and `done` is the sum
+-- the wire of a round, of which these masks are its own and those after it, and `done` is the sum
 -- of the earlier ones at their challenges
 abbrev pub wire_from : Ops → ℕ → ℕ → List (List ℕ) → Piece → List ℕ
 wire_from o eps done [] p = []
@@ -46,7 +46,7 @@ wire_after o k rs p = wire_from o k.eps (masks_at o k.masks rs) (drop (length rs
 abbrev pub masked_in : Setting → Standing → Masking → List ℕ → ℕ → List ℕ
 masked_in s t k rs m = wire_after s.ops k rs (piece_in s t rs m)
 
--- What a function of the challenges before a round and of the number of variables behind it gives
+-- What a function of the challenges before a round and of the number of variables after it gives
 -- for each round, where n variables are left and the challenges are these.
 abbrev pub along : {X : Type 0} → (List ℕ → ℕ → X) → List ℕ → ℕ → List ℕ → List X
 along f before n [] = []
@@ -128,7 +128,7 @@ RunsReplay =
     IsReplayed (next_target s.ops) s.channel (footing before.history (target_of s.ops k before.claim))
     (footing after.history (residual_of s.ops k after.claim rs)) p.rounds rs
 
--- A masked round behind masked rounds makes one more.
+-- A masked round after masked rounds makes one more.
 abbrev pub RunsGrow : Type 0
 RunsGrow =
     (s : Setting) (k : Masking) (start before after : Standing) (rs : List ℕ) (r : ℕ) →

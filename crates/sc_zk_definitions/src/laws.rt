@@ -25,7 +25,7 @@ pub fn mask_laws()
 
 /// Laws of the replay of masked rounds, by whatever rules and extension, at every difficulty.
 ///
-/// One masked round behind others makes one more. Masked rounds that were played, one for each
+/// One masked round after others makes one more. Masked rounds that were played, one for each
 /// mask, are replayed with their challenges and their history, from the first target to the
 /// residual: the combination times the plain residual with what is left of the carried claim, and
 /// the masks at their challenges. What was simulated is replayed with its challenges and its

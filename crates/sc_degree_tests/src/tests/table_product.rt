@@ -162,8 +162,8 @@ fn rounds_of_each_number_of_tables(rt: HostRuntime) {
     }
 }
 
-// A block has 256 rows, as many as a half of 9 variables. Elements that are too large for blocks are
-// taken row by row.
+// A block has 256 rows, as many as a half of 9 variables. Elements that are too large for blocks
+// are taken row by row.
 #[test]
 fn rounds_around_a_block(rt: HostRuntime) {
     for variables in 0..13 {

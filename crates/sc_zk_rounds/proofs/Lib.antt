@@ -1,0 +1,5 @@
+pub mod ValueLaws
+pub mod AssemblyLaws
+pub mod CovectorLaws
+pub mod TargetLaws
+pub mod VerifiedLaws

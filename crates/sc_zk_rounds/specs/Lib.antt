@@ -1,0 +1,4 @@
+pub mod Values
+pub mod Data
+pub mod Assembled
+pub mod Verified

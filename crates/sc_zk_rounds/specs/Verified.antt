@@ -1,0 +1,81 @@
+-- The replay of a claim under masks, and what it leaves.
+use Rattle.std.specs.Prelude.{◌≡◌, ◌⊎◌, ℕ, List, length, map, Result, Ok, Err, Some}
+use Rattle.sc_definitions.specs.declared.events.Event.{Event}
+use Rattle.sc_definitions.specs.Ring.{Ops}
+use Rattle.sc_definitions.specs.Channels.{Channel, Wire, Footing, footing}
+use Rattle.sc_zk_definitions.specs.Masks.{next_target, first_target}
+use Rattle.sc_zk_definitions.specs.MaskedTranscripts.{Head, rounds_from}
+use Rattle.sc_zk_definitions.specs.MaskedBatches.{IsHeadPart, combination_of}
+use Rattle.sc_transcript.specs.declared.error.SumcheckError.{SumcheckError}
+use Rattle.sc_transcript.specs.declared.error.SumcheckError.TheVariants as errors
+use Rattle.sc_transcript.specs.declared.error.RoundError.TheVariants as rounds
+use Rattle.sc_transcript.specs.Walks.{LeavesWalk}
+use Rattle.sc_transcript.specs.Replayed.{Replay, replay_of, IsCounted, AreMiscounted}
+use Rattle.sc_zk_transcript.specs.declared.shape.ZkSumcheckShape.{ZkSumcheckShape}
+use Rattle.sc_zk_transcript.specs.Shapes.{fixed_by, masked_batch, IsFit, IsUnfit}
+use Rattle.sc_zk_rounds.specs.declared.data.ZkVerifierHandoff.{ZkVerifierHandoff}
+
+-- A replay that is asked for: the ring of base elements and that of the claim, the channel, the shape, what stands before the rounds, the history where the
+-- batch begins, and what came on the wire.
+pub record MaskedReplay : Type 0 where
+  pub base : Ops
+  pub ops : Ops
+  pub channel : Channel
+  pub shape : ZkSumcheckShape
+  pub head : Head
+  pub begun : List Event
+  pub came : Wire
+
+-- the replay of these
+abbrev pub claim_asked : Ops → Ops → Channel → ZkSumcheckShape → Head → List Event → Wire → MaskedReplay
+claim_asked base o c shape head begun came = record { base = base; ops = o; channel = c; shape = shape; head = head; begun = begun; came = came }
+
+-- its combination
+abbrev pub eps_in : MaskedReplay → ℕ
+eps_in p = combination_of p.channel (fixed_by p.shape) p.head p.begun
+
+-- where it stands after the head: the first target is the combination times the claim, and the masks' total
+abbrev pub begins_at : MaskedReplay → Footing
+begins_at p = footing (rounds_from p.channel.extension p.begun (fixed_by p.shape) p.head) (first_target p.ops (eps_in p) p.head.claim p.head.mu)
+
+-- the replay of its rounds from there: each makes the next target of its wire
+abbrev pub rounds_of : MaskedReplay → Replay
+rounds_of p = replay_of (next_target p.ops) p.channel (masked_batch p.shape) (begins_at p) p.came
+
+-- what an answer tells: the challenges, the residual and the combination
+pub record Told : Type 0 where
+  pub randomness : List ℕ
+  pub residual : ℕ
+  pub eps : ℕ
+
+-- what is handed on tells, by its numbers
+abbrev pub told_by : {EF : Type 0} → (EF → ℕ) → ZkVerifierHandoff EF → Told
+told_by number h = record { randomness = map number h.randomness; residual = number h.claimed_residual; eps = number h.eps }
+
+-- All rounds were taken, and the answer tells of them.
+pub record IsVerified (p : MaskedReplay) (t : Told) (h : List Event) : Type 0 where
+  pub fit : IsFit p.base p.shape
+  pub counted : IsCounted (rounds_of p)
+  pub walked : LeavesWalk (rounds_of p).walk (Ok t.randomness) (footing h t.residual)
+  pub eps : t.eps ≡ eps_in p
+
+-- Why they are not, and the history that this leaves: a shape that is unfit and a wrong count leave it as it was; a wire that is too long or too short leaves
+-- it after the rounds before it, and a witness that fails with its test; the want of memory before the rounds or after some of them.
+abbrev pub IsRefuted : MaskedReplay → SumcheckError → List Event → Type 0
+IsRefuted p (errors.RoundCountMismatch n m) h =
+    IsFit p.base p.shape × AreMiscounted (masked_batch p.shape) (length p.came.messages) (length p.came.witnesses) (rounds.RoundCount n m) × (h ≡ p.begun)
+IsRefuted p (errors.PowWitnessCountMismatch n m) h =
+    IsFit p.base p.shape × AreMiscounted (masked_batch p.shape) (length p.came.messages) (length p.came.witnesses) (rounds.WitnessCount n m) × (h ≡ p.begun)
+IsRefuted p (errors.WireSizeMismatch i n m) h =
+    IsFit p.base p.shape × IsCounted (rounds_of p) × ((t : ℕ) × LeavesWalk (rounds_of p).walk (Err (Some (rounds.WrongWidth i n m))) (footing h t))
+IsRefuted p (errors.InvalidPowWitness i bits) h =
+    IsFit p.base p.shape × IsCounted (rounds_of p) × ((t : ℕ) × LeavesWalk (rounds_of p).walk (Err (Some (rounds.InvalidWitness i bits))) (footing h t))
+IsRefuted p errors.NoMemory h =
+    IsFit p.base p.shape × IsCounted (rounds_of p)
+    × (IsHeadPart p.channel (fixed_by p.shape) p.head.claim p.begun h ⊎ ((t : ℕ) × LeavesWalk (rounds_of p).walk (Err (Some rounds.NoMemory)) (footing h t)))
+IsRefuted p e h = IsUnfit p.base p.shape e × (h ≡ p.begun)
+
+-- what a replay leaves, by its answer
+abbrev pub LeavesMaskedReplay : {X : Type 0} → (X → Told) → MaskedReplay → Result X SumcheckError → List Event → Type 0
+LeavesMaskedReplay told p (Ok x) h = IsVerified p (told x) h
+LeavesMaskedReplay told p (Err e) h = IsRefuted p e h

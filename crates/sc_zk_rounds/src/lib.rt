@@ -1,0 +1,15 @@
+//! Masked rounds: their data, the values of masks at challenges, the wire of a round, and the
+//! replay of a claim.
+#![tactic(auto)]
+
+mod assembly;
+mod data;
+mod values;
+mod verifier;
+
+pub use assembly::masked_wire;
+pub use data::{MaskOracle, ZkSumcheckData, ZkVerifierHandoff};
+pub use values::{
+    covector_laws, mask_residual, mask_residual_covectors, mask_residual_covectors_from_shape,
+};
+pub use verifier::verify_claim;

@@ -1,0 +1,3 @@
+//! Values of masks, wires and replays, by figures by hand.
+mod values;
+mod verifier;

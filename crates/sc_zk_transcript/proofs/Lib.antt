@@ -1,0 +1,2 @@
+pub mod SeedLaws
+pub mod HeadLaws

@@ -1,0 +1,4 @@
+pub mod Shapes
+pub mod Causes
+pub mod ZkDrivers
+pub mod Laws
