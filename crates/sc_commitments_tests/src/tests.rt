@@ -123,7 +123,7 @@ static COMMITMENTS: [(&[u64], usize, &str); 4] = [
         0,
         "374708fff7719dd5979ec875d56cd2286f6d3cf7ec317a3b25632aab28ec37bb",
     ),
-    // a value behind the last row
+    // a value after the last row
     (
         &[1, 2, 3, 4, 5, 6, 7],
         3,

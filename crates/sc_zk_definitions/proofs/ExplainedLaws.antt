@@ -164,7 +164,7 @@ module _ (o : Ops) (ring : IsRing o) (half : ℕ) (halves : times o (plus o 1 1)
       identity o ring (k ∷ u ∷ mu ∷ sum_of o es ∷ []) (atom 0 ⊗ ((atom 1 ⊗ atom 2 ⊖ atom 3) ⊕ atom 3)) (atom 0 ⊗ (atom 1 ⊗ atom 2)) tt tt refl
       ∙ times-inverse k u mu (power-halves (length es)) low
 
--- the endpoints behind the first
+-- the endpoints after the first
 later_of : (o : Ops) (ss : List (List ℕ)) (e : ℕ) (es : List ℕ) → map (endpoint o) ss ≡ e ∷ es → later_endpoints o ss ≡ es
 later_of o [] e es h = ap (drop 1) h
 later_of o (s ∷ ss) e es h = ap (drop 1) h

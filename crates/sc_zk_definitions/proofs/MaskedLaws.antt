@@ -15,7 +15,7 @@ use Rattle.sc_definitions.proofs.BuiltLaws.{length-challenges}
 use Rattle.sc_definitions.proofs.Identity.{atom, nought, unit, ◌⊕◌, ◌⊗◌, Agree, identity}
 use Rattle.sc_zk_definitions.specs.Masks.{masks_at, endpoint, piece, pair_of, masked_round, masked_rounds, wire_of, target_after, plain_after, with_aux, aux_after}
 use Rattle.sc_zk_definitions.specs.MaskedRuns.{Masking, piece_in, piece_with, wire_from, masked_in, along, IsMasked, residual_of, target_of, IsHalf, RunsReplay}
-use Rattle.sc_zk_definitions.specs.MaskedBatches.{behind_head, SimulationsReplay}
+use Rattle.sc_zk_definitions.specs.MaskedBatches.{after_head, SimulationsReplay}
 use Rattle.sc_zk_definitions.proofs.AuxLaws.{honest_run}
 
 -- ---- what rounds give along their challenges
@@ -175,6 +175,6 @@ simulations_replay o b ws rounds rs h p = (
     history = p.history;
     drawn = p.drawn;
     claim = refl;
-    passes = all_pass (λ rs m. slice_index_or ws (length rs) []) b.channel (behind_head b) [] (length ws) rounds p.sent.1;
+    passes = all_pass (λ rs m. slice_index_or ws (length rs) []) b.channel (after_head b) [] (length ws) rounds p.sent.1;
   },
 )

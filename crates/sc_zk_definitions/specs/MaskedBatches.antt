@@ -66,14 +66,14 @@ pub record HeadedBatch : Type 0 where
   pub begun : List Event
 
 -- the history where its rounds begin
-abbrev pub behind_head : HeadedBatch → List Event
-behind_head b = rounds_from b.channel.extension b.begun b.shape b.given
+abbrev pub after_head : HeadedBatch → List Event
+after_head b = rounds_from b.channel.extension b.begun b.shape b.given
 
 -- where a replay of a claim stands after the head: the first target is eps times the claim and the
 -- total of the masks
 abbrev pub head_footing : Ops → HeadedBatch → Footing
 head_footing o b =
-    footing (behind_head b) (first_target o (combination_of b.channel b.shape b.given b.begun) b.given.claim b.given.mu)
+    footing (after_head b) (first_target o (combination_of b.channel b.shape b.given b.begun) b.given.claim b.given.mu)
 
 -- ---- a batch that is simulated
 
@@ -85,9 +85,9 @@ AreSent c h ws rounds =
 -- Rounds of these wires were sent after the head, with the challenges rs, and h is the history
 -- after them.
 pub record IsSimulated (b : HeadedBatch) (ws : List (List ℕ)) (rounds : List Round) (rs : List ℕ) (h : List Event) : Type 0 where
-  pub sent : AreSent b.channel (behind_head b) ws rounds
-  pub drawn : rs ≡ challenges b.channel.rules b.channel.extension b.channel.bits (behind_head b) rounds
-  pub history : h ≡ behind_head b ++ rounds_events b.channel.extension b.channel.bits rounds
+  pub sent : AreSent b.channel (after_head b) ws rounds
+  pub drawn : rs ≡ challenges b.channel.rules b.channel.extension b.channel.bits (after_head b) rounds
+  pub history : h ≡ after_head b ++ rounds_events b.channel.extension b.channel.bits rounds
 
 -- What was simulated is replayed, whatever the claim is: with its challenges, to its history.
 abbrev pub SimulationsReplay : Type 0
