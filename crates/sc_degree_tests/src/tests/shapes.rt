@@ -3,8 +3,9 @@
 use sc_challenger::{Interaction, Kind, Label, Length};
 use sc_degree::GenericDegreeShape;
 use sc_degree::laws::{round_laws, shape_laws};
-use sc_field::{ExtensionField, Field, NoMemory};
+use sc_field::{ExtensionField, Field};
 use sc_small_fields::{F257, F257x2, F65537};
+use sc_tests_common::hex_digits;
 use std::alloc::Global;
 use std::process::Abort;
 
@@ -104,26 +105,6 @@ static TESTED: Wanted = Wanted {
     words: 400,
 };
 
-// The value of a hexadecimal digit.
-fn digit(byte: u8) -> u8 {
-    match byte {
-        b'0'..=b'9' => byte - b'0',
-        b'a'..=b'f' => byte - b'a' + 10,
-        _ => 255,
-    }
-}
-
-// The values of the hexadecimal digits of some texts.
-fn digits(alloc: Global, texts: &[&str]) -> Result<Vec<u8>, NoMemory> {
-    let mut digits = Vec::new(alloc);
-    for text in texts {
-        for byte in text.as_bytes() {
-            digits.push(digit(*byte))?;
-        }
-    }
-    Ok(digits)
-}
-
 fn assert_shape<F: Field, EF: ExtensionField<F>, A: Abort>(rt: &A, alloc: Global, wanted: &Wanted) {
     let pattern = wanted.shape.pattern::<F, EF>(alloc).expect(rt, "an answer");
     assert!(rt; pattern.steps() == wanted.steps);
@@ -132,7 +113,7 @@ fn assert_shape<F: Field, EF: ExtensionField<F>, A: Abort>(rt: &A, alloc: Global
         .domain_separator::<F, EF>(alloc)
         .expect(rt, "an answer");
     let words = separator.seed_words(alloc).expect(rt, "an answer");
-    let seed = digits(alloc, wanted.seed).expect(rt, "an answer");
+    let seed = hex_digits(alloc, wanted.seed).expect(rt, "an answer");
     assert!(rt; words.as_slice() == seed.as_slice());
     assert_eq!(rt; words.len(), wanted.words);
 }

@@ -2,13 +2,12 @@
 
 ghost use Rattle.std.specs.Prelude.{◌≡◌, ◌<◌, All, IfOk, length};
 
-use super::shapes::digits;
 use sc_challenger::{Challenger, Event, ScriptedChallenger};
 use sc_commitments::{Mmcs, RowMajorMatrix, Sha2Mmcs};
 use sc_field::{ExtensionField, Field, NoMemory};
 use sc_small_fields::{F257, F257x2, F65537};
 use sc_table::Row;
-use sc_tests_common::{elements, have_numbers, of, scripted};
+use sc_tests_common::{elements, have_numbers, hex_digits, of, scripted};
 use sc_transcript::SumcheckError;
 use sc_zk_transcript::{
     ZkPrelude, ZkProverTranscript, ZkStep, ZkSumcheckShape, ZkTranscript, ZkVerifierTranscript,
@@ -231,7 +230,7 @@ fn has_events<F: Field>(
 ) -> Result<bool, NoMemory> {
     let mut events = Vec::new(alloc);
     events.extend_from_slice(batch.before)?;
-    for digit in &digits(alloc, &[DIGEST])? {
+    for digit in &hex_digits(alloc, &[DIGEST])? {
         events.push(Event::Word(*digit as u64))?;
     }
     events.extend_from_slice(after)?;
