@@ -14,7 +14,9 @@ import answers, program, scan, why
 
 STRANGE = ["claim 2\n", "claim 2\nround 1: 2 3 challenge 4\nverdict holds\n", "claim 2\nverdict perhaps\n", "verdict holds\nclaim 2\n",
            "refused bad-jso\n", "claim 2\nverdict holds", "claim 2\nclaim 2\nverdict holds\n", "claim -2\nverdict holds\n",
-           "claim 2\nverdict lucky-round vanishing 1 poly 1\n", "claim 2\ngrid 0 infinity 1\nverdict holds\n"]
+           "claim 2\nverdict lucky-round vanishing 1 poly 1\n", "claim 2\ngrid 0 infinity 1\nverdict holds\n",
+           "mask 1: 2 3 4\n", "mask 0:\n", "mask 0: 2 3 4", "mask 0: 2 3 4\nmask 0: 2 3 4\n", "mask 0: 2 3 4\nverdict holds\n",
+           "claim 2\nmask 0: 2 3 4\nverdict holds\n"]
 
 PLACES = [(b"\xef\xbb\xbf{}", 1, 1), (b'{"a":1,\n"b":01}', 2, 5), (b"[1,\n 1e400]", 2, 2), (b'["\\ud800"]', 1, 3), (b'["a\x01"]', 1, 4),
           (b'["\xff"]', 1, 3), (b"[1.]", 1, 3), (b'{"a" 1}', 1, 6), (b"[1] 2", 1, 5), (b"[tru]", 1, 2), (b"[" * 128, 1, 128), (b"", 1, 1),
@@ -31,7 +33,8 @@ REFUSALS = {
     "too-long": "", "bad-json": "", "bad-job": " {member}", "false-claim": " {statement} claimed {claimed} true {true}",
     "job-shape table-length": " {length}", "job-shape difficulty": " {difficulty} bound {bound}",
     "job-shape variables": " {variables} expected {expected}", "strategy-unfit variables": " {variables} bound {bound}",
-    "job-shape projective-suffix": "", "strategy-unfit projective": "",
+    "job-shape rounds": " {rounds} bound {bound}", "job-shape projective-suffix": "", "strategy-unfit projective": "",
+    "veil even-characteristic": "", "veil mask-too-short": " {length}", "veil no-rounds": "", "explain even-characteristic": "",
     "strategy-unfit select": " {statement}", "strategy-unfit selector": " {statement}",
 }
 PROOFS = {
@@ -60,9 +63,13 @@ def verdict(told):
 
 def report(told):
     """The lines of a report."""
-    yield from (f"{name} {told[name]}" for name in ("rows", "statements", "claim", "pairs") if name in told)
+    if "masks" in told:
+        yield from (f"mask {number}: {words(mask)}" for number, mask in enumerate(told["masks"]))
+        return
+    yield from (f"{name} {told[name]}" for name in ("rows", "statements", "claim", "mu", "eps", "pairs") if name in told)
     yield from map(round_line, told.get("rounds", []))
-    yield from (f"{name} {told[name]}" for name in ("residual", "eval", "weight", "product") if name in told)
+    yield from (f"{name} {told[name]}" for name in ("residual", "eval", "weight", "product", "scaled", "carried", "mask-residual")
+               if name in told)
     for it in told.get("grids", []):
         yield from (f"grid {it['grid']} {part} {words(it[part])}" for part in ("zero", "infinity"))
     yield verdict(told)
@@ -90,16 +97,22 @@ def wanted(job):
     return open(name + ".stdout").read(), status
 
 
+def command_of(job):
+    """The command of a ready job: its name begins with the word, if that is not `audit`."""
+    return next((word for word in ("product", "veil", "explain") if f"/{word}" in job), "audit")
+
+
 def reads_back(job):
     with open(job, "rb") as it:
-        status, said = program.run(["product" if "/product" in job else "audit"], it.read())
+        status, said = program.run([command_of(job)], it.read())
     return (said, status) == wanted(job) and text(json.loads(json.dumps(answers.read(said)))) == said
 
 
 def tells_why(job):
     case = why.Case([job])
     told, (said, status) = why.explained(case), wanted(job)
-    return case.line == said.splitlines()[-1] and (told, bool(case.notes)) == ((1, True) if status else (0, False))
+    line = said.removesuffix("\n") if "masks" in case.told else said.splitlines()[-1]
+    return case.line == line and (told, bool(case.notes)) == ((1, True) if status else (0, False))
 
 
 def is_strange(said):

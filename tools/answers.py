@@ -3,7 +3,7 @@
 `read(text)` gives a dictionary with the member `outcome`: "report", "refused", "proof-refused", "no-witness", "usage", or
 "nothing" where nothing was written. A report has the members that its lines name, `rounds` and `grids` as lists; a lucky
 verdict has what it names in `lucky`. A refusal has a `cause`, where there are several a `fault`, and the numbers of its
-line under their names.
+line under their names. What `explain` finds is a report with `masks` alone, a list of coefficients for each.
 """
 import re
 
@@ -11,9 +11,10 @@ NUMBER = r"(\d+)"
 NUMBERS = r"(\d+(?: \d+)*)"
 
 # Lines with one number, or none, in a report.
-FIGURES = ("rows", "statements", "claim", "pairs", "residual", "eval", "weight", "product")
+FIGURES = ("rows", "statements", "claim", "mu", "eps", "pairs", "residual", "eval", "weight", "product", "scaled", "carried", "mask-residual")
 ROUND = re.compile(rf"round {NUMBER}: {NUMBERS}(?: witness {NUMBER})? challenge {NUMBER}")
 GRID = re.compile(rf"grid {NUMBER} (zero|infinity) {NUMBERS}")
+MASK = re.compile(rf"mask {NUMBER}: {NUMBERS}")
 VERDICT = re.compile(r"verdict (holds|refuted)")
 LUCKY = re.compile(rf"verdict (lucky-batch|lucky-round)(?: {NUMBER})? vanishing {NUMBER} poly {NUMBERS}")
 
@@ -27,6 +28,10 @@ SINGLE = [(re.compile(line.replace("N", NUMBER)), outcome, cause, names) for lin
     ("refused job-shape (difficulty) N bound N", "refused", "job-shape", "fault", "difficulty", "bound"),
     ("refused job-shape (variables) N expected N", "refused", "job-shape", "fault", "variables", "expected"),
     ("refused job-shape (projective-suffix)", "refused", "job-shape", "fault"),
+    ("refused job-shape (rounds) N bound N", "refused", "job-shape", "fault", "rounds", "bound"),
+    ("refused veil (even-characteristic|no-rounds)", "refused", "veil", "fault"),
+    ("refused veil (mask-too-short) N", "refused", "veil", "fault", "length"),
+    ("refused explain (even-characteristic)", "refused", "explain", "fault"),
     ("refused strategy-unfit (projective)", "refused", "strategy-unfit", "fault"),
     ("refused strategy-unfit (variables) N bound N", "refused", "strategy-unfit", "fault", "variables", "bound"),
     ("refused strategy-unfit (select|selector) N", "refused", "strategy-unfit", "fault", "statement"),
@@ -108,6 +113,17 @@ def add_line(report, line):
         raise Unknown(line)
 
 
+def masks_of(lines):
+    """The masks that a text of such lines alone tells."""
+    masks = []
+    for line in lines:
+        found = MASK.fullmatch(line)
+        if not found or int(found.group(1)) != len(masks):
+            raise Unknown(line)
+        masks.append(numbers_of(found.group(2)))
+    return masks
+
+
 def read(text):
     """The values of a whole text of the program."""
     if not text:
@@ -118,6 +134,8 @@ def read(text):
         raise Unknown(lines[-1] if lines else text)
     if told:
         return told
+    if lines[0].startswith("mask "):
+        return {"outcome": "report", "masks": masks_of(lines)}
     report = {"outcome": "report"}
     for line in lines:
         add_line(report, line)

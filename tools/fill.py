@@ -1,11 +1,12 @@
 #!/usr/bin/env python3
 """Writes a job with the true values in its claims: `./sumcheck --fill FILE`. This tool is not proved; the values are the program's.
 
-usage: tools/fill.py [audit|product] FILE      (FILE `-`: standard input)
+usage: tools/fill.py [audit|product|veil|explain] FILE      (FILE `-`: standard input)
 
 The values come from builds of the program, one for each false statement and three more; of a job of `product` the value is
-the sum that its proof claims. All else in the file stays as it is, byte for byte, also the mode. The command is `product`
-where the job has the member `tables` and no `table`. Where the job is refused for another reason than a false claim, the
+the sum that its proof claims, and a job of `explain` claims nothing. All else in the file stays as it is, byte for byte,
+also the mode. The command is `explain` where the job has the member `wires`, `product` where it has `tables` and no
+`table`, and `veil` where it has `masks` and no `mode`. Where the job is refused for another reason than a false claim, the
 refusal goes to standard error, and the program's status is kept. Status 11 is this tool's own: the file cannot be read,
 or the program cannot be run, or answers unlike docs/FORMATS.md.
 """
@@ -16,7 +17,11 @@ import answers, forms, program, scan, truth
 
 def named_command(members):
     """The command that a job is for, by the names of its members."""
-    return "product" if "tables" in members and "table" not in members else "audit"
+    if "wires" in members:
+        return "explain"
+    if "tables" in members and "table" not in members:
+        return "product"
+    return "veil" if "masks" in members and "mode" not in members else "audit"
 
 
 def command_of(words, value):
@@ -35,12 +40,14 @@ def replaced(text, changes):
 
 def built(job, command):
     """The status and the text of the job as a build, whatever its mode."""
-    build = job | {"mode": "build" if command == "product" else {"build": "plain"}}
-    return program.run([command], json.dumps(build).encode())
+    modes = {"product": {"mode": "build"}, "veil": {}, "explain": {}, "audit": {"mode": {"build": "plain"}}}
+    return program.run([command], json.dumps(job | modes[command]).encode())
 
 
 def changes_of(job, value, command):
     """The values that are to be replaced, each with its number."""
+    if command == "explain":
+        return []
     if command == "product":
         check = value.member("mode").member("check")
         return [(check.member("claimed"), truth.true_sum(job))] if check else []
@@ -57,7 +64,7 @@ def checked_read(data):
 
 
 def main(words):
-    if not words or len(words) > 2 or len(words) == 2 and words[0] not in ("audit", "product"):
+    if not words or len(words) > 2 or len(words) == 2 and words[0] not in ("audit", "product", "veil", "explain"):
         raise program.WrongWords
     data = program.bytes_of(words[-1])
     value = checked_read(data)

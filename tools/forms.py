@@ -4,7 +4,8 @@ A form is a function of a value and its path in the job, which raises a `Misfit`
 """
 
 SIZES = {"65537": (65537, 65537), "257x2": (257, 66049), "16": (16, 16)}
-MOST_CLAIMS, MOST_VARIABLES, MOST_BITS, MOST_TABLES = 4096, 64, 65535, 8
+MOST_CLAIMS, MOST_VARIABLES, MOST_BITS, MOST_TABLES, MOST_ROUNDS, MOST_LENGTH = 4096, 64, 65535, 8, 64, 64
+MOST_MASKS, LEAST_WIDTH, MOST_WIDTH = 64, 2, 63
 DIGITS = "in digits alone, without sign, fraction and exponent"
 
 
@@ -20,7 +21,7 @@ def below(bound, what="number"):
     def form(value, path):
         number = value.unsigned()
         if number is None or number >= bound:
-            raise Misfit(path, value, f"a {what} below {bound}, {DIGITS}")
+            raise Misfit(path, value, f"{'an' if what[0] in 'aeiou' else 'a'} {what} below {bound}, {DIGITS}")
     form.bound = bound
     return form
 
@@ -44,7 +45,7 @@ def list_of(item, length=None, named="item"):
                 item(it, f"{path}, {named} {number}")
                 number += 1
         if length is not None and value.count() != length:
-            raise Misfit(path, value, f"a list of {length} items, and here are {value.count()}")
+            raise Misfit(path, value, f"a list of {length} {'item' if length == 1 else 'items'}, and here are {value.count()}")
     return form
 
 
@@ -84,6 +85,10 @@ class Forms:
         self.base, self.extension = below(base, "base number"), below(extension, "extension number")
         variables = job.member("variables")
         self.variables = variables.unsigned() if variables else None
+        rounds = job.member("rounds")
+        self.rounds_asked = rounds.unsigned() if rounds else None
+        plain = job.member("plain")
+        self.masks_seen = plain.count() if plain and plain.kind == "list" else 0
         self.order = one_of("prefix", "suffix")
 
     def field(self, value, path):
@@ -189,16 +194,67 @@ class Forms:
         member(value, path, "witnesses", list_of(self.base, named="witness"))
 
 
+    def rounds(self, value, path):
+        below(MOST_ROUNDS + 1)(value, path)
+
+    def masks(self, value, path):
+        if exactly_one(value, path, "messages", "seed") == "seed":
+            member(value, path, "seed", below(1 << 64))
+            member(value, path, "length", self.mask_length)
+            return
+        member(value, path, "messages", self.messages)
+        member(value, path, "randomness", list_of(list_of(self.extension, 2, "element"), self.rounds_asked, "list"))
+
+    def mask_length(self, value, path):
+        below(MOST_LENGTH + 1)(value, path)
+        if value.unsigned() == 0:
+            raise Misfit(path, value, f"a number from 1 to {MOST_LENGTH}")
+
+    def messages(self, value, path):
+        list_of(list_of(self.extension, named="coefficient"), self.rounds_asked, "mask")(value, path)
+        lengths = [it.count() for it in value.items()]
+        if lengths and (len(set(lengths)) > 1 or not 1 <= lengths[0] <= MOST_LENGTH):
+            raise Misfit(path, value, f"masks of one length, from 1 to {MOST_LENGTH}, and here are lengths " + ", ".join(map(str, lengths)))
+
+    def aux(self, value, path):
+        self.extension(value, path)
+
+    def element(self, value, path):
+        self.extension(value, path)
+
+    def plain(self, value, path):
+        list_of(list_of(self.extension, 2, "coefficient"), named="piece")(value, path)
+        if not 1 <= value.count() <= MOST_MASKS:
+            raise Misfit(path, value, f"a list of 1 to {MOST_MASKS} pieces, and here are {value.count()}")
+
+    def challenges(self, value, path):
+        list_of(self.extension, self.masks_seen, "challenge")(value, path)
+
+    def wires(self, value, path):
+        list_of(list_of(self.extension, named="value"), self.masks_seen, "wire")(value, path)
+        lengths = [it.count() for it in value.items()]
+        if len(set(lengths)) > 1 or not LEAST_WIDTH <= lengths[0] <= MOST_WIDTH:
+            raise Misfit(path, value, f"wires of one length, from {LEAST_WIDTH} to {MOST_WIDTH}, and here are lengths "
+                         + ", ".join(map(str, lengths)))
+
+    def endpoints(self, value, path):
+        list_of(self.extension, self.masks_seen - 1, "endpoint")(value, path)
+
+
 # The members of a job in the order in which they are tested, each with its form; and those that may be missing.
 AUDIT = {"field": Forms.field, "challenger": Forms.challenger, "order": lambda forms, *it: forms.order(*it), "bits": Forms.bits,
          "table": Forms.table, "variables": Forms.count, "groups": Forms.groups, "batching": Forms.batching, "mode": Forms.mode,
          "basis": Forms.basis}
 PRODUCT = {"field": Forms.field, "challenger": Forms.challenger, "bits": Forms.bits, "tables": Forms.tables, "mode": Forms.product_mode}
+VEIL = {name: AUDIT[name] for name in ("field", "challenger", "order", "bits", "table", "variables", "groups", "batching")} \
+    | {"rounds": Forms.rounds, "masks": Forms.masks, "aux": Forms.aux}
+EXPLAIN = {"field": Forms.field, "eps": Forms.element, "plain": Forms.plain, "challenges": Forms.challenges, "mu": Forms.element,
+           "wires": Forms.wires, "endpoints": Forms.endpoints}
 OPTIONAL = {"basis"}
 
 
 def members_of(command):
-    return PRODUCT if command == "product" else AUDIT
+    return {"product": PRODUCT, "veil": VEIL, "explain": EXPLAIN}.get(command, AUDIT)
 
 
 def misfit(job, command):

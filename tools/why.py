@@ -1,13 +1,14 @@
 #!/usr/bin/env python3
 """Says why a job or a proof is refused or refuted: `./sumcheck --why FILE`. This reader is not proved.
 
-usage: tools/why.py [audit|product] FILE      (FILE `-`: standard input)
+usage: tools/why.py [audit|product|veil|explain] FILE      (FILE `-`: standard input)
 
-The first line is the program's own: its refusal, or its verdict. After it stand the line and the column of what is meant,
-both counted from 1, and what is wanted there; which statements are false, and the first round that differs from those of
-a build, both by further runs of the program. The command is `product` where the job has the member `tables` and no
-`table`. The status is 0 where the verdict holds, 1 where something else was told, 2 where the words are none of these, and
-11 where the file cannot be read, the program cannot be run, or this reader does not find what the program refuses.
+The first line is the program's own: its refusal, or its verdict, or all lines of masks. After it stand the line and the
+column of what is meant, both counted from 1, and what is wanted there; which statements are false, and the first round
+that differs from those of a build, both by further runs of the program. The command is `explain` where the job has the
+member `wires`, `product` where it has `tables` and no `table`, and `veil` where it has `masks` and no `mode`. The status is
+0 where the verdict holds or masks are told, 1 where something else was told, 2 where the words are none of these, and 11
+where the file cannot be read, the program cannot be run, or this reader does not find what the program refuses.
 """
 import difflib, json, sys, textwrap
 
@@ -34,7 +35,7 @@ class Case:
         self.command = command_of(words[:-1], self.value) if self.value else (words[:-1] or ["audit"])[0]
         self.status, said = program.run([self.command], self.data)
         self.told = answers.read(said)
-        self.line = said.splitlines()[-1] if said else ""
+        self.line = said.removesuffix("\n") if "masks" in self.told else said.splitlines()[-1] if said else ""
         self.notes = []
 
     def say(self, *lines):
@@ -108,10 +109,10 @@ def twice(case, name):
 
 def table_length(case):
     length = case.told["length"]
-    tables = [case.value.member("table")] if case.command == "audit" else list(case.value.member("tables").items())
+    tables = list(case.value.member("tables").items()) if case.command == "product" else [case.value.member("table")]
     number, table = next((n, it) for n, it in enumerate(tables) if it.count() == length and (n > 0 or not is_table(length)))
     below, above = 1 << max(length.bit_length() - 1, 0), 1 << length.bit_length()
-    what = "the table" if case.command == "audit" else f"table {number}"
+    what = f"table {number}" if case.command == "product" else "the table"
     case.say(f"At {case.at(table.start)}, {what} has {length} {'entry' if length == 1 else 'entries'}.")
     if is_table(length):
         case.say(f"Each table has as many entries as the first one, which has {tables[0].count()}.")
@@ -141,8 +142,29 @@ def projective_suffix(case):
              f'{case.at(case.value.member("basis").start)}: a table of coefficients has rounds in the order "prefix" alone.')
 
 
+def rounds_bound(case):
+    value = case.value.member("rounds")
+    case.say(f"At {case.at(value.start)}, rounds is {case.told['rounds']}; the table has {case.told['bound']} variables, and each round binds one.")
+
+
 def job_shape(case):
-    {"table-length": table_length, "difficulty": difficulty, "variables": variables, "projective-suffix": projective_suffix}[case.told["fault"]](case)
+    {"table-length": table_length, "difficulty": difficulty, "variables": variables, "projective-suffix": projective_suffix,
+     "rounds": rounds_bound}[case.told["fault"]](case)
+
+
+def veil(case):
+    if case.told["fault"] == "even-characteristic":
+        case.say(f"At {case.at(case.value.member('field').start)}, the field is one in which 1 + 1 is 0. Rounds under masks need one half.")
+    elif case.told["fault"] == "mask-too-short":
+        case.say(f"At {case.at(case.value.member('masks').start)}, a mask has {case.told['length']} coefficients. A round's polynomial has 3, and so each mask "
+                 "has at least as many.")
+    else:
+        case.say(f"At {case.at(case.value.member('rounds').start)}, rounds is 0. At least one round is played under masks.")
+
+
+def explain(case):
+    place = case.at(case.value.member("field").start)
+    case.say(f"At {place}, the field is one in which 1 + 1 is 0. Masks are found with one half.")
 
 
 def strategy_unfit(case):
@@ -328,7 +350,7 @@ def no_witness(case):
 
 CAUSES = {
     "too-long": too_long, "bad-json": bad_json, "bad-job": bad_job, "job-shape": job_shape, "strategy-unfit": strategy_unfit,
-    "false-claim": false_claim,
+    "false-claim": false_claim, "veil": veil, "explain": explain,
 }
 VERDICTS = {"refuted": refuted, "lucky-batch": lucky, "lucky-round": lucky}
 
@@ -342,7 +364,7 @@ def explained(case):
         proof_refused(case)
     elif outcome == "no-witness":
         no_witness(case)
-    elif outcome == "report" and case.told["verdict"] == "holds":
+    elif outcome == "report" and case.told.get("verdict", "holds") == "holds":  # masks have no verdict
         return 0
     elif outcome == "report":
         VERDICTS[case.told["verdict"]](case)
@@ -352,7 +374,7 @@ def explained(case):
 
 
 def main(words):
-    if not words or len(words) > 2 or len(words) == 2 and words[0] not in ("audit", "product"):
+    if not words or len(words) > 2 or len(words) == 2 and words[0] not in ("audit", "product", "veil", "explain"):
         raise program.WrongWords
     try:
         case = Case(words)

@@ -50,7 +50,7 @@ bound_more s rs r n m f xs ys fewer p q =
     ∙ sym (ap (λ g. g b) (bound_by-append s.basis s.order s.ops rs r m f)))
 
 -- the message of tables that were bound is what an honest prover sends
-message_honest : (s : Setting) → IsRing s.ops → IsOffered s.basis s.order → (t u : Standing) (rs : List ℕ) (m : ℕ) → u.variables ≡ suc m →
+pub message_honest : (s : Setting) → IsRing s.ops → IsOffered s.basis s.order → (t u : Standing) (rs : List ℕ) (m : ℕ) → u.variables ≡ suc m →
     u.evals ≡ entries_of u.variables (bound_by s.basis s.order s.ops rs u.variables (rows_of t.evals)) →
     u.weights ≡ entries_of u.variables (bound_by s.basis s.order s.ops rs u.variables (rows_of t.weights)) →
     message_in s u ≡ honest_in s t rs m

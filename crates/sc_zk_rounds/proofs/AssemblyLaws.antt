@@ -1,8 +1,9 @@
 -- The wire of a round, value by value.
-use Rattle.std.proofs.Common.{◌≡◌, ℕ, ◌+◌, ◌<◌, ◌≤◌, List, [], ◌∷◌, ◌++◌, length, map, take, drop, get_or, refl, ap, sym, ◌∙◌, append_assoc, arith}
-use Rattle.std.proofs.lemmas.List.{take_more, map-append, append-nil}
+use Rattle.std.proofs.Common.{◌≡◌, ℕ, ◌+◌, ◌-◌, ◌<◌, ◌≤◌, List, [], ◌∷◌, ◌++◌, length, map, take, drop, get_or, refl, ap, sym, ◌∙◌, append_assoc, length-append, length-drop, arith}
+use Rattle.std.proofs.lemmas.List.{take_more, map-append, append-nil, length-map}
 use Rattle.sc_definitions.specs.Ring.{Ops, IsRing, plus, times}
 use Rattle.sc_definitions.specs.Polynomials.{poly_scaled}
+use Rattle.sc_definitions.proofs.PolyLaws.{length-scaled}
 use Rattle.sc_zk_definitions.specs.Masks.{Piece, total_of}
 use Rattle.sc_zk_definitions.proofs.ToldLaws.{wire-parts}
 use Rattle.sc_zk_rounds.specs.Assembled.{Assembles}
@@ -60,3 +61,16 @@ wire-made o ring number k c eps p (m0 ∷ m1 ∷ m2 ∷ rest) s0 s2 x y w₁ w�
     ∙ ap (λ v. v ∷ number y ∷ cs) (d ∙ ap (λ s. plus o (plus o (times o k (number s)) c) (times o eps p.constant)) a)
     ∙ ap (λ v. plus o (plus o (times o k (number m0)) c) (times o eps p.constant) ∷ v ∷ cs) (e ∙ ap (λ s. plus o (times o k (number s)) (times o eps p.leading)) b)
     ∙ assembled o ring k c (number m0 ∷ number m1 ∷ number m2 ∷ map number rest) eps p (omega arith) done ends factor constant
+
+-- how many values a wire has
+pub wire-length : {X : Type 0} (o : Ops) (ring : IsRing o) (number : X → ℕ) (k : ℕ) (mask : List X) (x y : X) (w₁ w₂ v : List X) → 3 ≤ length mask →
+    w₁ ≡ x ∷ [] → w₂ ≡ w₁ ++ y ∷ [] → map number v ≡ map number w₂ ++ poly_scaled o k (map number (drop 3 mask)) → length v ≡ length mask - 1
+wire-length o ring number k mask x y w₁ w₂ v long first second rest =
+    let one : length w₁ ≡ 1 = ap length first in
+    let two : length w₂ ≡ 2 = ap length second ∙ length-append w₁ (y ∷ []) ∙ omega (arith, one) in
+    let others : length (poly_scaled o k (map number (drop 3 mask))) ≡ length mask - 3 =
+    length-scaled o ring k (map number (drop 3 mask)) ∙ length-map (drop 3 mask) number ∙ length-drop 3 mask in
+    let all : length (map number v) ≡ length w₂ + (length mask - 3) =
+    ap length rest ∙ length-append (map number w₂) (poly_scaled o k (map number (drop 3 mask))) ∙ ap (λ n. n + length (poly_scaled o k (map number (drop 3 mask)))) (length-map w₂ number)
+    ∙ ap (λ n. length w₂ + n) others in
+    omega (arith, length-map v number, all, two, long)

@@ -1,5 +1,10 @@
+pub mod HalfLaws
 pub mod ValueLaws
 pub mod AssemblyLaws
 pub mod CovectorLaws
 pub mod TargetLaws
+pub mod MixingLaws
+pub mod MaskedRoundLaws
 pub mod VerifiedLaws
+pub mod MaskedBatchLaws
+pub mod InStepLaws

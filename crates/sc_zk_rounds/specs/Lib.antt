@@ -1,4 +1,9 @@
 pub mod Values
 pub mod Data
 pub mod Assembled
+pub mod Mixings
+pub mod Rounds
+pub mod Handoffs
+pub mod Views
 pub mod Verified
+pub mod InStep

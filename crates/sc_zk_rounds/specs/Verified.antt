@@ -2,7 +2,9 @@
 use Rattle.std.specs.Prelude.{◌≡◌, ◌⊎◌, ℕ, List, length, map, Result, Ok, Err, Some}
 use Rattle.sc_definitions.specs.declared.events.Event.{Event}
 use Rattle.sc_definitions.specs.Ring.{Ops}
+use Rattle.sc_definitions.specs.Events.{Extension}
 use Rattle.sc_definitions.specs.Channels.{Channel, Wire, Footing, footing}
+use Rattle.sc_challenger.specs.Parties.{Party, channel_by}
 use Rattle.sc_zk_definitions.specs.Masks.{next_target, first_target}
 use Rattle.sc_zk_definitions.specs.MaskedTranscripts.{Head, rounds_from}
 use Rattle.sc_zk_definitions.specs.MaskedBatches.{IsHeadPart, combination_of}
@@ -29,6 +31,10 @@ pub record MaskedReplay : Type 0 where
 -- the replay of these
 abbrev pub claim_asked : Ops → Ops → Channel → ZkSumcheckShape → Head → List Event → Wire → MaskedReplay
 claim_asked base o c shape head begun came = record { base = base; ops = o; channel = c; shape = shape; head = head; begun = begun; came = came }
+
+-- the same under a challenger, over an extension of a base field
+abbrev pub claim_by : Party → Ops → Ops → Extension → ZkSumcheckShape → Head → Wire → MaskedReplay
+claim_by p base o E shape head came = claim_asked base o (channel_by p E base.size shape.pow_bits) shape head p.history came
 
 -- its combination
 abbrev pub eps_in : MaskedReplay → ℕ

@@ -1,5 +1,5 @@
 //! The wire of a masked round.
-ghost use Rattle.std.specs.Prelude.{◌≡◌, ◌≤◌, ◌++◌, IfOk, OnOk, length, map};
+ghost use Rattle.std.specs.Prelude.{◌≡◌, ◌-◌, ◌≤◌, ◌++◌, IfOk, OnOk, length, map};
 ghost use Rattle.sc_definitions.specs.Polynomials.{poly_scaled};
 ghost use Rattle.sc_zk_definitions.specs.Masks.{piece};
 ghost use Rattle.sc_commitments.specs.Matrices.{numbers_in};
@@ -21,9 +21,10 @@ pub fn masked_wire<EF: Field>(
     c_inf: EF,
 ) -> Result<Vec<EF>, NoMemory>
     requires { 3 ≤ length mask.now }
-    ensures { IfOk result (λ v. Assembles EF.ops (EF.number factor) (EF.number constant)
+    ensures wire { IfOk result (λ v. Assembles EF.ops (EF.number factor) (EF.number constant)
         (map EF.number mask.now) (EF.number eps) (piece (EF.number c0) (EF.number c_inf))
         (numbers_in EF.number v)) }
+    ensures count { IfOk result (λ v. length v.items ≡ length mask.now - 1) }
 {
     let mut wire = Vec::new(alloc);
     wire.push(factor.mul(mask[0]).add(constant).add(eps.mul(c0)))?;

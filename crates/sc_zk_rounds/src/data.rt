@@ -1,9 +1,17 @@
 //! What masked rounds put on the wire, and what their verifier is handed.
-ghost use Rattle.std.specs.Prelude.{◌≡◌};
+ghost use Rattle.std.specs.Prelude.{◌≡◌, ◌<◌, ◌≤◌, IfOk, IfErr, OnOk, OnErr, length};
+ghost use Rattle.sc_commitments.specs.Matrices.{numbers_in};
+ghost use Rattle.sc_transcript.specs.Drivers.{driver_at, PutsRound, RefusesRound};
+ghost use Rattle.sc_zk_transcript.specs.Causes.{masked_cause};
+ghost use Rattle.sc_zk_rounds.specs.Data.{masked_wire_in, HasPlace};
 
+use sc_challenger::Challenger;
 use sc_commitments::Mmcs;
-use sc_field::Field;
+use sc_field::{ExtensionField, Field, NoMemory};
+use sc_rounds::SumcheckProver;
 use sc_table::Point;
+use sc_transcript::SumcheckError;
+use sc_transcript::rounds::Rounds;
 use std::alloc::Global;
 
 /// What a masked batch has put on the wire.
@@ -33,8 +41,83 @@ impl<F: Field, EF: Field> ZkSumcheckData<F, EF> {
     }
 }
 
+impl<F: Field, EF: ExtensionField<F>> ZkSumcheckData<F, EF> {
+    // Makes room for one more round. The rounds stay.
+    fn reserve_round(&mut self) -> Result<(), NoMemory>
+        ensures kept { masked_wire_in F.number EF.number self.new
+            ≡ masked_wire_in F.number EF.number self.old }
+        ensures total { self.new.mu_tilde ≡ self.old.mu_tilde }
+        ensures ok { OnOk result (HasPlace self.new) }
+    {
+        self.round_coefficients.reserve(1)?;
+        self.pow_witnesses.reserve(1)?;
+        Ok(())
+    }
+
+    // Plays a round of this wire, appends it with its witness, and answers its challenge. The
+    // refusals are those of `Rounds::play`, and leave the data as it was.
+    pub(crate) fn put_round<C: Challenger<F>, K: Copy>(
+        &mut self,
+        rounds: &mut Rounds<K>,
+        challenger: &mut C,
+        wire: Vec<EF>,
+    ) -> Result<EF, SumcheckError>
+        requires difficulty { rounds.old.shape.pow_bits ≤ (C.party challenger.old).rules.max_bits }
+        requires left { rounds.old.played < rounds.old.shape.num_rounds }
+        requires width { length wire.items ≡ rounds.old.shape.width }
+        ensures puts { IfOk result (λ r. PutsRound EF.extension
+            (driver_at C.party F.ops.size challenger.entry rounds.old)
+            (driver_at C.party F.ops.size challenger.exit rounds.new)
+            (numbers_in EF.number wire) (EF.number r)
+            (masked_wire_in F.number EF.number self.old)
+            (masked_wire_in F.number EF.number self.new)) }
+        ensures refused { IfErr result (λ e. RefusesRound EF.extension
+            (driver_at C.party F.ops.size challenger.entry rounds.old)
+            (driver_at C.party F.ops.size challenger.exit rounds.new)
+            (numbers_in EF.number wire) (masked_cause e)) }
+        ensures kept { OnErr result (masked_wire_in F.number EF.number self.new
+            ≡ masked_wire_in F.number EF.number self.old) }
+        ensures total { self.new.mu_tilde ≡ self.old.mu_tilde }
+    {
+        self.reserve_round()?;
+        let (challenge, witness) = rounds.play(challenger, &wire.as_slice())?;
+        self.round_coefficients.push_reserved(wire);
+        if let Some(witness) = witness {
+            self.pow_witnesses.push_reserved(witness);
+        }
+        Ok(challenge)
+    }
+}
+
 /// A commitment to masks, and what the prover keeps of them.
 pub type MaskOracle<EF, M> = (<M as Mmcs<EF>>::Commitment, <M as Mmcs<EF>>::ProverData);
+
+/// What a masked batch hands on to a prover `P` of what is left, under commitments `K` of which
+/// data `D` is kept.
+#[derive(Drop)]
+pub struct Handoff<P, EF, K, D> {
+    /// The prover of what is left: the weights and the claim are times the combination, the
+    /// evaluations are not, and no challenge is held.
+    pub residual_prover: P,
+    /// The challenges of the rounds, in drawing order.
+    pub randomness: Point<EF>,
+    /// The combination: what the plain part was multiplied by before masks were added.
+    pub eps: EF,
+    /// The masks, one for each round, by their coefficients, the constant first.
+    pub mask_messages: Vec<Vec<EF>>,
+    /// The randomness that each was encoded with.
+    pub mask_randomness: Vec<Vec<EF>>,
+    /// The commitment to the masks, and what is kept of them.
+    pub mask_oracle: (K, D),
+}
+
+/// What a masked batch hands on to a sumcheck prover, under a scheme of commitments.
+pub type ZkSumcheckHandoff<F, EF, M> = Handoff<
+    SumcheckProver<F, EF>,
+    EF,
+    <M as Mmcs<EF>>::Commitment,
+    <M as Mmcs<EF>>::ProverData,
+>;
 
 /// What a masked batch hands on to its verifier.
 #[derive(Drop)]

@@ -4,11 +4,19 @@
 
 mod assembly;
 mod data;
+mod in_step;
+mod into_zk;
+mod mixing;
+mod oracle;
+mod prover;
+mod sums;
 mod values;
 mod verifier;
 
 pub use assembly::masked_wire;
-pub use data::{MaskOracle, ZkSumcheckData, ZkVerifierHandoff};
+pub use data::{Handoff, MaskOracle, ZkSumcheckData, ZkSumcheckHandoff, ZkVerifierHandoff};
+pub use in_step::{MaskedRun, masked_in_step};
+pub use into_zk::IntoZk;
 pub use values::{
     covector_laws, mask_residual, mask_residual_covectors, mask_residual_covectors_from_shape,
 };

@@ -1,14 +1,15 @@
 //! The replay of a claim under masks.
-ghost use Rattle.std.specs.Prelude.{◌≡◌, ◌≤◌, ◌<◌, All, IfOk, OnOk, OnErr, length, map, vec_len};
+ghost use Rattle.std.specs.Prelude.{◌≡◌, ◌≤◌, IfOk, OnOk, OnErr, map, vec_len};
 ghost use Rattle.sc_challenger.specs.Parties.{channel_by};
-ghost use Rattle.sc_zk_definitions.specs.Masks.{sum_of, next_target};
+ghost use Rattle.sc_zk_definitions.specs.Masks.{next_target};
 ghost use Rattle.sc_zk_definitions.specs.MaskedTranscripts.{head, combination_at, rounds_from};
 ghost use Rattle.sc_zk_definitions.specs.MaskedBatches.{IsHeadPart};
 ghost use Rattle.sc_zk_transcript.specs.Shapes.{shape_made, fixed_by};
-ghost use Rattle.sc_zk_rounds.specs.Data.{masked_wire_in};
-ghost use Rattle.sc_zk_rounds.specs.Verified.{claim_asked, told_by, LeavesMaskedReplay};
+ghost use Rattle.sc_zk_rounds.specs.Data.{masked_wire_in, AreWords};
+ghost use Rattle.sc_zk_rounds.specs.Verified.{claim_by, told_by, LeavesMaskedReplay};
 
 use crate::data::{ZkSumcheckData, ZkVerifierHandoff};
+use crate::sums::sum;
 use sc_challenger::Challenger;
 use sc_commitments::Mmcs;
 use sc_field::laws::poly_at;
@@ -54,12 +55,11 @@ pub fn verify_claim<F: Field, EF: ExtensionField<F>, M: Mmcs<EF>, C: Challenger<
     requires difficulty { pow_bits ≤ (C.party challenger.old).rules.max_bits }
     ensures rules { (C.party challenger.new).rules ≡ (C.party challenger.old).rules }
     ensures left { LeavesMaskedReplay (told_by EF.number)
-        (claim_asked F.ops EF.ops
-        (channel_by (C.party challenger.old) EF.extension F.ops.size pow_bits)
+        (claim_by (C.party challenger.old) F.ops EF.ops EF.extension
         (shape_made ZkPrelude.InheritedClaim folding_factor ell_zk pow_bits)
         (head (EF.number claimed_sum) (M.words_of mmcs.now mask_commitment.now)
-        (EF.number zk_data.now.mu_tilde)) (C.party challenger.old).history
-        (masked_wire_in F.number EF.number zk_data.now)) result (C.party challenger.new).history }
+        (EF.number zk_data.now.mu_tilde)) (masked_wire_in F.number EF.number zk_data.now))
+        result (C.party challenger.new).history }
 {
     let shape = ZkSumcheckShape::new_inherited(folding_factor, ell_zk, pow_bits);
     shape.validate::<F>()?;
@@ -95,7 +95,7 @@ pub fn verify_claim<F: Field, EF: ExtensionField<F>, M: Mmcs<EF>, C: Challenger<
 
 // Observes all that stands before the rounds of a batch under a claim that is handed on, and
 // answers the combination.
-fn observe_head<F: Field, EF: ExtensionField<F>, C: Challenger<F>>(
+pub(crate) fn observe_head<F: Field, EF: ExtensionField<F>, C: Challenger<F>>(
     alloc: Global,
     challenger: &mut C,
     shape: ZkSumcheckShape,
@@ -104,8 +104,7 @@ fn observe_head<F: Field, EF: ExtensionField<F>, C: Challenger<F>>(
     mu_tilde: EF,
 ) -> Result<EF, NoMemory>
     requires inherited { shape.prelude ≡ ZkPrelude.InheritedClaim }
-    requires count { length words.now ≡ 64 }
-    requires below { All (λ w. w < 16) words.now }
+    requires words { AreWords words.now }
     ensures rules { (C.party challenger.new).rules ≡ (C.party challenger.old).rules }
     ensures drawn { IfOk result (λ x. EF.number x
         ≡ combination_at (C.party challenger.old).rules EF.extension
@@ -169,17 +168,4 @@ fn target_after<EF: Field>(target: EF, wire: &[EF], r: EF) -> EF
     };
     let linear = target.sub(constant.add(*constant)).sub(sum(rest));
     constant.add(r.mul(linear.add(r.mul(poly_at(rest, r)))))
-}
-
-// The sum of values.
-fn sum<EF: Field>(values: &[EF]) -> EF
-    ensures { EF.number result ≡ sum_of EF.ops (map EF.number values.now) }
-{
-    let mut sum = EF::ZERO;
-    let mut left = values.len();
-    while left > 0 {
-        left -= 1;
-        sum = values[left].add(sum);
-    }
-    sum
 }

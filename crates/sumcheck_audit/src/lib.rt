@@ -20,3 +20,4 @@ pub use job::{Job, Mode, Proof};
 pub use kind::AuditJobs;
 pub use reading::read_job;
 pub use report::{judge_job, say_verdict, show_report};
+pub use statements::constraint_of;

@@ -19,7 +19,7 @@ use sumcheck_replies::elements;
 
 /// The groups of claims on tables of so many variables as groups of statements, with the element
 /// whose powers batch them.
-pub(crate) fn constraint_of<F: Field, EF: ExtensionField<F>>(
+pub fn constraint_of<F: Field, EF: ExtensionField<F>>(
     alloc: Global,
     groups: &[Group],
     variables: usize,

@@ -1,13 +1,15 @@
 -- How the replies to commands end, and what the commands promise.
 use Rattle.std.proofs.Common.{◌≡◌, ℕ, List, Option, Some, None, refl}
 use Rattle.sumcheck_run.specs.declared.command.Kind.{Kind}
-use Rattle.sumcheck_run.specs.declared.command.Kind.TheVariants.{Audit, Product}
+use Rattle.sumcheck_run.specs.declared.command.Kind.TheVariants.{Audit, Product, Veil, Explain}
 use Rattle.sumcheck_run.specs.declared.command.Command.{Command}
 use Rattle.sumcheck_run.specs.declared.command.Command.TheVariants.{Judge, Make}
 use Rattle.sumcheck_replies.specs.Reply.{code_of, usage}
 use Rattle.sumcheck_replies.specs.Kinds.{AreLawful}
 use Rattle.sumcheck_replies.proofs.KindLaws.{jobs-answer, promise-kept}
 use Rattle.sumcheck_product.proofs.ProductPromises.{product-lawful}
+use Rattle.sumcheck_veil.proofs.VeilPromises.{veil-lawful}
+use Rattle.sumcheck_explain.proofs.ExplainPromises.{explain-lawful}
 use Rattle.sumcheck_make.specs.Made.{made_asked}
 use Rattle.sumcheck_run.specs.Words.{CommandFits}
 use Rattle.sumcheck_run.specs.Program.{jobs_of, reply_of, CommandPromise}
@@ -19,6 +21,8 @@ use Rattle.sumcheck_make.proofs.MadeJobs.{made-holds}
 kind-lawful : (kind : Kind) → AreLawful (jobs_of kind).jobs
 kind-lawful Audit = audit-lawful
 kind-lawful Product = product-lawful
+kind-lawful Veil = veil-lawful
+kind-lawful Explain = explain-lawful
 
 -- ---- commands
 

@@ -3,15 +3,19 @@ use Rattle.std.specs.Prelude.{◌≡◌, ℕ, List, [], ◌∷◌, map, String, 
 use Rattle.std.specs.Option.{option_map}
 use Rattle.sumcheck_audit.specs.declared.job.Job.{Job}
 use Rattle.sumcheck_product.specs.declared.job.ProductJob.{ProductJob}
+use Rattle.sumcheck_veil.specs.declared.job.VeilJob.{VeilJob}
+use Rattle.sumcheck_explain.specs.declared.job.ExplainJob.{ExplainJob}
 use Rattle.sumcheck_replies.specs.declared.reply.Outcome.TheVariants.{Holds}
 use Rattle.sumcheck_replies.specs.Reply.{Reply, usage}
 use Rattle.sumcheck_replies.specs.Kinds.{AnyJobs, KeepsPromise, json_reply, jobs_reply}
 use Rattle.sumcheck_product.specs.CertifiedProducts.{product_jobs}
+use Rattle.sumcheck_veil.specs.PromisedVeils.{veil_jobs}
+use Rattle.sumcheck_explain.specs.PromisedMasks.{explain_jobs}
 use Rattle.sumcheck_audit.specs.CertifiedJobs.{audit_jobs}
 use Rattle.sumcheck_run.specs.Words.{recipe_of}
 use Rattle.sumcheck_make.specs.Made.{made_reply}
 use Rattle.sumcheck_run.specs.declared.command.Kind.{Kind}
-use Rattle.sumcheck_run.specs.declared.command.Kind.TheVariants.{Audit, Product}
+use Rattle.sumcheck_run.specs.declared.command.Kind.TheVariants.{Audit, Product, Veil, Explain}
 use Rattle.sumcheck_run.specs.declared.command.Command.{Command}
 use Rattle.sumcheck_run.specs.declared.command.Command.TheVariants.{Judge, Make}
 
@@ -19,12 +23,18 @@ use Rattle.sumcheck_run.specs.declared.command.Command.TheVariants.{Judge, Make}
 
 -- the one that a word names
 abbrev pub kind_named : List ℕ → Option Kind
-kind_named w = if bytes_eq w (codes "audit") then Some Audit else (if bytes_eq w (codes "product") then Some Product else None)
+kind_named w =
+    if bytes_eq w (codes "audit") then Some Audit
+    else (if bytes_eq w (codes "product") then Some Product
+    else (if bytes_eq w (codes "veil") then Some Veil
+    else (if bytes_eq w (codes "explain") then Some Explain else None)))
 
 -- what the jobs of each are
 abbrev pub jobs_of : Kind → AnyJobs
 jobs_of Audit = record { Job = Job; jobs = audit_jobs }
 jobs_of Product = record { Job = ProductJob; jobs = product_jobs }
+jobs_of Veil = record { Job = VeilJob; jobs = veil_jobs }
+jobs_of Explain = record { Job = ExplainJob; jobs = explain_jobs }
 
 -- ---- commands
 

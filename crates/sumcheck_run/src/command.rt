@@ -23,6 +23,10 @@ pub enum Kind {
     Audit,
     /// Rounds over the product of several tables, built or checked in the same way.
     Product,
+    /// A table with claims on it, whose rounds are played under masks, and reported on.
+    Veil,
+    /// What an observer sees of masked rounds. The masks that explain it are told.
+    Explain,
 }
 
 /// What the program is asked for.
@@ -62,6 +66,10 @@ fn read_kind(word: &str) -> Option<Kind>
         Some(Kind::Audit)
     } else if word == "product" {
         Some(Kind::Product)
+    } else if word == "veil" {
+        Some(Kind::Veil)
+    } else if word == "explain" {
+        Some(Kind::Explain)
     } else {
         None
     }

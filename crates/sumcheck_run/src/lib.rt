@@ -12,6 +12,7 @@ pub use command::{Command, Kind, needs_input, read_command};
 pub use program::{Status, run};
 pub use sc_streams::{Failed, MemSink, MemSource, PlainSource, Sink, Source, StdSink, StdSource};
 pub use sumcheck_audit::{AuditJobs, Job, Mode, Proof, judge_job, read_job, show_report};
+pub use sumcheck_explain::{ExplainJob, ExplainJobs, judge_explain, read_explain, show_masks};
 pub use sumcheck_make::{Recipe, make};
 pub use sumcheck_members::{
     BuildOrCheck, Challenger, EqualityClaim, FieldName, Group, Member, ProductClaim, ScalarClaim,
@@ -19,3 +20,6 @@ pub use sumcheck_members::{
 };
 pub use sumcheck_product::{ProductJob, ProductJobs, ProductProof, judge_product, read_product};
 pub use sumcheck_replies::{Answer, JobKind, Outcome, reply_to};
+pub use sumcheck_veil::{
+    DrawnMasks, Masks, Veil, VeilJob, VeilJobs, WrittenMasks, judge_veil, read_veil,
+};

@@ -17,9 +17,11 @@ use sc_field::NoMemory;
 use sc_streams::{ReadFault, Sink, Source, read_all, write_all};
 use std::alloc::Global;
 use sumcheck_audit::AuditJobs;
+use sumcheck_explain::ExplainJobs;
 use sumcheck_make::make;
 use sumcheck_product::ProductJobs;
 use sumcheck_replies::{Answer, MAX_INPUT, reply_to};
+use sumcheck_veil::VeilJobs;
 
 /// The status that the program ends with.
 #[derive(Clone, Copy, Debug, PartialEq, Eq)]
@@ -49,6 +51,8 @@ fn judge(alloc: Global, kind: Kind, input: Vec<u8>) -> Result<Answer, NoMemory>
     match kind {
         Kind::Audit => reply_to::<AuditJobs>(alloc, input),
         Kind::Product => reply_to::<ProductJobs>(alloc, input),
+        Kind::Veil => reply_to::<VeilJobs>(alloc, input),
+        Kind::Explain => reply_to::<ExplainJobs>(alloc, input),
     }
 }
 

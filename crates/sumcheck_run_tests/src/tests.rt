@@ -1,6 +1,7 @@
 //! Whole runs over memory.
 mod cases;
 mod challengers;
+mod explains;
 mod fields;
 mod jobs;
 mod kinds;
@@ -12,6 +13,7 @@ mod projective;
 mod refusals;
 mod small_value;
 mod streams;
+mod veils;
 
 use cases::{
     ALONE, CHECKS, CUBES, LAST_OF_TWO, NO_PROOF, PART, SAME, SUFFIX_CUBES, SUFFIX_MODES, WHOLE,

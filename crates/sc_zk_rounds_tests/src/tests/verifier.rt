@@ -7,7 +7,7 @@ use sc_sixteen::Tower16;
 use sc_small_fields::F65537;
 use sc_tests_common::{elements, have_numbers, of, scripted};
 use sc_transcript::SumcheckError;
-use sc_zk_rounds::{ZkSumcheckData, ZkVerifierHandoff, verify_claim};
+use sc_zk::{ZkSumcheckData, ZkVerifier, ZkVerifierHandoff};
 use std::alloc::Global;
 use std::process::Abort;
 
@@ -58,7 +58,7 @@ fn replayed<F: ExtensionField<F>>(
     let mut challenger = scripted::<F>(alloc, draws, good)?;
     let pow_bits = asked.pow_bits.min(challenger.max_bits());
     let commitment = [0; 32];
-    let answer = verify_claim::<F, F, Sha2Mmcs, _>(
+    let answer = ZkVerifier::<F, F>::verify_claim::<Sha2Mmcs, _>(
         alloc,
         &Sha2Mmcs::new(),
         &data,

@@ -1,0 +1,3 @@
+pub mod MaskedRounds
+pub mod RefusalLaws
+pub mod AnswerLaws

@@ -1,0 +1,4 @@
+pub mod SumLaws
+pub mod RoundLaws
+pub mod ViewLaws
+pub mod ShapeLaws

@@ -1,0 +1,4 @@
+pub mod ExplainJobLaws
+pub mod MaskLines
+pub mod AskedLaws
+pub mod ExplainPromises

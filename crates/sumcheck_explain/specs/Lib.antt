@@ -1,0 +1,3 @@
+pub mod ExplainJob
+pub mod Explains
+pub mod PromisedMasks

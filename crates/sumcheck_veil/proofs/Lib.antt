@@ -1,0 +1,3 @@
+pub mod VeilJobLaws
+pub mod AskedLaws
+pub mod VeilPromises
