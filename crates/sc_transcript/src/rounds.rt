@@ -230,8 +230,9 @@ fn events_in_round(degree: usize, values: usize, pow_bits: usize) -> Option<usiz
     }
 }
 
-// Absorbs values in order, each part after part. There is room for them, and no more is taken.
-fn observe_values<F: Field, EF: ExtensionField<F>, C: Challenger<F>, V: RoundValues<EF>>(
+/// Absorbs values in order, each part after part. There is room for them, as
+/// [`Challenger::reserve`] makes it, and no more is taken.
+pub fn observe_values<F: Field, EF: ExtensionField<F>, C: Challenger<F>, V: RoundValues<EF>>(
     challenger: &mut C,
     values: &V,
 )
