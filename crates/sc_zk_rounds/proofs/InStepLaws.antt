@@ -64,7 +64,7 @@ masked-width o ring number vs k l are long all qs p low =
     rw found (wire-width o ring _ _ s _ _ (omega (arith, size, long)) ∙ ap (λ n. n - 1) size)
 
 -- each round sends so many values
-built-width : (f : List ℕ → ℕ → List ℕ) (c : Channel) (k width : ℕ) → ((qs : List ℕ) (j : ℕ) → length qs < k → length (f qs j) ≡ width) →
+pub built-width : (f : List ℕ → ℕ → List ℕ) (c : Channel) (k width : ℕ) → ((qs : List ℕ) (j : ℕ) → length qs < k → length (f qs j) ≡ width) →
     (h : List Event) (rs : List ℕ) (n : ℕ) (rounds : List Round) (i : ℕ) (r : Round) → IsBuilt f c h rs n rounds → length rs + length rounds ≤ k → slice_get rounds i ≡ Some r →
     length r.values ≡ width
 built-width f c k width wide h rs n [] i r b few is = cc
@@ -77,7 +77,7 @@ built-width f c k width wide h rs (suc n) (q ∷ rounds) (suc i) r b few is =
     built-width f c k width wide (h ++ round_events c.extension c.bits q) (rs ++ challenge c.rules c.extension c.bits h q ∷ []) n rounds i r b.2 (omega (arith, few, more)) is
 
 -- the first of built rounds are built
-built-take : (f : List ℕ → ℕ → List ℕ) (c : Channel) (h : List Event) (rs : List ℕ) (n : ℕ) (rounds : List Round) (i : ℕ) → IsBuilt f c h rs n rounds → IsBuilt f c h rs n (take i rounds)
+pub built-take : (f : List ℕ → ℕ → List ℕ) (c : Channel) (h : List Event) (rs : List ℕ) (n : ℕ) (rounds : List Round) (i : ℕ) → IsBuilt f c h rs n rounds → IsBuilt f c h rs n (take i rounds)
 built-take f c h rs n [] zero b = tt
 built-take f c h rs n [] (suc i) b = tt
 built-take f c h rs n (q ∷ rounds) zero b = tt
@@ -85,7 +85,7 @@ built-take f c h rs zero (q ∷ rounds) (suc i) b = absurd b
 built-take f c h rs (suc n) (q ∷ rounds) (suc i) b = (b.0, b.1, built-take f c (h ++ round_events c.extension c.bits q) (rs ++ challenge c.rules c.extension c.bits h q ∷ []) n rounds i b.2)
 
 -- a shape is fit or unfit
-fit-or-not : (base : Ops) (shape : ZkSumcheckShape) (e : SumcheckError) → IsFit base shape → IsUnfit base shape e → ⊥
+pub fit-or-not : (base : Ops) (shape : ZkSumcheckShape) (e : SumcheckError) → IsFit base shape → IsUnfit base shape e → ⊥
 fit-or-not base shape errors.EvenCharacteristic fit none = fit.odd none
 fit-or-not base shape (errors.MaskTooShort l) fit short = absurd (omega (arith, fit.long, short.2))
 fit-or-not base shape errors.NoRounds fit none = absurd (omega (arith, fit.some, none.2))
@@ -170,7 +170,7 @@ module _ (s : Setting) (t : Standing) (m : AskedMasks) (base : Ops) (shape : ZkS
       (e ≡ errors.NoMemory) × (IsHeadPart s.channel b.shape (head_of b).claim t.history h ⊎ EndsInRounds b h)
   refused told number vs errors.NoMemory h ring fit are lengths left = (
     refl,
-    elim left.2 [
+    elim left.1 [
       | inl head ↦ inl (subst (λ x. IsHeadPart s.channel x (head_of b).claim t.history h) is head)
       | inr part ↦ inr (record {
         rounds = take part.1.count played.played.rounds;
@@ -182,11 +182,11 @@ module _ (s : Setting) (t : Standing) (m : AskedMasks) (base : Ops) (shape : ZkS
       })
     ],
   )
-  refused told number vs (errors.InvalidPowWitness i bits) h ring fit are lengths left = absurd (none-invalid i _ left.2.1.1.at)
-  refused told number vs (errors.RoundCountMismatch n k) h ring fit are lengths left = absurd (left.1.2 (left.1.1 ∙ counted.as_rounds ∙ sym left.1.0))
-  refused told number vs (errors.PowWitnessCountMismatch n k) h ring fit are lengths left = absurd (left.1.2 (left.1.1 ∙ counted.as_witnesses ∙ sym left.1.0))
+  refused told number vs (errors.InvalidPowWitness i bits) h ring fit are lengths left = absurd (none-invalid i _ left.1.1.1.at)
+  refused told number vs (errors.RoundCountMismatch n k) h ring fit are lengths left = absurd (left.0.1.2 (left.0.1.1 ∙ counted.as_rounds ∙ sym left.0.1.0))
+  refused told number vs (errors.PowWitnessCountMismatch n k) h ring fit are lengths left = absurd (left.0.1.2 (left.0.1.1 ∙ counted.as_witnesses ∙ sym left.0.1.0))
   refused told number vs (errors.WireSizeMismatch i n k) h ring fit are lengths left =
-      let narrow = left.2.1.1 in
+      let narrow = left.1.1.1 in
       let same : shape.ell_zk ≡ m.mask_length = ap (λ (x : Shape). x.mask_length) is in
       let few : 0 + length played.played.rounds ≤ length vs = let e = ap length are ∙ length-map vs _ in omega (arith, count, e) in
       let width : length narrow.round.values ≡ m.mask_length - 1 =

@@ -5,5 +5,6 @@ pub mod Mixings
 pub mod Rounds
 pub mod Handoffs
 pub mod Views
+pub mod Heads
 pub mod Verified
 pub mod InStep

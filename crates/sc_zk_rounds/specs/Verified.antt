@@ -1,4 +1,4 @@
--- The replay of a claim under masks, and what it leaves.
+-- The replay of masked rounds, whatever their batch begins with, and what it leaves.
 use Rattle.std.specs.Prelude.{◌≡◌, ◌⊎◌, ℕ, List, length, map, Result, Ok, Err, Some}
 use Rattle.sc_definitions.specs.declared.events.Event.{Event}
 use Rattle.sc_definitions.specs.Ring.{Ops}
@@ -12,10 +12,27 @@ use Rattle.sc_transcript.specs.declared.error.SumcheckError.{SumcheckError}
 use Rattle.sc_transcript.specs.declared.error.SumcheckError.TheVariants as errors
 use Rattle.sc_transcript.specs.declared.error.RoundError.TheVariants as rounds
 use Rattle.sc_transcript.specs.Walks.{LeavesWalk}
-use Rattle.sc_transcript.specs.Replayed.{Replay, replay_of, IsCounted, AreMiscounted}
+use Rattle.sc_transcript.specs.Replayed.{Replay, replay_of, AreCounted, AreMiscounted}
 use Rattle.sc_zk_transcript.specs.declared.shape.ZkSumcheckShape.{ZkSumcheckShape}
 use Rattle.sc_zk_transcript.specs.Shapes.{fixed_by, masked_batch, IsFit, IsUnfit}
 use Rattle.sc_zk_rounds.specs.declared.data.ZkVerifierHandoff.{ZkVerifierHandoff}
+
+-- ---- whether rounds can be replayed
+
+-- What came on a wire can be replayed in a shape: the shape is fit, and the counts are right.
+pub record CanReplay (base : Ops) (shape : ZkSumcheckShape) (came : Wire) : Type 0 where
+  pub fit : IsFit base shape
+  pub counted : AreCounted (masked_batch shape) (length came.messages) (length came.witnesses)
+
+-- the first reason why it cannot
+abbrev pub CannotReplay : Ops → ZkSumcheckShape → Wire → SumcheckError → Type 0
+CannotReplay base shape came (errors.RoundCountMismatch n m) =
+    IsFit base shape × AreMiscounted (masked_batch shape) (length came.messages) (length came.witnesses) (rounds.RoundCount n m)
+CannotReplay base shape came (errors.PowWitnessCountMismatch n m) =
+    IsFit base shape × AreMiscounted (masked_batch shape) (length came.messages) (length came.witnesses) (rounds.WitnessCount n m)
+CannotReplay base shape came e = IsUnfit base shape e
+
+-- ---- a replay
 
 -- A replay that is asked for: the ring of base elements and that of the claim, the channel, the shape, what stands before the rounds, the history where the
 -- batch begins, and what came on the wire.
@@ -60,26 +77,21 @@ told_by number h = record { randomness = map number h.randomness; residual = num
 
 -- All rounds were taken, and the answer tells of them.
 pub record IsVerified (p : MaskedReplay) (t : Told) (h : List Event) : Type 0 where
-  pub fit : IsFit p.base p.shape
-  pub counted : IsCounted (rounds_of p)
+  pub can : CanReplay p.base p.shape p.came
   pub walked : LeavesWalk (rounds_of p).walk (Ok t.randomness) (footing h t.residual)
   pub eps : t.eps ≡ eps_in p
 
--- Why they are not, and the history that this leaves: a shape that is unfit and a wrong count leave it as it was; a wire that is too long or too short leaves
--- it after the rounds before it, and a witness that fails with its test; the want of memory before the rounds or after some of them.
+-- Why they are not, and the history that this leaves: what cannot be replayed leaves it as it was; a wire that is too long or too short leaves it after the
+-- rounds before it, and a witness that fails with its test; the want of memory before the rounds or after some of them.
 abbrev pub IsRefuted : MaskedReplay → SumcheckError → List Event → Type 0
-IsRefuted p (errors.RoundCountMismatch n m) h =
-    IsFit p.base p.shape × AreMiscounted (masked_batch p.shape) (length p.came.messages) (length p.came.witnesses) (rounds.RoundCount n m) × (h ≡ p.begun)
-IsRefuted p (errors.PowWitnessCountMismatch n m) h =
-    IsFit p.base p.shape × AreMiscounted (masked_batch p.shape) (length p.came.messages) (length p.came.witnesses) (rounds.WitnessCount n m) × (h ≡ p.begun)
 IsRefuted p (errors.WireSizeMismatch i n m) h =
-    IsFit p.base p.shape × IsCounted (rounds_of p) × ((t : ℕ) × LeavesWalk (rounds_of p).walk (Err (Some (rounds.WrongWidth i n m))) (footing h t))
+    CanReplay p.base p.shape p.came × ((t : ℕ) × LeavesWalk (rounds_of p).walk (Err (Some (rounds.WrongWidth i n m))) (footing h t))
 IsRefuted p (errors.InvalidPowWitness i bits) h =
-    IsFit p.base p.shape × IsCounted (rounds_of p) × ((t : ℕ) × LeavesWalk (rounds_of p).walk (Err (Some (rounds.InvalidWitness i bits))) (footing h t))
+    CanReplay p.base p.shape p.came × ((t : ℕ) × LeavesWalk (rounds_of p).walk (Err (Some (rounds.InvalidWitness i bits))) (footing h t))
 IsRefuted p errors.NoMemory h =
-    IsFit p.base p.shape × IsCounted (rounds_of p)
+    CanReplay p.base p.shape p.came
     × (IsHeadPart p.channel (fixed_by p.shape) p.head.claim p.begun h ⊎ ((t : ℕ) × LeavesWalk (rounds_of p).walk (Err (Some rounds.NoMemory)) (footing h t)))
-IsRefuted p e h = IsUnfit p.base p.shape e × (h ≡ p.begun)
+IsRefuted p e h = CannotReplay p.base p.shape p.came e × (h ≡ p.begun)
 
 -- what a replay leaves, by its answer
 abbrev pub LeavesMaskedReplay : {X : Type 0} → (X → Told) → MaskedReplay → Result X SumcheckError → List Event → Type 0

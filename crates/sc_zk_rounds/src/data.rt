@@ -54,9 +54,19 @@ impl<F: Field, EF: ExtensionField<F>> ZkSumcheckData<F, EF> {
         Ok(())
     }
 
-    // Plays a round of this wire, appends it with its witness, and answers its challenge. The
-    // refusals are those of `Rounds::play`, and leave the data as it was.
-    pub(crate) fn put_round<C: Challenger<F>, K: Copy>(
+    /// Plays a round of this wire over the challenger, appends it with its witness, and answers its
+    /// challenge.
+    ///
+    /// # Conditions
+    ///
+    /// The difficulty is at most the challenger's [`Challenger::max_bits`], a round is still to be
+    /// played, and the wire has as many values as a round sends.
+    ///
+    /// # Errors
+    ///
+    /// Those of [`Rounds::play`], `NoWitness` and `NoMemory`, told as errors of a sumcheck. They
+    /// leave the data as it was.
+    pub fn put_round<C: Challenger<F>, K: Copy>(
         &mut self,
         rounds: &mut Rounds<K>,
         challenger: &mut C,

@@ -4,11 +4,13 @@
 
 mod assembly;
 mod data;
+pub mod head;
 mod in_step;
 mod into_zk;
 mod mixing;
-mod oracle;
+pub mod oracle;
 mod prover;
+pub mod replayed;
 mod sums;
 mod values;
 mod verifier;
@@ -17,6 +19,7 @@ pub use assembly::masked_wire;
 pub use data::{Handoff, MaskOracle, ZkSumcheckData, ZkSumcheckHandoff, ZkVerifierHandoff};
 pub use in_step::{MaskedRun, masked_in_step};
 pub use into_zk::IntoZk;
+pub use mixing::masks_total;
 pub use values::{
     covector_laws, mask_residual, mask_residual_covectors, mask_residual_covectors_from_shape,
 };

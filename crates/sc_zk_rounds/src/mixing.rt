@@ -129,6 +129,14 @@ fn endpoint_of<EF: Field>(mask: &[EF]) -> EF
     mask[0].add(sum(mask))
 }
 
+/// The total of masks: their sum over all bits. Two is not zero in the base field.
+pub fn masks_total<F: Field, EF: ExtensionField<F>>(masks: &[Vec<EF>]) -> EF
+    requires { 1 +⟨ F.ops ⟩ 1 ≢ 0 }
+    ensures { EF.number result ≡ masks_total EF.ops (lists_in EF.number masks.now) }
+{
+    Mixing::new(masks, one_half::<F, EF>(), EF::ZERO).total()
+}
+
 // What is left of aux after so many rounds.
 pub(crate) fn aux_after<F: Field, EF: ExtensionField<F>>(aux: EF, rounds: usize) -> EF
     requires { 1 +⟨ F.ops ⟩ 1 ≢ 0 }

@@ -7,15 +7,22 @@ use sc_commitments::{Mmcs, ZkEncoding};
 use sc_field::{Field, NoMemory};
 use std::alloc::Global;
 
-// A commitment with what is kept of it, and its words.
+/// A commitment `K` to masks, of which data `D` is kept.
 #[derive(Drop)]
-pub(crate) struct Committed<K, D> {
-    pub(crate) oracle: (K, D),
-    pub(crate) words: Vec<u8>,
+pub struct Committed<K, D> {
+    /// The commitment, and what is kept of it.
+    pub oracle: (K, D),
+    /// The words of the commitment: 64 numbers below 16.
+    pub words: Vec<u8>,
 }
 
-// Encodes masks, each with its randomness, and commits to them.
-pub(crate) fn commit_masks<EF: Field, Enc: ZkEncoding<EF>, M: Mmcs<EF>>(
+/// Encodes masks, each with its randomness, and commits to them. There are as many lists of
+/// randomness as masks, and each list has the encoding's length.
+///
+/// # Errors
+///
+/// [`NoMemory`] alone.
+pub fn commit_masks<EF: Field, Enc: ZkEncoding<EF>, M: Mmcs<EF>>(
     alloc: Global,
     encoding: &Enc,
     mmcs: &M,

@@ -14,8 +14,8 @@ ghost use Rattle.sc_zk_rounds.specs.Rounds.{MovesMasked, PlaysMasks};
 ghost use Rattle.sc_zk_rounds.specs.Views.{masked_setting, masked_standing};
 
 use crate::data::ZkSumcheckData;
+use crate::head::observe_head;
 use crate::mixing::{Mixing, one_half};
-use crate::verifier::observe_head;
 use sc_challenger::Challenger;
 use sc_field::{ExtensionField, Field};
 use sc_rounds::SumcheckProver;

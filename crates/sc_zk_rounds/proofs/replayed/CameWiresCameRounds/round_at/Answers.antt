@@ -2,7 +2,7 @@ use Rattle.std.proofs.Common.{◌≡◌, ◌<◌, get_or, length, rules}
 use Rattle.std.proofs.lemmas.List.{length-map}
 use Rattle.sc_definitions.proofs.ReplayLaws.{length-given_rounds}
 use Rattle.sc_zk_rounds.proofs.VerifiedLaws.{wire_came}
-use Rattle.sc_zk_rounds.proofs.verifier.CameWiresCameRounds.round_at.Goals as goal
+use Rattle.sc_zk_rounds.proofs.replayed.CameWiresCameRounds.round_at.Goals as goal
 
 pub index-requires : goal.index-requires
 index-requires g c = rw c.args.self.now.data.now.round_coefficients.ok.0 (rw (length-given_rounds, length-map) at c.requires)

@@ -1,7 +1,7 @@
 use Rattle.std.proofs.Common.{◌≡◌, sym, ◌∙◌, ap, arith}
 use Rattle.sc_definitions.specs.Ring.{plus, minus, times}
 use Rattle.sc_zk_rounds.proofs.TargetLaws.{target-none, target-some}
-use Rattle.sc_zk_rounds.proofs.verifier.target_after.Goals as goal
+use Rattle.sc_zk_rounds.proofs.replayed.target_after.Goals as goal
 
 pub returns-in_default : goal.returns-in_default
 returns-in_default g c =
