@@ -1,0 +1,4 @@
+pub mod Drafts
+pub mod Sendings
+pub mod Simulations
+pub mod InStep
