@@ -1,0 +1,10 @@
+pub mod Shapes
+pub mod Requests
+pub mod Openings
+pub mod Sums
+pub mod Claimed
+pub mod Scaled
+pub mod Books
+pub mod Provers
+pub mod Counted
+pub mod Verifiers
