@@ -7,6 +7,7 @@ use Rattle.sc_definitions.specs.Channels.{Channel, empty_wire}
 use Rattle.sc_definitions.specs.Standings.{Setting, Standing}
 use Rattle.sc_definitions.specs.Shown.{Shown, with_scaled, setting_at, standing_at}
 use Rattle.sc_challenger.specs.Parties.{Party, channel_by}
+use Rattle.sc_zk_definitions.specs.declared.prelude.ZkPrelude.{ZkPrelude}
 use Rattle.sc_zk_definitions.specs.declared.prelude.ZkPrelude.TheVariants.{InheritedClaim}
 use Rattle.sc_zk_definitions.specs.Explained.{half_of}
 use Rattle.sc_zk_definitions.specs.MaskedRuns.{IsMaskedInPart, IsMaskedWithoutWitness}
@@ -28,17 +29,21 @@ pub record AskedMasks : Type 0 where
 abbrev pub asked_masks : ℕ → List (List ℕ) → List ℕ → ℕ → AskedMasks
 asked_masks l masks words aux = record { mask_length = l; masks = masks; words = words; aux = aux }
 
--- The batch under a claim that is handed on, in this setting, from a standing on: a round for each mask.
-abbrev pub batch_asked : Setting → Standing → AskedMasks → MaskedBatch
-batch_asked s t m = record {
+-- The batch of a prelude, in this setting, from a standing on: a round for each mask.
+abbrev pub batch_from : ZkPrelude → Setting → Standing → AskedMasks → MaskedBatch
+batch_from prelude s t m = record {
   setting = s;
-  shape = record { prelude = InheritedClaim; rounds = length m.masks; mask_length = m.mask_length; bits = s.channel.bits };
+  shape = record { prelude = prelude; rounds = length m.masks; mask_length = m.mask_length; bits = s.channel.bits };
   taken = t;
   masks = m.masks;
   commitment = m.words;
   half = half_of s.ops;
   aux = m.aux;
 }
+
+-- the batch under a claim that is handed on
+abbrev pub batch_asked : Setting → Standing → AskedMasks → MaskedBatch
+batch_asked s t m = batch_from InheritedClaim s t m
 
 -- the same of a prover that shows this, over a channel, from a history on, with nothing on the wire
 abbrev pub batch_over : Channel → Ops → Shown → List Event → AskedMasks → MaskedBatch

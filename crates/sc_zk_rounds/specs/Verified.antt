@@ -49,7 +49,11 @@ pub record MaskedReplay : Type 0 where
 abbrev pub claim_asked : Ops → Ops → Channel → ZkSumcheckShape → Head → List Event → Wire → MaskedReplay
 claim_asked base o c shape head begun came = record { base = base; ops = o; channel = c; shape = shape; head = head; begun = begun; came = came }
 
--- the same under a challenger, over an extension of a base field
+-- a challenger as it was at a history
+abbrev pub at_history : List Event → Party → Party
+at_history h p = record p { history = h }
+
+-- the replay under a challenger, where it is, over an extension of a base field
 abbrev pub claim_by : Party → Ops → Ops → Extension → ZkSumcheckShape → Head → Wire → MaskedReplay
 claim_by p base o E shape head came = claim_asked base o (channel_by p E base.size shape.pow_bits) shape head p.history came
 

@@ -7,7 +7,7 @@ mod data;
 pub mod head;
 mod in_step;
 mod into_zk;
-mod mixing;
+pub mod mixing;
 pub mod oracle;
 mod prover;
 pub mod replayed;
@@ -19,7 +19,6 @@ pub use assembly::masked_wire;
 pub use data::{Handoff, MaskOracle, ZkSumcheckData, ZkSumcheckHandoff, ZkVerifierHandoff};
 pub use in_step::{MaskedRun, masked_in_step};
 pub use into_zk::IntoZk;
-pub use mixing::masks_total;
 pub use values::{
     covector_laws, mask_residual, mask_residual_covectors, mask_residual_covectors_from_shape,
 };

@@ -16,9 +16,10 @@ use sc_table::RoundMessage;
 use std::alloc::Global;
 
 /// What masks make of the next round of a batch: kept from round to round, so that none goes over
-/// the masks again.
+/// the masks again. A prover makes it of all masks, and for each round takes the round's wire of it
+/// ([`Mixing::wire`]) and then what is left after the round's challenge ([`Mixing::pass`]).
 #[derive(Clone, Copy, Debug)]
-pub(crate) struct Mixing<EF> {
+pub struct Mixing<EF> {
     // one half
     half: EF,
     // two to the power of how many masks are left
@@ -32,8 +33,8 @@ pub(crate) struct Mixing<EF> {
 }
 
 impl<EF: Field> Mixing<EF> {
-    /// Before the first round.
-    pub(crate) fn new(masks: &[Vec<EF>], half: EF, aux: EF) -> Self
+    /// Before the first round, by one half and by aux, which is zero for a prover that adds none.
+    pub fn new(masks: &[Vec<EF>], half: EF, aux: EF) -> Self
         ensures { (k : Masking) → k.masks ≡ lists_in EF.number masks.now → k.half ≡ EF.number half
             → k.aux ≡ EF.number aux → IsMixing EF.ops EF.number k [] result }
     {
@@ -47,7 +48,7 @@ impl<EF: Field> Mixing<EF> {
     }
 
     /// The total of the masks, before the first round.
-    pub(crate) fn total(&self) -> EF
+    pub fn total(&self) -> EF
         ensures { (k : Masking) → IsHalf EF.ops k.half → IsMixing EF.ops EF.number k [] self.now
             → EF.number result ≡ masks_total EF.ops k.masks }
     {
@@ -56,9 +57,13 @@ impl<EF: Field> Mixing<EF> {
 }
 
 impl<EF: Field> Mixing<EF> {
-    /// The wire of the next round, whose mask this is, by the round's plain message. The mask has
-    /// three coefficients at least.
-    pub(crate) fn wire(
+    /// The wire of the next round, whose mask this is, by the combination and the round's plain
+    /// message. The mask has three coefficients at least.
+    ///
+    /// # Errors
+    ///
+    /// [`NoMemory`] alone.
+    pub fn wire(
         &self,
         alloc: Global,
         mask: &[EF],
@@ -89,7 +94,7 @@ impl<EF: Field> Mixing<EF> {
     }
 
     /// What masks make of the round after it, by the challenge of this one.
-    pub(crate) fn pass(self, mask: &[EF], r: EF) -> Self
+    pub fn pass(self, mask: &[EF], r: EF) -> Self
         ensures { (k : Masking) (rs : List ℕ) (later : List (List ℕ)) → IsHalf EF.ops k.half
             → drop (length rs) k.masks ≡ map EF.number mask.now ∷ later
             → IsMixing EF.ops EF.number k rs self
@@ -145,8 +150,8 @@ pub(crate) fn aux_after<F: Field, EF: ExtensionField<F>>(aux: EF, rounds: usize)
     one_half::<F, EF>().exp_u64(rounds as u64).mul(aux)
 }
 
-// One half: two is not zero in the base field, and so not here.
-pub(crate) fn one_half<F: Field, EF: ExtensionField<F>>() -> EF
+/// One half. Two is not zero in the base field, and so not here.
+pub fn one_half<F: Field, EF: ExtensionField<F>>() -> EF
     requires { 1 +⟨ F.ops ⟩ 1 ≢ 0 }
     ensures number { EF.number result ≡ half_of EF.ops }
     ensures half { IsHalf EF.ops (EF.number result) }

@@ -1,13 +1,12 @@
 //! The replay of masked rounds, whatever their batch begins with.
 ghost use Rattle.std.specs.Prelude.{◌≡◌, ◌≤◌, List, IfErr, OnOk, map, vec_len};
 ghost use Rattle.sc_definitions.specs.declared.events.Event.{Event};
-ghost use Rattle.sc_challenger.specs.Parties.{channel_by};
 ghost use Rattle.sc_zk_definitions.specs.Masks.{next_target};
 ghost use Rattle.sc_zk_definitions.specs.MaskedTranscripts.{head};
 ghost use Rattle.sc_zk_transcript.specs.Shapes.{fixed_by};
 ghost use Rattle.sc_zk_rounds.specs.Data.{masked_wire_in, AreWords, HasRoomFor};
 ghost use Rattle.sc_zk_rounds.specs.Heads.{begun_at};
-ghost use Rattle.sc_zk_rounds.specs.Verified.{claim_asked, told_by, LeavesMaskedReplay};
+ghost use Rattle.sc_zk_rounds.specs.Verified.{at_history, claim_by, told_by, LeavesMaskedReplay};
 ghost use Rattle.sc_zk_rounds.specs.Verified.{CanReplay, CannotReplay};
 
 use crate::data::{ZkSumcheckData, ZkVerifierHandoff};
@@ -79,10 +78,10 @@ pub fn replay_begun<F: Field, EF: ExtensionField<F>, C: Challenger<F>>(
     ensures rules { (C.party challenger.new).rules ≡ (C.party challenger.old).rules }
     ensures left { (h : List Event) → (C.party challenger.old).history
         ≡ begun_at EF.extension h (fixed_by shape) (EF.number claim)
-        → LeavesMaskedReplay (told_by EF.number) (claim_asked F.ops EF.ops
-        (channel_by (C.party challenger.old) EF.extension F.ops.size shape.pow_bits) shape
-        (head (EF.number claim) words.now (EF.number zk_data.now.mu_tilde)) h
-        (masked_wire_in F.number EF.number zk_data.now)) result (C.party challenger.new).history }
+        → LeavesMaskedReplay (told_by EF.number) (claim_by (at_history h (C.party challenger.old))
+        F.ops EF.ops EF.extension shape (head (EF.number claim) words.now
+        (EF.number zk_data.now.mu_tilde)) (masked_wire_in F.number EF.number zk_data.now))
+        result (C.party challenger.new).history }
 {
     let eps = combine_begun::<F, EF, C>(challenger, shape, words, zk_data.mu_tilde)?;
     let came = CameWires {

@@ -14,9 +14,10 @@ use sc_table::Point;
 use sc_transcript::SumcheckError;
 use sc_transcript::driver::RoundShape;
 use sc_zk_definitions::ZkPrelude;
+use sc_zk_rounds::ZkSumcheckData;
 use sc_zk_rounds::head::observe_head;
+use sc_zk_rounds::mixing::masks_total;
 use sc_zk_rounds::oracle::commit_masks;
-use sc_zk_rounds::{ZkSumcheckData, masks_total};
 use sc_zk_transcript::ZkSumcheckShape;
 use std::alloc::Global;
 
