@@ -134,6 +134,7 @@ pub record IsSound (o : Ops) (l : Laid) : Type 0 where
   pub some : 1 ≤ l.folding
   pub few : l.folding ≤ 12
   pub within : l.folding ≤ l.variables
+  pub small : l.variables ≤ 40
   pub arity : HaveArity l.variables (statements_of l.recorded)
   pub truth : AreTrue o l.variables l.rows (statements_of l.recorded)
 

@@ -1,5 +1,5 @@
 //! What a layout is.
-ghost use Rattle.std.specs.Prelude.{◌≡◌, ℕ, IfOk, OnErr};
+ghost use Rattle.std.specs.Prelude.{◌≡◌, ◌≤◌, ℕ, IfOk, OnErr};
 ghost use Rattle.sc_table.specs.Polys.{variables_of, table_of};
 ghost use Rattle.sc_table.specs.Strategy.{order_of};
 
@@ -15,6 +15,7 @@ use sc_table::{Poly, VariableOrder};
 pub trait Layout<F: Field, EF: ExtensionField<F>>: Drop {
     ghost use Rattle.sc_layout.specs.Openings.{Laid, IsSound, KeepsTable, laid_at};
     ghost use Rattle.sc_layout.specs.Openings.{Opens, OpensVirtual, OpensNothing};
+    ghost use Rattle.sc_layout.specs.Openings.{HaveArity, statements_of};
     ghost use Rattle.sc_layout.specs.Requests.{asked_in, values_in};
     ghost use Rattle.sc_layout.specs.Books.{prover_recorded};
 
@@ -23,11 +24,15 @@ pub trait Layout<F: Field, EF: ExtensionField<F>>: Drop {
 
     /// How many variables the table has: at most 40.
     fn num_variables(&self) -> usize
-        ensures { result ≡ (laid self.now).variables };
+        ensures is { result ≡ (laid self.now).variables }
+        ensures few { result ≤ 40 };
 
     /// How many of them small-value rounds bind: at least one, and at most 12.
     fn folding(&self) -> usize
-        ensures { result ≡ (laid self.now).folding };
+        ensures is { result ≡ (laid self.now).folding }
+        ensures some { 1 ≤ result }
+        ensures few { result ≤ 12 }
+        ensures within { result ≤ (laid self.now).variables };
 
     /// In which order rounds bind them.
     fn order(&self) -> VariableOrder
@@ -39,9 +44,11 @@ pub trait Layout<F: Field, EF: ExtensionField<F>>: Drop {
         ensures rows { (λ b. EF.embedding (table_of F.number result.now b))
             ≡ (laid self.now).rows };
 
-    /// What is recorded.
+    /// What is recorded: each claim is on the table.
     fn claims(&self) -> &ClaimBook<F, EF>
-        ensures { prover_recorded result.now ≡ (laid self.now).recorded };
+        ensures recorded { prover_recorded result.now ≡ (laid self.now).recorded }
+        ensures arity { HaveArity (laid self.now).variables
+            (statements_of (prover_recorded result.now)) };
 
     /// Opens the columns of a request at a point that is drawn: answers and observes the values
     /// there and those through the successor map, and records them as one concrete claim, after

@@ -202,6 +202,7 @@ impl<F: Field, EF: ExtensionField<F>, O: BindingOrder> Layout<F, EF> for TablePr
       some = s.some;
       few = s.few;
       within = s.within;
+      small = s.variables;
       arity = s.arity;
       truth = s.truth;
     } };
