@@ -10,6 +10,7 @@ use Rattle.sc_definitions.specs.Shown.{Shown, KeepsForm, with_scaled, setting_at
 use Rattle.sc_commitments.specs.Matrices.{lists_in}
 use Rattle.sc_transcript.specs.declared.error.SumcheckError.{SumcheckError}
 use Rattle.sc_transcript.specs.declared.error.SumcheckError.TheVariants as errors
+use Rattle.sc_zk_definitions.specs.declared.prelude.ZkPrelude.{ZkPrelude}
 use Rattle.sc_zk_definitions.specs.declared.prelude.ZkPrelude.TheVariants.{InheritedClaim}
 use Rattle.sc_zk_definitions.specs.Masks.{masks_total}
 use Rattle.sc_zk_definitions.specs.Explained.{half_of}
@@ -22,35 +23,35 @@ use Rattle.sc_zk_transcript.specs.Shapes.{shape_made, fixed_by, IsFit}
 use Rattle.sc_zk_rounds.specs.Values.{AreOfLength}
 use Rattle.sc_zk_rounds.specs.Mixings.{IsMixing}
 use Rattle.sc_zk_rounds.specs.Rounds.{AreMasks, IsShapeOf, PlaysMasks}
-use Rattle.sc_zk_rounds.specs.Handoffs.{asked_masks, batch_asked, Handed, HandsOn, shown_from, PlaysBatch, EndsMasked}
+use Rattle.sc_zk_rounds.specs.Handoffs.{AskedMasks, asked_masks, batch_asked, batch_from, Handed, HandsOn, shown_from, PlaysBatch, EndsMasked}
 use Rattle.sc_zk_rounds.specs.Data.{Sent}
 
 -- ---- the head of a batch of these masks, whose numbers are told by elements
 
-module _ {EF Z : Type 0} (number : EF → ℕ) (s : Setting) (t : Standing) (vs : List (Vec EF Z)) (ws : List ℕ) (shape : ZkSumcheckShape) (aux claim mu : EF)
-    (is : shape ≡ shape_made InheritedClaim (length vs) shape.ell_zk shape.pow_bits) (bits : s.channel.bits ≡ shape.pow_bits)
-    (claims : number claim ≡ plus s.ops t.claim (number aux)) (total : number mu ≡ masks_total s.ops (lists_in number vs)) where
+module _ {EF Z : Type 0} (number : EF → ℕ) (s : Setting) (t : Standing) (vs : List (Vec EF Z)) (ws : List ℕ) (shape : ZkSumcheckShape) (aux mu : EF) (claim : ℕ)
+    (is : shape ≡ shape_made shape.prelude (length vs) shape.ell_zk shape.pow_bits) (bits : s.channel.bits ≡ shape.pow_bits)
+    (claims : claim ≡ plus s.ops t.claim (number aux)) (total : number mu ≡ masks_total s.ops (lists_in number vs)) where
   abbrev asked : MaskedBatch
-  asked = batch_asked s t (asked_masks shape.ell_zk (lists_in number vs) ws (number aux))
+  asked = batch_from shape.prelude s t (asked_masks shape.ell_zk (lists_in number vs) ws (number aux))
 
   shape-is : fixed_by shape ≡ asked.shape
   shape-is =
-      ap fixed_by is ∙ ap (λ n. fixed_by (shape_made InheritedClaim n shape.ell_zk shape.pow_bits)) (sym (length-map vs _))
-      ∙ ap (λ n. fixed_by (shape_made InheritedClaim (length (lists_in number vs)) shape.ell_zk n)) (sym bits)
+      ap fixed_by is ∙ ap (λ n. fixed_by (shape_made shape.prelude n shape.ell_zk shape.pow_bits)) (sym (length-map vs _))
+      ∙ ap (λ n. fixed_by (shape_made shape.prelude (length (lists_in number vs)) shape.ell_zk n)) (sym bits)
 
-  head-is : head (number claim) ws (number mu) ≡ head_of asked
+  head-is : head claim ws (number mu) ≡ head_of asked
   head-is = ap (λ n. head n ws (number mu)) claims ∙ ap (λ n. head (plus s.ops t.claim (number aux)) ws n) total
 
   -- the combination
-  pub combination-is : (x : EF) → number x ≡ combination_at s.channel.rules s.channel.extension t.history (fixed_by shape) (head (number claim) ws (number mu)) → number x ≡ eps_of asked
+  pub combination-is : (x : EF) → number x ≡ combination_at s.channel.rules s.channel.extension t.history (fixed_by shape) (head claim ws (number mu)) → number x ≡ eps_of asked
   combination-is x drawn =
-      drawn ∙ ap (λ y. combination_at s.channel.rules s.channel.extension t.history y (head (number claim) ws (number mu))) shape-is
+      drawn ∙ ap (λ y. combination_at s.channel.rules s.channel.extension t.history y (head claim ws (number mu))) shape-is
       ∙ ap (λ y. combination_at s.channel.rules s.channel.extension t.history asked.shape y) head-is
 
   -- where the rounds begin
-  pub history-is : (h : List Event) → h ≡ rounds_from s.channel.extension t.history (fixed_by shape) (head (number claim) ws (number mu)) → h ≡ (start_of asked).history
+  pub history-is : (h : List Event) → h ≡ rounds_from s.channel.extension t.history (fixed_by shape) (head claim ws (number mu)) → h ≡ (start_of asked).history
   history-is h at =
-      at ∙ ap (λ y. rounds_from s.channel.extension t.history y (head (number claim) ws (number mu))) shape-is
+      at ∙ ap (λ y. rounds_from s.channel.extension t.history y (head claim ws (number mu))) shape-is
       ∙ ap (λ y. rounds_from s.channel.extension t.history asked.shape y) head-is
 
   -- the masks with what they make of the first round
@@ -65,7 +66,7 @@ module _ {EF Z : Type 0} (number : EF → ℕ) (s : Setting) (t : Standing) (vs 
   }
 
   -- where the head is broken off
-  pub head-stops : (h : List Event) → IsHeadPart s.channel (fixed_by shape) (number claim) t.history h → IsHeadPart s.channel asked.shape (head_of asked).claim t.history h
+  pub head-stops : (h : List Event) → IsHeadPart s.channel (fixed_by shape) claim t.history h → IsHeadPart s.channel asked.shape (head_of asked).claim t.history h
   head-stops h part = subst (λ y. IsHeadPart s.channel y (head_of asked).claim t.history h) shape-is (subst (λ n. IsHeadPart s.channel (fixed_by shape) n t.history h) claims part)
 
 -- the rounds after the head are those of the batch
@@ -97,11 +98,11 @@ broken-batch X {Y} number b after rs rs' e result is p = subst (PlaysBatch numbe
 -- ---- what a batch hands on, or how it ends
 
 -- one batch under other names
-pub same-batch : (R : Rules) (E : Extension) (size : ℕ) {bits bits' : ℕ} (o : Ops) (s : Shown) (h : List Event) {w : Wire} {l l' : ℕ} {masks masks' : List (List ℕ)} {ws ws' : List ℕ} (aux : ℕ) →
-    bits ≡ bits' → w ≡ empty_wire → l ≡ l' → masks ≡ masks' → ws ≡ ws' →
-    batch_asked (setting_at (channel R E size bits) o s) (standing_at s h w) (asked_masks l masks ws aux)
+pub same-batch : (R : Rules) (E : Extension) (size : ℕ) {bits bits' : ℕ} (o : Ops) (s : Shown) (h : List Event) {w : Wire} {l l' : ℕ} {masks masks' : List (List ℕ)} {ws ws' : List ℕ} (aux : ℕ) {q : ZkPrelude} →
+    q ≡ InheritedClaim → bits ≡ bits' → w ≡ empty_wire → l ≡ l' → masks ≡ masks' → ws ≡ ws' →
+    batch_from q (setting_at (channel R E size bits) o s) (standing_at s h w) (asked_masks l masks ws aux)
     ≡ batch_asked (setting_at (channel R E size bits') o s) (standing_at s h empty_wire) (asked_masks l' masks' ws' aux)
-same-batch R E size o s h aux eb ew el em ews = rw (eb, ew, el, em, ews) refl
+same-batch R E size o s h aux eq eb ew el em ews = rw (eq, eb, ew, el, em, ews) refl
 
 -- what a prover shows after rounds, by where these stand
 pub shown-after : (c : Channel) (o : Ops) (before now : Shown) (h : List Event) (w : Wire) → KeepsForm before now →
@@ -122,6 +123,17 @@ hands-on c o before now after b h w rs rs' x held setting form played drawn eps 
   settled = none;
 }
 
+-- memory ran out before its masks
+pub stops-batch : {X : Type 0} (number : X → ℕ) (b : MaskedBatch) (h : List Event) (rs : List ℕ) (result : Result X SumcheckError) → result ≡ Err errors.NoMemory →
+    IsHeadPart b.setting.channel b.shape (head_of b).claim b.taken.history h → PlaysBatch number b (record b.taken { history = h }) rs result
+stops-batch number b h rs result is part = rw is (inl (record { history = part; kept = refl }))
+
+-- a batch of one setting under other rules of a challenger
+pub batch-as : {X : Type 0} (number : X → ℕ) (E : Extension) (size bits : ℕ) (o : Ops) (prelude : ZkPrelude) (v : Shown) (t after : Standing) (m : AskedMasks) (rs : List ℕ) (R R' : Rules) (result : Result X SumcheckError) →
+    R ≡ R' → PlaysBatch number (batch_from prelude (setting_at (channel R E size bits) o v) t m) after rs result →
+    PlaysBatch number (batch_from prelude (setting_at (channel R' E size bits) o v) t m) after rs result
+batch-as number E size bits o prelude v t after m rs R R' result same = subst (λ r. PlaysBatch number (batch_from prelude (setting_at (channel r E size bits) o v) t m) after rs result) same
+
 -- nothing of a batch was played
 pub ends-before : {X : Type 0} (handed : X → Handed) (b : MaskedBatch) (h : List Event) (sent : Sent) (result : Result X SumcheckError) → result ≡ Err errors.NoMemory →
     h ≡ b.taken.history → sent.wire ≡ b.taken.wire → EndsMasked handed b h sent result
@@ -139,9 +151,9 @@ pub ends-broken : {X Y : Type 0} (handed : X → Handed) (number : Y → ℕ) (b
 ends-broken handed number b after rs sent result e is broken wire = rw is (record { after = after; left = broken; history = refl; wire = wire; total = tt })
 
 -- the shape of a batch under masks, by what makes it
-pub shape-of : {X Z : Type 0} (o : Ops) (vs vs' : List (Vec X Z)) {n l l' bits : ℕ} (shape : ZkSumcheckShape) → shape ≡ shape_made InheritedClaim n l bits → vs ≡ vs' → n ≡ length vs' → l ≡ l' →
-    IsFit o (shape_made InheritedClaim (length vs') l' bits) → AreOfLength l' vs' → IsShapeOf o vs shape
-shape-of o vs vs' {n} {l} {l'} {bits} shape is same count long fit lengths =
+pub shape-of : {X Z : Type 0} (o : Ops) (vs vs' : List (Vec X Z)) {n l l' bits : ℕ} {prelude : ZkPrelude} (shape : ZkSumcheckShape) → shape ≡ shape_made prelude n l bits → vs ≡ vs' → n ≡ length vs' →
+    l ≡ l' → IsFit o (shape_made prelude (length vs') l' bits) → AreOfLength l' vs' → IsShapeOf o vs shape
+shape-of o vs vs' {n} {l} {l'} {bits} {prelude} shape is same count long fit lengths =
     subst (λ us. IsShapeOf o us shape) (sym same)
-    (subst (IsShapeOf o vs') (sym (is ∙ ap (λ k. shape_made InheritedClaim k l bits) count ∙ ap (λ k. shape_made InheritedClaim (length vs') k bits) long))
+    (subst (IsShapeOf o vs') (sym (is ∙ ap (λ k. shape_made prelude k l bits) count ∙ ap (λ k. shape_made prelude (length vs') k bits) long))
     (record { is = refl; fit = fit; lengths = lengths }))

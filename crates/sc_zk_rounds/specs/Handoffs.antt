@@ -92,17 +92,21 @@ pub record Handed : Type 0 where
 abbrev pub shown_from : Setting → Standing → Shown
 shown_from s t = record { basis = s.basis; order = s.order; variables = t.variables; evals = t.evals; weights = t.weights; claim = t.claim }
 
--- The batch was played whole; handed on are the tables after it, with the weights and the claim times the combination, and no challenge is held.
-pub record HandsOn (b : MaskedBatch) (after : Standing) (h : Handed) : Type 0 where
+-- The batch was played whole; handed on are the tables after it, scaled by the combination, with the claim, and no challenge is held.
+pub record HandsOnBy (scaled : Ops → Shown → ℕ → Shown) (b : MaskedBatch) (after : Standing) (h : Handed) : Type 0 where
   pub played : PlaysMasked b after h.randomness
   pub eps : h.eps ≡ eps_of b
-  pub shown : h.shown ≡ with_scaled b.setting.ops (shown_from b.setting after) (eps_of b)
+  pub shown : h.shown ≡ scaled b.setting.ops (shown_from b.setting after) (eps_of b)
   pub settled : h.held ≡ None
 
+-- the same, with the weights and the claim times the combination
+abbrev pub HandsOn : MaskedBatch → Standing → Handed → Type 0
+HandsOn b after h = HandsOnBy with_scaled b after h
+
 -- what a masked batch leaves, by its answer
-abbrev pub LeavesMasked : {X : Type 0} → (X → Handed) → MaskedBatch → Standing → Result X SumcheckError → Type 0
-LeavesMasked handed b after (Ok x) = HandsOn b after (handed x)
-LeavesMasked handed b after (Err e) = BreaksOff b after e
+abbrev pub LeavesMaskedBy : {X : Type 0} → (Ops → Shown → ℕ → Shown) → (X → Handed) → MaskedBatch → Standing → Result X SumcheckError → Type 0
+LeavesMaskedBy scaled handed b after (Ok x) = HandsOnBy scaled b after (handed x)
+LeavesMaskedBy scaled handed b after (Err e) = BreaksOff b after e
 
 -- the masks' total was sent where there is an answer
 abbrev pub TotalIsSent : {X : Type 0} → MaskedBatch → Sent → Result X SumcheckError → Type 0
@@ -110,9 +114,13 @@ TotalIsSent b sent (Ok x) = sent.mu ≡ (head_of b).mu
 TotalIsSent b sent (Err e) = Unit {0}
 
 -- How a batch ends whose prover is given up: at a standing with this history and this on the wire.
-pub record EndsMasked {X : Type 0} (handed : X → Handed) (b : MaskedBatch) (h : List Event) (sent : Sent) (result : Result X SumcheckError) : Type 0 where
+pub record EndsMaskedBy {X : Type 0} (scaled : Ops → Shown → ℕ → Shown) (handed : X → Handed) (b : MaskedBatch) (h : List Event) (sent : Sent) (result : Result X SumcheckError) : Type 0 where
   pub after : Standing
-  pub left : LeavesMasked handed b after result
+  pub left : LeavesMaskedBy scaled handed b after result
   pub history : h ≡ after.history
   pub wire : sent.wire ≡ after.wire
   pub total : TotalIsSent b sent result
+
+-- the same, with the weights and the claim times the combination
+abbrev pub EndsMasked : {X : Type 0} → (X → Handed) → MaskedBatch → List Event → Sent → Result X SumcheckError → Type 0
+EndsMasked handed b h sent result = EndsMaskedBy with_scaled handed b h sent result

@@ -2,9 +2,11 @@ pub mod Values
 pub mod Data
 pub mod Assembled
 pub mod Mixings
+pub mod Plain
 pub mod Rounds
 pub mod Handoffs
 pub mod Views
+pub mod PlainLaws
 pub mod Heads
 pub mod Verified
 pub mod InStep

@@ -10,7 +10,6 @@ use Rattle.sc_transcript.specs.declared.error.SumcheckError.{SumcheckError}
 use Rattle.sc_transcript.specs.declared.error.SumcheckError.TheVariants.{NoWitness, NoMemory}
 use Rattle.sc_zk_rounds.specs.declared.mixing.Mixing.{Mixing}
 use Rattle.sc_transcript.specs.declared.rounds.BatchShape.{BatchShape}
-use Rattle.sc_zk_definitions.specs.declared.prelude.ZkPrelude.TheVariants.{InheritedClaim}
 use Rattle.sc_zk_transcript.specs.declared.shape.ZkSumcheckShape.{ZkSumcheckShape}
 use Rattle.sc_zk_transcript.specs.Shapes.{shape_made, IsFit}
 use Rattle.sc_zk_rounds.specs.Values.{AreOfLength}
@@ -22,9 +21,9 @@ pub record IsForMasks {X Z : Type 0} (s : BatchShape) (masks : List (Vec X Z)) :
   pub long : 2 ≤ s.width
   pub lengths : AreOfLength (s.width + 1) masks
 
--- The shape of a batch under these masks, after a claim that is handed on, is fit.
+-- The shape of a batch under these masks is fit.
 pub record IsShapeOf {X Z : Type 0} (o : Ops) (masks : List (Vec X Z)) (s : ZkSumcheckShape) : Type 0 where
-  pub is : s ≡ shape_made InheritedClaim (length masks) s.ell_zk s.pow_bits
+  pub is : s ≡ shape_made s.prelude (length masks) s.ell_zk s.pow_bits
   pub fit : IsFit o s
   pub lengths : AreOfLength s.ell_zk masks
 

@@ -2,6 +2,8 @@
 use Rattle.std.specs.Prelude.{◌≡◌, ℕ, List, length, map, Option}
 use Rattle.std.specs.declared.vec.Vec.{Vec}
 use Rattle.std.specs.declared.cmp.PartialEq.{Ghosts as PartialEqOf}
+use Rattle.sc_definitions.specs.Ring.{Ops}
+use Rattle.sc_definitions.specs.Events.{Extension}
 use Rattle.sc_definitions.specs.Standings.{Setting, Standing}
 use Rattle.sc_definitions.specs.Shown.{Shown, setting_at, standing_at}
 use Rattle.sc_field.specs.declared.field.Field.{Ghosts as FieldOf}
@@ -26,15 +28,15 @@ pub record Residual : Type 0 where
   pub shown : Shown
   pub held : Option ℕ
 
+-- what stays while masked rounds on what is shown go over a challenger's channel at a difficulty
+abbrev pub setting_by : Party → Extension → ℕ → ℕ → Ops → Shown → Setting
+setting_by p E size bits o s = setting_at (channel_by p E size bits) o s
+
+-- where they stand, by data that is on the wire
+abbrev pub standing_by : {F EF : Type 0} → (F → ℕ) → (EF → ℕ) → Shown → ZkSumcheckData F EF → Party → Standing
+standing_by base number s d p = standing_at s p.history (masked_wire_in base number d)
+
 module _ {F EF : Type 0} {f : FieldOf F} {p : PartialEqOf F} {x : ExtensionOf EF F} {a : AlgebraOf EF F} {e : FieldOf EF} {q : PartialEqOf EF} where
-  -- what stays while masked rounds of a prover go over a challenger's channel at a difficulty
-  abbrev pub masked_setting : SumcheckProver F EF f p x a e q → Party → ℕ → Setting
-  masked_setting s party bits = setting_at (channel_by party x.extension f.ops.size bits) e.ops (shown_by s)
-
-  -- where they stand
-  abbrev pub masked_standing : SumcheckProver F EF f p x a e q → ZkSumcheckData F EF → Party → Standing
-  masked_standing s d party = standing_at (shown_by s) party.history (masked_wire_in f.number e.number d)
-
   -- what it tells where it is handed on
   abbrev pub residual_in : SumcheckProver F EF f p x a e q → Residual
   residual_in s = record { shown = shown_by s; held = (stored_by s).held }

@@ -13,7 +13,7 @@ ghost use Rattle.sc_zk_rounds.specs.Views.{handed_in, masks_under, masks_drawn, 
 
 use crate::data::{Handoff, ZkSumcheckData, ZkSumcheckHandoff};
 use crate::oracle::commit_masks;
-use crate::prover::play_batch;
+use crate::player::play_batch;
 use rand_core::Rng;
 use sc_challenger::Challenger;
 use sc_commitments::{Mmcs, ZkEncoding, sample_masks};

@@ -5,8 +5,8 @@ use Rattle.sc_rounds.specs.ProverViews.{shown_by, stored_by}
 use Rattle.sc_zk_definitions.specs.MaskedBatches.{MaskedBatch}
 use Rattle.sc_zk_transcript.specs.declared.shape.ZkSumcheckShape.{ZkSumcheckShape}
 use Rattle.sc_zk_rounds.specs.Data.{masked_wire_in, sent_in}
-use Rattle.sc_zk_rounds.specs.Handoffs.{asked_masks, batch_asked, EndsMasked}
-use Rattle.sc_zk_rounds.specs.Views.{residual_in, Coded, coded_in, handed_in, masks_under, masked_setting, masked_standing}
+use Rattle.sc_zk_rounds.specs.Handoffs.{asked_masks, batch_from, EndsMasked}
+use Rattle.sc_zk_rounds.specs.Views.{residual_in, Coded, coded_in, handed_in, masks_under, setting_by, standing_by}
 use Rattle.sc_zk_rounds.proofs.MaskedBatchLaws.{same-batch, hands-on, ends-before, ends-broken, shape-of}
 use Rattle.sc_zk_rounds.proofs.into_zk.SumcheckProverIntoZk.into_zk_sumcheck_with.Goals as goal
 
@@ -35,14 +35,14 @@ returns-in_err-eps-clause-batch g c =
     let wanted = masks_under g.Enc.ZkEncoding g.M.Mmcs c.args.encoding.now c.args.mmcs.now coded (N c.args.aux_claim) in
     let committed = c.in_ok-committed.ensures in
     let commitment = λ (x : Coded). g.M.Mmcs.commitment_of c.args.mmcs.now (g.Enc.ZkEncoding.encoded c.args.encoding.now x.masks x.randomness) in
-    let same = same-batch party.rules g.EF.ExtensionField.extension g.F.Field.ops.size o (shown_by p) party.history (N c.args.aux_claim) (ap (λ (s : ZkSumcheckShape). s.pow_bits) made) c.requires.fresh.wire
+    let same = same-batch party.rules g.EF.ExtensionField.extension g.F.Field.ops.size o (shown_by p) party.history (N c.args.aux_claim) (ap (λ (s : ZkSumcheckShape). s.prelude) made) (ap (λ (s : ZkSumcheckShape). s.pow_bits) made) c.requires.fresh.wire
     (ap (λ (s : ZkSumcheckShape). s.ell_zk) made ∙ c.message_len.ensures) (ap (lists_in N) c.deref-3.ensures.value)
     (c.deref-4.ensures.value ∙ committed.words
     ∙ ap (g.M.Mmcs.words_of c.args.mmcs.now) (committed.oracle.commitment ∙ ap (λ vs. commitment (coded_in N vs c.deref-2.result.now)) c.deref.ensures.value
     ∙ ap (λ vs. commitment (coded_in N c.args.masks.items vs)) c.deref-2.ensures.value)) in
     let shape = c.new_inherited-shape.result in
-    let b : MaskedBatch = batch_asked (masked_setting p party shape.pow_bits) (masked_standing p c.args.zk_data.now party) (asked_masks shape.ell_zk (lists_in N c.deref-3.result.now) c.deref-4.result.now (N c.args.aux_claim)) in
-    let after = masked_standing c.play_batch.new.prover c.play_batch.new.zk_data (g.C.Challenger.party c.play_batch.new.challenger) in
+    let b : MaskedBatch = batch_from shape.prelude (setting_by party g.EF.ExtensionField.extension g.F.Field.ops.size shape.pow_bits o (shown_by p)) (standing_by g.F.Field.number N (shown_by p) c.args.zk_data.now party) (asked_masks shape.ell_zk (lists_in N c.deref-3.result.now) c.deref-4.result.now (N c.args.aux_claim)) in
+    let after = standing_by g.F.Field.number N (shown_by c.play_batch.new.prover) c.play_batch.new.zk_data (g.C.Challenger.party c.play_batch.new.challenger) in
     let rs = map N c.play_batch.new.challenges.items in
     let sent = sent_in g.F.Field.number N c.play_batch.new.zk_data in
     let handed = handed_in residual_in N in
@@ -61,14 +61,14 @@ returns-clause-batch g c =
     let wanted = masks_under g.Enc.ZkEncoding g.M.Mmcs c.args.encoding.now c.args.mmcs.now coded (N c.args.aux_claim) in
     let committed = c.in_ok-committed.ensures in
     let commitment = λ (x : Coded). g.M.Mmcs.commitment_of c.args.mmcs.now (g.Enc.ZkEncoding.encoded c.args.encoding.now x.masks x.randomness) in
-    let same = same-batch party.rules g.EF.ExtensionField.extension g.F.Field.ops.size o (shown_by p) party.history (N c.args.aux_claim) (ap (λ (s : ZkSumcheckShape). s.pow_bits) made) c.requires.fresh.wire
+    let same = same-batch party.rules g.EF.ExtensionField.extension g.F.Field.ops.size o (shown_by p) party.history (N c.args.aux_claim) (ap (λ (s : ZkSumcheckShape). s.prelude) made) (ap (λ (s : ZkSumcheckShape). s.pow_bits) made) c.requires.fresh.wire
     (ap (λ (s : ZkSumcheckShape). s.ell_zk) made ∙ c.message_len.ensures) (ap (lists_in N) c.deref-3.ensures.value)
     (c.deref-4.ensures.value ∙ committed.words
     ∙ ap (g.M.Mmcs.words_of c.args.mmcs.now) (committed.oracle.commitment ∙ ap (λ vs. commitment (coded_in N vs c.deref-2.result.now)) c.deref.ensures.value
     ∙ ap (λ vs. commitment (coded_in N c.args.masks.items vs)) c.deref-2.ensures.value)) in
     let shape = c.new_inherited-shape.result in
-    let b : MaskedBatch = batch_asked (masked_setting p party shape.pow_bits) (masked_standing p c.args.zk_data.now party) (asked_masks shape.ell_zk (lists_in N c.deref-3.result.now) c.deref-4.result.now (N c.args.aux_claim)) in
-    let after = masked_standing c.play_batch.new.prover c.play_batch.new.zk_data (g.C.Challenger.party c.play_batch.new.challenger) in
+    let b : MaskedBatch = batch_from shape.prelude (setting_by party g.EF.ExtensionField.extension g.F.Field.ops.size shape.pow_bits o (shown_by p)) (standing_by g.F.Field.number N (shown_by p) c.args.zk_data.now party) (asked_masks shape.ell_zk (lists_in N c.deref-3.result.now) c.deref-4.result.now (N c.args.aux_claim)) in
+    let after = standing_by g.F.Field.number N (shown_by c.play_batch.new.prover) c.play_batch.new.zk_data (g.C.Challenger.party c.play_batch.new.challenger) in
     let rs = map N c.play_batch.new.challenges.items in
     let sent = sent_in g.F.Field.number N c.play_batch.new.zk_data in
     let handed = handed_in residual_in N in

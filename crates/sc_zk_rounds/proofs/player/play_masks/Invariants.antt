@@ -1,28 +1,27 @@
 use Rattle.std.proofs.Common.{◌≡◌, ◌+◌, ◌≤◌, map, vec_len, vec_capacity}
 use Rattle.sc_definitions.specs.Shown.{KeepsForm, setting_at, standing_at}
 use Rattle.sc_challenger.specs.Parties.{channel_by}
-use Rattle.sc_rounds.specs.ProverViews.{shown_by}
 use Rattle.sc_zk_definitions.specs.MaskedRuns.{Masking, IsMasked}
 use Rattle.sc_zk_rounds.specs.Data.{masked_wire_in}
 use Rattle.sc_zk_rounds.specs.Mixings.{IsMixing}
 use Rattle.sc_zk_rounds.specs.Rounds.{AreMasks}
-use Rattle.sc_zk_rounds.proofs.prover.play_masks.Given as goal
+use Rattle.sc_zk_rounds.proofs.player.play_masks.Given as goal
 
 abbrev pub invariant-loop-i : goal.invariant-loop-i
 invariant-loop-i g l =
     let o = g.EF.Field.ops in
     let N = g.EF.Field.number in
     let P = g.C.Challenger.party in
-    let s = setting_at (channel_by (P l.fn.challenger) g.EF.ExtensionField.extension g.F.Field.ops.size l.fn.shape.pow_bits) o (shown_by l.fn.prover) in
-    let begun = standing_at (shown_by l.fn.prover) (P l.fn.challenger).history (masked_wire_in g.F.Field.number N l.fn.zk_data) in
-    let now = standing_at (shown_by l.prover) (P l.challenger).history (masked_wire_in g.F.Field.number N l.zk_data) in
+    let s = setting_at (channel_by (P l.fn.challenger) g.EF.ExtensionField.extension g.F.Field.ops.size l.fn.shape.pow_bits) o (g.P.PlainRounds.shown l.fn.prover) in
+    let begun = standing_at (g.P.PlainRounds.shown l.fn.prover) (P l.fn.challenger).history (masked_wire_in g.F.Field.number N l.fn.zk_data) in
+    let now = standing_at (g.P.PlainRounds.shown l.prover) (P l.challenger).history (masked_wire_in g.F.Field.number N l.zk_data) in
     let rs = map N l.challenges.items in
     record {
       rules : (P l.challenger).rules ≡ (P l.fn.challenger).rules;
       shape : l.rounds.shape ≡ l.fn.shape;
       played : l.rounds.played ≡ l.i;
-      left : (shown_by l.prover).variables + l.i ≡ (shown_by l.fn.prover).variables;
-      form : KeepsForm (shown_by l.fn.prover) (shown_by l.prover);
+      left : g.P.PlainRounds.left l.prover + l.i ≡ g.P.PlainRounds.left l.fn.prover;
+      form : KeepsForm (g.P.PlainRounds.shown l.fn.prover) (g.P.PlainRounds.shown l.prover);
       total : l.zk_data.mu_tilde ≡ l.fn.zk_data.mu_tilde;
       count : vec_len l.challenges ≡ l.i;
       room : l.fn.shape.num_rounds ≤ vec_capacity l.challenges;

@@ -2,19 +2,17 @@ use Rattle.std.proofs.Common.{Err, refl, ◌≡◌, ◌+◌, ◌<◌, length, ma
 use Rattle.std.proofs.lemmas.List.{map-append, length-map}
 use Rattle.sc_definitions.specs.Tables.{IsOffered}
 use Rattle.sc_definitions.specs.Shown.{standing_at}
-use Rattle.sc_rounds.specs.ProverViews.{shown_by}
 use Rattle.sc_transcript.specs.declared.rounds.BatchShape.{BatchShape}
 use Rattle.sc_transcript.proofs.ReplayedLaws.{same_channel}
 use Rattle.sc_transcript.proofs.BatchLaws.{same_setting}
 use Rattle.sc_definitions.proofs.StandingLaws.{IsSized}
-use Rattle.sc_rounds.proofs.HeldLaws.{held_sized}
 use Rattle.sc_zk_definitions.specs.MaskedRuns.{Masking, IsMasked}
-use Rattle.sc_zk_rounds.specs.Views.{masked_setting, masked_standing}
+use Rattle.sc_zk_rounds.specs.Views.{setting_by, standing_by}
 use Rattle.sc_zk_rounds.specs.Data.{masked_wire_in}
 use Rattle.sc_zk_rounds.specs.Mixings.{IsMixing}
 use Rattle.sc_zk_rounds.specs.Rounds.{AreMasks}
 use Rattle.sc_zk_rounds.proofs.MaskedRoundLaws.{of-mask, one-more, stops-masks, masked_none}
-use Rattle.sc_zk_rounds.proofs.prover.play_masks.Goals as goal
+use Rattle.sc_zk_rounds.proofs.player.play_masks.Goals as goal
 
 -- no round was played yet
 pub loop-i-init : goal.loop-i-init
@@ -23,10 +21,10 @@ loop-i-init g c =
     let N = g.EF.Field.number in
     let p = c.args.prover.now in
     let party = g.C.Challenger.party c.args.challenger.now in
-    let s = masked_setting p party c.args.shape.pow_bits in
-    let t = masked_standing p c.args.zk_data.now party in
-    let sized = held_sized o N p.rounds.poly p.rounds.sum p.rounds.held in
-    let size : IsSized t = record { evals = sized.0; weights = sized.1 } in
+    let s = setting_by party g.EF.ExtensionField.extension g.F.Field.ops.size c.args.shape.pow_bits o (g.P.PlainRounds.shown p) in
+    let t = standing_by g.F.Field.number N (g.P.PlainRounds.shown p) c.args.zk_data.now party in
+    let tables = g.met.P.PlainRounds.tables p in
+    let size : IsSized t = record { evals = tables.evals; weights = tables.weights } in
     let empty = c.requires.challenges.empty in
     record {
       rules = refl;
@@ -54,10 +52,10 @@ returns-in-Err-clause-rounds g c = λ k are.
     let of = of-mask o N k c.args.masks.now c.args.eps c.args.mixing c.loop-i.mixing i rs c.index-masks-i.result c.as_slice-mask.result.now low c.index-masks-i.is
     c.as_slice-mask.ensures.value size are (inv.mixed k are) in
     stops-masks {X = Unit {0}} N
-    (standing_at (shown_by c.play_masked.new.prover) (g.C.Challenger.party c.play_masked.new.challenger).history (masked_wire_in g.F.Field.number N c.play_masked.new.zk_data)) rs
+    (standing_at (g.P.PlainRounds.shown c.play_masked.new.prover) (g.C.Challenger.party c.play_masked.new.challenger).history (masked_wire_in g.F.Field.number N c.play_masked.new.zk_data)) rs
     (length c.args.masks.now) c.in-Err.error (Err c.in-Err.error)
     (same_setting (same_channel g.F.Field.ops.size inv.rules (ap (λ (s : BatchShape). s.pow_bits) inv.shape)) inv.form.basis inv.form.order)
-    g.met.EF.Field.is_field.ring (subst (λ b. IsOffered b (shown_by c.args.prover.now).order) (sym c.requires.basis) tt) (omega (arith, size, low)) (omega (arith, inv.left, low, c.requires.variables))
+    g.met.EF.Field.is_field.ring (subst (λ b. IsOffered b (g.P.PlainRounds.shown c.args.prover.now).order) (sym c.requires.basis) tt) (omega (arith, size, low)) (omega (arith, inv.left, low, c.requires.plays, g.met.P.PlainRounds.within c.loop-i.prover))
     (inv.batch k are) (c.in-Err.ensures.round k rs (size ∙ sym inv.played) of) refl
 
 -- one round more
@@ -83,7 +81,7 @@ loop-i-preserved g c =
       total = round.total ∙ inv.total;
       count = c.push_reserved.ensures.len ∙ ap (λ n. n + 1) inv.count;
       room = omega (arith, c.push_reserved.ensures.capacity, inv.room);
-      batch = λ k are. one-more g.met.EF.Field.is_field.ring (subst (λ b. IsOffered b (shown_by c.args.prover.now).order) (sym c.requires.basis) tt)
+      batch = λ k are. one-more g.met.EF.Field.is_field.ring (subst (λ b. IsOffered b (g.P.PlainRounds.shown c.args.prover.now).order) (sym c.requires.basis) tt)
           (same_setting (same_channel g.F.Field.ops.size inv.rules (ap (λ (s : BatchShape). s.pow_bits) inv.shape)) inv.form.basis inv.form.order)
           drawn (inv.batch k are) (round.round k rs (size ∙ sym inv.played) (of k are));
       mixed = λ k are. subst (λ l. IsMixing o N k l c.pass-mixing.result) (sym drawn)
