@@ -1,5 +1,5 @@
 //! Rounds whose wires are drawn.
-ghost use Rattle.std.specs.Prelude.{◌≡◌, ◌+◌, ◌<◌, ◌≤◌, IfOk, IfErr, OnOk, map};
+ghost use Rattle.std.specs.Prelude.{◌≡◌, ◌<◌, ◌≤◌, IfOk, IfErr, OnOk, map};
 ghost use Rattle.sc_definitions.specs.Channels.{empty_wire};
 ghost use Rattle.sc_challenger.specs.Parties.{channel_by};
 ghost use Rattle.sc_commitments.specs.Draws.{draws_from, lists_from};
