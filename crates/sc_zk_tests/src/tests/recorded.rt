@@ -1,0 +1,166 @@
+//! A verifier that records openings, and the replay of masked rounds of all of them.
+ghost use Rattle.std.specs.Prelude.{◌≡◌, All, IfOk};
+
+use rand_chacha::ChaCha8Rng;
+use rand_core::SeedableRng;
+use sc_challenger::{Event, ScriptedChallenger};
+use sc_field::{Field, NoMemory};
+use sc_small_fields::F65537;
+use sc_table::VariableOrder;
+use sc_tests_common::{elements, have_numbers, of, scripted};
+use sc_transcript::SumcheckError;
+use sc_zk::{
+    NodeCode, OpeningEvals, OpeningRequest, Sha2Mmcs, TableShape, ZkSumcheckData, ZkSumcheckShape,
+    ZkVerifier, ZkVerifierHandoff, simulate_classic_unpacked,
+};
+use std::alloc::Global;
+use std::process::Abort;
+
+// Verifiers of a table of one variable, by order.
+fn prefix(alloc: Global) -> ZkVerifier<F65537, F65537> {
+    ZkVerifier::new_prefix(alloc, &[TableShape::new(1)][..])
+}
+
+fn suffix(alloc: Global) -> ZkVerifier<F65537, F65537> {
+    ZkVerifier::new_suffix(alloc, &[TableShape::new(1)][..])
+}
+
+// The column 0, once.
+fn column(alloc: Global) -> Result<Vec<usize>, NoMemory>
+    ensures { IfOk result (λ v. All (λ c. c ≡ 0) v.items) }
+{
+    let mut columns = Vec::new(alloc);
+    columns.push(0)?;
+    Ok(columns)
+}
+
+// The openings of the table 1, 2, as they come: at 3 the value 4, and 2 through the successor map
+// there; at 4 the value 5. The challenger is going to draw 10, 31 and 2.
+fn record<A: Abort>(
+    rt: &A,
+    alloc: Global,
+    verifier: &mut ZkVerifier<F65537, F65537>,
+) -> ScriptedChallenger<F65537> {
+    let draws = [3, 4, 10, 31, 2];
+    let mut challenger = scripted::<F65537>(alloc, &draws, &[]).expect(rt, "a challenger");
+    let current = column(alloc).expect(rt, "a column");
+    let next = column(alloc).expect(rt, "a column");
+    let asked = OpeningRequest::new(current, next);
+    let current = elements(alloc, &[4]).expect(rt, "a value");
+    let next = elements(alloc, &[2]).expect(rt, "a value");
+    let came = OpeningEvals::new(current, next);
+    verifier
+        .add_claim(0, &asked, &came, &mut challenger)
+        .expect(rt, "a claim");
+    verifier
+        .add_virtual_eval(of(5), &mut challenger)
+        .expect(rt, "a claim");
+    challenger
+}
+
+// What was simulated after one verifier's openings is replayed after those of another.
+fn assert_accepted<A: Abort>(
+    rt: &A,
+    alloc: Global,
+    first: ZkVerifier<F65537, F65537>,
+    second: ZkVerifier<F65537, F65537>,
+) {
+    let (mut first, mut second) = (first, second);
+    let mut simulator = record(rt, alloc, &mut first);
+    let mut challenger = record(rt, alloc, &mut second);
+    // 4 + 10 2 + 100 5
+    assert_eq!(rt; second.sum(of(10)).index(), 524);
+    ZkSumcheckShape::new_batching(1, 4, 0)
+        .validate::<F65537>()
+        .expect(rt, "a shape");
+    let code = NodeCode::<F65537>::new(4, 2, 12);
+    let (data, commitment, challenges) = simulate_classic_unpacked(
+        alloc,
+        &mut simulator,
+        &first,
+        1,
+        0,
+        &code,
+        &Sha2Mmcs::new(),
+        &mut ChaCha8Rng::from_seed([7; 32]),
+    )
+    .expect(rt, "an answer");
+    let mmcs = Sha2Mmcs::new();
+    let replayed = second
+        .into_sumcheck(alloc, &mmcs, &data, &commitment, 4, 1, 0, &mut challenger)
+        .expect(rt, "an answer");
+    assert_eq!(rt; replayed.eps.index(), 31);
+    assert!(rt; have_numbers(replayed.randomness.as_slice(), &[2]));
+    assert!(rt; challenges.as_slice() == replayed.randomness.as_slice());
+    assert!(rt; challenger.events() == simulator.events());
+}
+
+#[test]
+fn what_is_simulated_is_accepted(rt: HostRuntime) {
+    let alloc = rt.alloc();
+    assert!(&rt; prefix(alloc).strategy().order() == VariableOrder::Prefix);
+    assert_accepted(&rt, alloc, prefix(alloc), prefix(alloc));
+    assert!(&rt; suffix(alloc).strategy().order() == VariableOrder::Suffix);
+    assert_accepted(&rt, alloc, suffix(alloc), suffix(alloc));
+}
+
+// The answer to these wires of masks of four coefficients, whose total is 12, in one round, and the
+// challenger as it is then.
+fn replayed<A: Abort>(
+    rt: &A,
+    alloc: Global,
+    wires: &[&[u64]],
+) -> (
+    Result<ZkVerifierHandoff<F65537>, SumcheckError>,
+    ScriptedChallenger<F65537>,
+) {
+    let mut data = ZkSumcheckData::<F65537, F65537>::new(alloc);
+    data.mu_tilde = of(12);
+    for wire in wires {
+        let values = elements(alloc, wire).expect(rt, "a wire");
+        data.round_coefficients.push(values).expect(rt, "room");
+    }
+    let mut verifier = suffix(alloc);
+    let mut challenger = record(rt, alloc, &mut verifier);
+    let mmcs = Sha2Mmcs::new();
+    let commitment = [0; 32];
+    let answer = verifier.into_sumcheck(alloc, &mmcs, &data, &commitment, 4, 1, 0, &mut challenger);
+    (answer, challenger)
+}
+
+// The claim is 524, the batch under 10, and the first target is 31 524 + 12 = 16256. The linear
+// coefficient of the wire is 16249, which is 16256 - 2 - 5, and its value at 2 is 1 + 32498 + 8 + 24.
+#[test]
+fn recorded_claims_are_replayed(rt: HostRuntime) {
+    let (answer, challenger) = replayed(&rt, rt.alloc(), &[&[1, 2, 3]]);
+    let handed = answer.expect(&rt, "an answer");
+    assert_eq!(&rt; handed.claimed_residual.index(), 32531);
+    assert_eq!(&rt; handed.eps.index(), 31);
+    assert!(&rt; have_numbers(handed.randomness.as_slice(), &[2]));
+    let last = [Event::Word(1), Event::Word(2), Event::Word(3), Event::Draw];
+    assert!(&rt; challenger.events().ends_with(&last));
+}
+
+// The history after the openings alone has a draw, the words 4 and 2, a draw and the word 5.
+#[test]
+fn other_wires_are_refused(rt: HostRuntime) {
+    let (answer, challenger) = replayed(&rt, rt.alloc(), &[&[1, 2]]);
+    let narrow = SumcheckError::WireSizeMismatch {
+        round: 0,
+        expected: 3,
+        actual: 2,
+    };
+    assert!(&rt; answer.err() == Some(narrow));
+    assert!(&rt;
+        challenger
+            .events()
+            .ends_with(&[Event::Word(12), Event::Draw])
+    );
+    let (answer, challenger) = replayed(&rt, rt.alloc(), &[&[1, 2, 3], &[4, 5, 6]]);
+    let many = SumcheckError::RoundCountMismatch {
+        expected: 1,
+        actual: 2,
+    };
+    assert!(&rt; answer.err() == Some(many));
+    assert_eq!(&rt; challenger.events().len(), 5);
+}
