@@ -1,5 +1,6 @@
 //! What is recorded of a table, in order.
-ghost use Rattle.std.specs.Prelude.{◌≡◌, ◌+◌, ◌*◌, ◌^◌, ◌<◌, ◌≤◌, [], ◌∷◌, ◌++◌, IfOk, OnOk, OnErr, ℕ, length, map};
+ghost use Rattle.std.specs.Prelude.{◌≡◌, ◌+◌, ◌*◌, ◌^◌, ◌<◌, ◌≤◌, [], ◌∷◌, ◌++◌};
+ghost use Rattle.std.specs.Prelude.{IfOk, OnOk, OnErr, ℕ, length, map};
 ghost use Rattle.sc_definitions.specs.Ring.{power};
 ghost use Rattle.sc_definitions.specs.Statements.{batched_claim};
 ghost use Rattle.sc_definitions.specs.Combined.{scaled_from};
@@ -7,7 +8,8 @@ ghost use Rattle.sc_definitions.specs.Transcript.{sent};
 ghost use Rattle.sc_challenger.specs.Parties.{MayAppend};
 ghost use Rattle.sc_table.specs.Polys.{variables_of, table_of};
 ghost use Rattle.sc_table.specs.Strategy.{order_of};
-ghost use Rattle.sc_layout.specs.Openings.{opened_statements, statements_of, none_recorded, HaveArity};
+ghost use Rattle.sc_layout.specs.Openings.{opened_statements, statements_of};
+ghost use Rattle.sc_layout.specs.Openings.{none_recorded, HaveArity};
 ghost use Rattle.sc_definitions.specs.Statements.{claims};
 ghost use Rattle.sc_svo.specs.Claims.{claims_in, AreOn};
 ghost use Rattle.sc_layout.specs.Openings.{current_at};

@@ -10,7 +10,8 @@ use sc_table::Point;
 use sc_transcript::rounds::observe_values;
 use std::alloc::Global;
 
-// Draws a point of so many coordinates, the first one first. A refusal leaves the history as it was.
+// Draws a point of so many coordinates, the first one first. A refusal leaves the history as it
+// was.
 pub(crate) fn draw_point<F: Field, EF: ExtensionField<F>, C: Challenger<F>>(
     alloc: Global,
     challenger: &mut C,

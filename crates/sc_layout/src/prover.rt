@@ -7,7 +7,8 @@ ghost use Rattle.sc_table.specs.Strategy.{order_of};
 ghost use Rattle.sc_svo.specs.Points.{point_in};
 ghost use Rattle.sc_layout.specs.Openings.{Laid, IsSound, KeepsTable, laid_at};
 ghost use Rattle.sc_layout.specs.Openings.{Opens, OpensVirtual, OpensNothing};
-ghost use Rattle.sc_layout.specs.Openings.{current_at, next_at, none_recorded, statements_of, HaveArity, AreTrue};
+ghost use Rattle.sc_layout.specs.Openings.{current_at, next_at, none_recorded};
+ghost use Rattle.sc_layout.specs.Openings.{statements_of, HaveArity, AreTrue};
 ghost use Rattle.sc_layout.specs.Requests.{asked_in, values_in};
 ghost use Rattle.sc_layout.specs.Books.{prover_recorded};
 
@@ -132,8 +133,8 @@ impl<F: Field, EF: ExtensionField<F>, O: BindingOrder> TableProver<F, EF, O> {
         requires { length coordinates ≡ variables_of self.now.table }
         ensures point { IfOk result (λ c. (prover_opened c).point ≡ map EF.number coordinates) }
         ensures current { IfOk result (λ c. (prover_opened c).current
-            ≡ replicate (asked_in batch.now).current (true_value EF.ops (variables_of self.now.table)
-            (λ b. EF.embedding (table_of F.number self.now.table b))
+            ≡ replicate (asked_in batch.now).current (true_value EF.ops
+            (variables_of self.now.table) (λ b. EF.embedding (table_of F.number self.now.table b))
             (current_at (map EF.number coordinates)))) }
         ensures next { IfOk result (λ c. (prover_opened c).next
             ≡ replicate (asked_in batch.now).next (true_value EF.ops (variables_of self.now.table)

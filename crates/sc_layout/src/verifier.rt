@@ -1,5 +1,6 @@
 //! The side that has no table: it records what is claimed.
-ghost use Rattle.std.specs.Prelude.{◌≡◌, ◌≤◌, ◌+◌, ◌*◌, [], ◌∷◌, All, IfOk, OnOk, OnErr, length, map};
+ghost use Rattle.std.specs.Prelude.{◌≡◌, ◌≤◌, ◌+◌, ◌*◌, [], ◌∷◌};
+ghost use Rattle.std.specs.Prelude.{All, IfOk, OnOk, OnErr, length, map};
 ghost use Rattle.sc_definitions.specs.Statements.{batched_claim};
 ghost use Rattle.sc_layout.specs.Shapes.{shape_variables};
 ghost use Rattle.sc_layout.specs.Requests.{asked_in, values_in, counts};

@@ -7,8 +7,8 @@
 //! the combination times the plain one, and the masks at their challenges ([`mask_residual`]),
 //! which the commitment has to open. What an observer sees of masks is their view
 //! ([`assemble_masks`]), and other masks have the same view ([`explain_masks`]). A simulator makes
-//! such rounds without a table ([`simulate_classic_unpacked`], [`simulate_classic_unpacked_claim`]),
-//! and the verifier accepts them.
+//! such rounds without a table ([`simulate_classic_unpacked`],
+//! [`simulate_classic_unpacked_claim`]), and the verifier accepts them.
 #![tactic(auto)]
 
 mod simulator;

@@ -144,10 +144,10 @@ impl<F: Field, EF: ExtensionField<F>> ZkVerifier<F, EF> {
     ) -> Result<ZkVerifierHandoff<EF>, SumcheckError>
         requires difficulty { pow_bits ≤ (C.party challenger.old).rules.max_bits }
         ensures rules { (C.party challenger.new).rules ≡ (C.party challenger.old).rules }
-        ensures left { let shape = shape_made ZkPrelude.RecordedClaims folding_factor ell_zk pow_bits in
+        ensures left { let s = shape_made ZkPrelude.RecordedClaims folding_factor ell_zk pow_bits in
             LeavesMaskedReplay (told_by EF.number) (claim_by (C.party challenger.old) F.ops EF.ops
-            EF.extension shape (head (recorded_claim EF.ops (C.party challenger.old) EF.extension
-            (fixed_by shape) (recorded_in self)) (M.words_of mmcs.now mask_commitment.now)
+            EF.extension s (head (recorded_claim EF.ops (C.party challenger.old) EF.extension
+            (fixed_by s) (recorded_in self)) (M.words_of mmcs.now mask_commitment.now)
             (EF.number zk_data.now.mu_tilde)) (masked_wire_in F.number EF.number zk_data.now))
             result (C.party challenger.new).history }
     {

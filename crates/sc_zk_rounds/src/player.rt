@@ -57,9 +57,11 @@ fn play_masked<F: Field, EF: ExtensionField<F>, C: Challenger<F>, P: PlainRounds
     ensures round { (k : Masking) (rs : List ℕ) → length rs ≡ rounds.old.played
         → IsOfMask EF.ops EF.number k rs mask.now eps mixing.now
         → MovesMasked EF.number
-        (setting_by (C.party challenger.old) EF.extension F.ops.size rounds.old.shape.pow_bits EF.ops (P.shown prover.old)) k rs
+        (setting_by (C.party challenger.old) EF.extension F.ops.size rounds.old.shape.pow_bits
+        EF.ops (P.shown prover.old)) k rs
         (standing_by F.number EF.number (P.shown prover.old) zk_data.old (C.party challenger.old))
-        (standing_by F.number EF.number (P.shown prover.new) zk_data.new (C.party challenger.new)) result }
+        (standing_by F.number EF.number (P.shown prover.new) zk_data.new (C.party challenger.new))
+        result }
 {
     let message = prover.measure(alloc)?;
     let wire = mixing.wire(alloc, mask, eps, message)?;
@@ -89,9 +91,11 @@ fn play_masks<F: Field, EF: ExtensionField<F>, C: Challenger<F>, P: PlainRounds<
     ensures rules { (C.party challenger.new).rules ≡ (C.party challenger.old).rules }
     ensures form { KeepsForm (P.shown prover.old) (P.shown prover.new) }
     ensures total { zk_data.new.mu_tilde ≡ zk_data.old.mu_tilde }
+    ensures fewer { OnOk result (P.left prover.old ≡ P.left prover.new + length masks.now) }
     ensures rounds { (k : Masking) → AreMasks EF.ops EF.number k masks.now eps mixing
-        → PlaysMasks (setting_by (C.party challenger.old) EF.extension F.ops.size shape.pow_bits EF.ops (P.shown prover.old)) k
-        (length masks.now) (standing_by F.number EF.number (P.shown prover.old) zk_data.old (C.party challenger.old))
+        → PlaysMasks (setting_by (C.party challenger.old) EF.extension F.ops.size shape.pow_bits
+        EF.ops (P.shown prover.old)) k (length masks.now)
+        (standing_by F.number EF.number (P.shown prover.old) zk_data.old (C.party challenger.old))
         (standing_by F.number EF.number (P.shown prover.new) zk_data.new (C.party challenger.new))
         (map EF.number challenges.new.items) result }
 {
@@ -153,6 +157,7 @@ pub fn play_begun<F: Field, EF: ExtensionField<F>, C: Challenger<F>, P: PlainRou
     requires challenges { HasRoomFor (length masks.now) challenges.old }
     ensures rules { (C.party challenger.new).rules ≡ (C.party challenger.old).rules }
     ensures form { KeepsForm (P.shown prover.old) (P.shown prover.new) }
+    ensures fewer { OnOk result (P.left prover.old ≡ P.left prover.new + length masks.now) }
     ensures total { IfOk result (λ _. EF.number zk_data.new.mu_tilde
         ≡ masks_total EF.ops (lists_in EF.number masks.now)) }
     ensures plays { (h : List Event) → (C.party challenger.old).history ≡ begun_at EF.extension h

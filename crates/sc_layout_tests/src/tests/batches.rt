@@ -9,8 +9,8 @@ use std::alloc::Global;
 use std::process::Abort;
 
 // The weights of the three openings of the table 1, 2 are -2, 3 at the point 3; 0, 1 through the
-// successor map there; and -3, 4 at the point 4. Batched under 10 they are -302, 413. The value at 0
-// is 1 times the first; the product of the differences is 715.
+// successor map there; and -3, 4 at the point 4. Batched under 10 they are -302, 413. The value at
+// 0 is 1 times the first; the product of the differences is 715.
 fn assert_batch<A: Abort, O: BindingOrder>(rt: &A, alloc: Global) {
     let table = two(alloc).expect(rt, "a table");
     let mut prover = TableProver::<F65537, F65537, O>::new(alloc, table, 1);

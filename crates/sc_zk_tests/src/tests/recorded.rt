@@ -129,7 +129,8 @@ fn replayed<A: Abort>(
 }
 
 // The claim is 524, the batch under 10, and the first target is 31 524 + 12 = 16256. The linear
-// coefficient of the wire is 16249, which is 16256 - 2 - 5, and its value at 2 is 1 + 32498 + 8 + 24.
+// coefficient of the wire is 16249, which is 16256 - 2 - 5, and its value at 2 is 1 + 32498 + 8 +
+// 24.
 #[test]
 fn recorded_claims_are_replayed(rt: HostRuntime) {
     let (answer, challenger) = replayed(&rt, rt.alloc(), &[&[1, 2, 3]]);
