@@ -18,6 +18,7 @@ pub use sc_commitments::{DrawElement, Mmcs, NodeCode, RowMajorMatrix, Sha2Mmcs, 
 pub use sc_layout::{
     LayoutStrategy, OpeningEvals, OpeningRequest, PrefixProver, SuffixProver, TableShape, Verifier,
 };
+pub use sc_zk_layout::{ZkPrefixProver, ZkProver, ZkSuffixProver};
 pub use sc_zk_rounds::{
     Handoff, IntoZk, MaskOracle, MaskedRun, ZkSumcheckData, ZkSumcheckHandoff, ZkVerifierHandoff,
     covector_laws, mask_residual, mask_residual_covectors, mask_residual_covectors_from_shape,

@@ -1,17 +1,18 @@
-//! A verifier that records openings, and the replay of masked rounds of all of them.
-ghost use Rattle.std.specs.Prelude.{◌≡◌, All, IfOk};
+//! A verifier that records openings, and the replay of masked rounds of all of them, by figures by
+//! hand.
 
+use super::request;
 use rand_chacha::ChaCha8Rng;
 use rand_core::SeedableRng;
 use sc_challenger::{Event, ScriptedChallenger};
-use sc_field::{Field, NoMemory};
+use sc_field::Field;
 use sc_small_fields::F65537;
 use sc_table::VariableOrder;
 use sc_tests_common::{elements, have_numbers, of, scripted};
 use sc_transcript::SumcheckError;
 use sc_zk::{
-    NodeCode, OpeningEvals, OpeningRequest, Sha2Mmcs, TableShape, ZkSumcheckData, ZkSumcheckShape,
-    ZkVerifier, ZkVerifierHandoff, simulate_classic_unpacked,
+    NodeCode, OpeningEvals, Sha2Mmcs, TableShape, ZkSumcheckData, ZkSumcheckShape, ZkVerifier,
+    ZkVerifierHandoff, simulate_classic_unpacked,
 };
 use std::alloc::Global;
 use std::process::Abort;
@@ -25,15 +26,6 @@ fn suffix(alloc: Global) -> ZkVerifier<F65537, F65537> {
     ZkVerifier::new_suffix(alloc, &[TableShape::new(1)][..])
 }
 
-// The column 0, once.
-fn column(alloc: Global) -> Result<Vec<usize>, NoMemory>
-    ensures { IfOk result (λ v. All (λ c. c ≡ 0) v.items) }
-{
-    let mut columns = Vec::new(alloc);
-    columns.push(0)?;
-    Ok(columns)
-}
-
 // The openings of the table 1, 2, as they come: at 3 the value 4, and 2 through the successor map
 // there; at 4 the value 5. The challenger is going to draw 10, 31 and 2.
 fn record<A: Abort>(
@@ -43,9 +35,7 @@ fn record<A: Abort>(
 ) -> ScriptedChallenger<F65537> {
     let draws = [3, 4, 10, 31, 2];
     let mut challenger = scripted::<F65537>(alloc, &draws, &[]).expect(rt, "a challenger");
-    let current = column(alloc).expect(rt, "a column");
-    let next = column(alloc).expect(rt, "a column");
-    let asked = OpeningRequest::new(current, next);
+    let asked = request(alloc).expect(rt, "a request");
     let current = elements(alloc, &[4]).expect(rt, "a value");
     let next = elements(alloc, &[2]).expect(rt, "a value");
     let came = OpeningEvals::new(current, next);

@@ -1,0 +1,59 @@
+-- What plain rounds show of two tables whose first variables are bound, which need not be held.
+use Rattle.std.specs.Prelude.{ℕ, ◌-◌, List, length}
+use Rattle.sc_definitions.specs.Ring.{Ops, ◌*⟨◌⟩◌}
+use Rattle.sc_definitions.specs.Tables.{evaluation, Order, prefix, suffix, rows_of, inner, bound_by}
+use Rattle.sc_definitions.specs.Standings.{entries_of}
+use Rattle.sc_definitions.specs.Shown.{Shown, with_scaled}
+use Rattle.sc_definitions.specs.Combined.{combined_weight}
+use Rattle.sc_table.specs.declared.poly.Poly.{Poly}
+use Rattle.sc_table.specs.Polys.{variables_of}
+use Rattle.sc_rounds.specs.Products.{numbers_of}
+use Rattle.sc_svo.specs.Batches.{GridBatch}
+
+-- the entries of a table with m variables left, bound at these challenges
+abbrev pub bound_entries : Ops → Order → List ℕ → ℕ → (ℕ → ℕ) → List ℕ
+bound_entries o order rs m f = entries_of m (bound_by evaluation order o rs m f)
+
+-- What a batch's rounds show of a table after these challenges, with this claim.
+abbrev pub shown_after : Ops → GridBatch → (ℕ → ℕ) → List ℕ → ℕ → Shown
+shown_after o s f rs claim =
+    let m = s.variables - length rs in
+    record {
+      basis = evaluation;
+      order = s.order;
+      variables = m;
+      evals = bound_entries o s.order rs m f;
+      weights = bound_entries o s.order rs m (combined_weight o s.claims);
+      claim = claim;
+    }
+
+-- what a pair of tables of values shows, with this claim
+abbrev pub pair_shown : {EF : Type 0} → (EF → ℕ) → Order → Poly EF → Poly EF → ℕ → Shown
+pair_shown number order p q claim = record {
+  basis = evaluation;
+  order = order;
+  variables = variables_of p;
+  evals = numbers_of number p;
+  weights = numbers_of number q;
+  claim = claim;
+}
+
+-- the true claim of a batch on a table
+abbrev pub grid_claim : Ops → GridBatch → (ℕ → ℕ) → ℕ
+grid_claim o s f = inner o s.variables f (combined_weight o s.claims)
+
+-- the same with the evaluations and the claim times a number
+abbrev pub with_scaled_evals : Ops → Shown → ℕ → Shown
+with_scaled_evals o s scale = record s {
+  evals = entries_of s.variables (λ b. rows_of s.evals b *⟨ o ⟩ scale);
+  claim = s.claim *⟨ o ⟩ scale;
+}
+
+-- the side that is scaled, by the order
+abbrev pub side_scaled : Order → Ops → Shown → ℕ → Shown
+side_scaled prefix o s scale = with_scaled o s scale
+side_scaled suffix o s scale = with_scaled_evals o s scale
+
+-- One side and the claim times a number: the weights in prefix order, the evaluations in suffix order.
+abbrev pub with_side_scaled : Ops → Shown → ℕ → Shown
+with_side_scaled o s scale = side_scaled s.order o s scale

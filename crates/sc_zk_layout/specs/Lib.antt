@@ -1,0 +1,5 @@
+pub mod Grids
+pub mod Played
+pub mod PlayedLaws
+pub mod Recorded
+pub mod Provers
