@@ -1,0 +1,310 @@
+-- The merged claim of true values is the sum over all tables; and what its rounds and openings show is certified.
+use Rattle.std.proofs.Common.{◌≡◌, ℕ, zero, suc, ◌+◌, ◌^◌, ◌<◌, ◌==◌, ◌&&◌, Bool, true, false, List, [], ◌∷◌, ◌++◌, All, length, map, if◌then◌else◌, Some, None, sym, ◌∙◌, ap, refl, subst, arith, append_assoc, ⊎_elim, eq-eqb, ne_eqb, eqb-true}
+use Rattle.std.specs.Prelude.{replicate}
+use Rattle.std.specs.List.{slice_get}
+use Rattle.sc_definitions.specs.declared.events.Event.TheVariants.{Draw}
+use Rattle.sc_definitions.specs.Events.{words}
+use Rattle.sc_definitions.specs.Seeds.{quadratic_seed}
+use Rattle.std.proofs.lemmas.Bool.{cases_eq}
+use Rattle.sc_definitions.specs.declared.false_claim.FalseClaim.{FalseClaim}
+use Rattle.sc_definitions.specs.Ring.{Ops, IsRing, element, plus, times, opposite, minus, power}
+use Rattle.sc_definitions.specs.Tables.{evaluation, prefix, inner, value, bound_by}
+use Rattle.sc_definitions.specs.Polynomials.{poly_at, poly_minus, AllZero}
+use Rattle.sc_definitions.specs.Rounds.{next_claim, claim_along}
+use Rattle.sc_definitions.specs.Statements.{weight_of, true_value, IsTrueOf, is_true_of, powers_sum, claimed_values}
+use Rattle.sc_definitions.specs.Transcript.{messages_of, sent, rounds_events}
+use Rattle.sc_definitions.specs.Lucky.{excess, Luck, in_batch, in_round}
+use Rattle.sc_definitions.proofs.RingLaws.{element-small, element-plus, element-zero, plus_comm, plus-zero, times-zero}
+use Rattle.sc_definitions.proofs.Sums.{sum-same, element-sum}
+use Rattle.sc_definitions.proofs.TableLaws.{inner-sum}
+use Rattle.sc_definitions.proofs.BuildLaws.{sum-zeros}
+use Rattle.sc_definitions.proofs.RootLaws.{same-from_minus}
+use Rattle.sc_definitions.proofs.RoundLaws.{true_claim-inner}
+use Rattle.sc_definitions.proofs.StatementLaws.{element-powers_sum}
+use Rattle.sc_definitions.proofs.BuiltLaws.{length-messages, length-challenges}
+use Rattle.sc_definitions.proofs.LuckyLaws.{AllSend, IsPair}
+use Rattle.sc_definitions.proofs.Identity.{atom, nought, ◌⊕◌, ◌⊗◌, Agree, identity}
+use Rattle.sc_verdicts.specs.Findings.{holds}
+use Rattle.sc_soundness.specs.Stages.{residual_in, true_residual_in, stage_luck, IsCertifiedIn}
+use Rattle.sc_soundness.specs.Pairs.{Weighted, merged_claim, honest_merged, merged_value, merged_course}
+use Rattle.sc_soundness.proofs.CourseLaws.{honest_along, minus-same}
+use Rattle.sc_soundness.proofs.StageLaws.{IsStage}
+use Rattle.sc_soundness.proofs.PairLaws.{merged-certifies, merged-keeps, merged-end}
+use Rattle.sc_soundness.proofs.PowerLaws.{excess-powers}
+use Rattle.sc_merge_definitions.specs.QuadraticPlays.{begun_behind}
+use Rattle.sc_merge_definitions.specs.Openings.{Opening, statements_of, table_at, OpeningCase, IsOpeningCase, true_opening, excess_of, IsOpeningTrue, AllOpeningsTrue, first_false_opening, merging_challenge, behind_merging, opening_claim, weight_on, opening_weights, weighted_from, weighted_tables, SentOpenings, opening_challenges, behind_openings, opening_events, values_at, weights_values_at, products_sum, is_same_list, opening_stage, openings_match, opening_figures, AreOpeningsBuilt, IsOpeningCertified, CertifiesOpenings}
+use Rattle.sc_merge_definitions.proofs.FindingLaws.{named-certified, one-named, holds_where}
+
+-- ---- lists
+
+both-true : (a b : Bool) → (a && b) ≡ true → (a ≡ true) × (b ≡ true)
+both-true true true e = (refl, refl)
+both-true true false e = cc
+both-true false b e = cc
+
+same-list : (xs ys : List ℕ) → is_same_list xs ys ≡ true → xs ≡ ys
+same-list [] [] e = refl
+same-list [] (y ∷ ys) e = cc
+same-list (x ∷ xs) [] e = cc
+same-list (x ∷ xs) (y ∷ ys) e =
+    let both = both-true (x == y) (is_same_list xs ys) e in
+    ap (λ v. v ∷ xs) (eqb-true _ _ both.0) ∙ ap (λ l. y ∷ l) (same-list xs ys both.1)
+
+list-same : (xs : List ℕ) → is_same_list xs xs ≡ true
+list-same [] = refl
+list-same (x ∷ xs) = ap (λ b. b && is_same_list xs xs) (eq-eqb x x refl) ∙ list-same xs
+
+module _ (o : Ops) (ring : IsRing o) where
+  -- the sum of the products of the values is that of the pairs'
+  products-merged : (ps : List Weighted) (zs : List ℕ) → products_sum o (values_at o ps zs) (weights_values_at o ps zs) ≡ merged_value o ps zs
+  unfolding products_sum merged_value
+  products-merged [] zs = refl
+  products-merged (p ∷ ps) zs = ap (plus o (times o (value o p.table zs) (value o p.weights zs))) (products-merged ps zs)
+
+  -- ---- sums over the tables
+
+  module _ (n c : ℕ) where
+    -- the tables' sums with their weights, where the first claim has the power p
+    inner_from : ℕ → List Opening → ℕ → List (ℕ → ℕ) → ℕ
+    inner_from p claims j [] = 0
+    inner_from p claims j (f ∷ fs) = plus o (inner o n f (λ b. powers_sum o c p (map (weight_on o j b) claims))) (inner_from p claims (suc j) fs)
+
+    -- those of one claim
+    one_from : Opening → ℕ → List (ℕ → ℕ) → ℕ
+    one_from claim j [] = 0
+    one_from claim j (f ∷ fs) = plus o (inner o n f (λ b. weight_on o j b claim)) (one_from claim (suc j) fs)
+
+    merged-inner : (claims : List Opening) (j : ℕ) (fs : List (ℕ → ℕ)) → merged_claim o (weighted_from o c claims j fs) [] n ≡ inner_from 0 claims j fs
+    unfolding merged_claim inner_from opening_weights bound_by
+    merged-inner claims j [] = refl
+    merged-inner claims j (f ∷ fs) =
+        ap (λ t. plus o t (merged_claim o (weighted_from o c claims (suc j) fs) [] n)) (true_claim-inner o ring evaluation prefix f (opening_weights o c claims j) [] n)
+        ∙ ap (plus o (inner o n f (opening_weights o c claims j))) (merged-inner claims (suc j) fs)
+
+    none-from : (p j : ℕ) (fs : List (ℕ → ℕ)) → inner_from p [] j fs ≡ 0
+    unfolding inner_from powers_sum inner Agree
+    none-from p j [] = refl
+    none-from p j (f ∷ fs) =
+        ap (λ t. plus o t (inner_from p [] (suc j) fs)) (sum-same o (2 ^ n) _ _ (λ b _. times-zero o ring (f b)) ∙ sum-zeros o ring (2 ^ n))
+        ∙ ap (plus o 0) (none-from p (suc j) fs)
+        ∙ identity o ring [] (nought ⊕ nought) nought tt tt refl
+
+    first-from : (p : ℕ) (claim : Opening) (claims : List Opening) (j : ℕ) (fs : List (ℕ → ℕ)) →
+        inner_from p (claim ∷ claims) j fs ≡ plus o (times o (power o c p) (one_from claim j fs)) (inner_from (suc p) claims j fs)
+    unfolding inner_from one_from powers_sum Agree
+    first-from p claim claims j [] = identity o ring (power o c p ∷ []) nought (atom 0 ⊗ nought ⊕ nought) tt tt refl
+    first-from p claim claims j (f ∷ fs) =
+        let I = inner o n f (λ b. weight_on o j b claim) in
+        let R = inner o n f (λ b. powers_sum o c (suc p) (map (weight_on o j b) claims)) in
+        ap (λ t. plus o t (inner_from p (claim ∷ claims) (suc j) fs))
+        (inner-sum o ring n (power o c p) f (λ b. weight_on o j b claim) (λ b. powers_sum o c (suc p) (map (weight_on o j b) claims)))
+        ∙ ap (plus o (plus o (times o (power o c p) I) R)) (first-from p claim claims (suc j) fs)
+        ∙ identity o ring (power o c p ∷ I ∷ R ∷ one_from claim (suc j) fs ∷ inner_from (suc p) claims (suc j) fs ∷ [])
+        ((atom 0 ⊗ atom 1 ⊕ atom 2) ⊕ (atom 0 ⊗ atom 3 ⊕ atom 4)) (atom 0 ⊗ (atom 1 ⊕ atom 3) ⊕ (atom 2 ⊕ atom 4)) tt tt refl
+
+    -- a claim adds nothing on another table
+    elsewhere : (claim : Opening) (j : ℕ) (f : ℕ → ℕ) → (claim.table ≡ j → ⊥) → inner o n f (λ b. weight_on o j b claim) ≡ 0
+    unfolding inner weight_on
+    elsewhere claim j f other =
+        sum-same o (2 ^ n) _ _ (λ b _. ap (λ t. times o (f b) (if t then weight_of o claim.statement.kind b else 0)) (ne_eqb _ _ other) ∙ times-zero o ring (f b))
+        ∙ sum-zeros o ring (2 ^ n)
+
+    none-before : (claim : Opening) (j : ℕ) (fs : List (ℕ → ℕ)) → claim.table < j → one_from claim j fs ≡ 0
+    unfolding one_from Agree
+    none-before claim j [] low = refl
+    none-before claim j (f ∷ fs) low =
+        ap (λ t. plus o t (one_from claim (suc j) fs)) (elsewhere claim j f (λ e. absurd (omega (arith, e, low))))
+        ∙ ap (plus o 0) (none-before claim (suc j) fs (omega (arith, low)))
+        ∙ identity o ring [] (nought ⊕ nought) nought tt tt refl
+
+    on-table : (claim : Opening) (j i : ℕ) (fs : List (ℕ → ℕ)) → claim.table ≡ j + i → i < length fs →
+        one_from claim j fs ≡ true_value o n (table_at fs i) claim.statement.kind
+    unfolding one_from true_value inner weight_on
+    on-table claim j i [] is low = absurd (omega (arith, low))
+    on-table claim j zero (f ∷ fs) is low =
+        let here : claim.table ≡ j = omega (arith, is) in
+        let truth = inner o n f (weight_of o claim.statement.kind) in
+        ap (λ t. plus o t (one_from claim (suc j) fs))
+        (sum-same o (2 ^ n) _ _ (λ b _. ap (λ t. times o (f b) (if t then weight_of o claim.statement.kind b else 0)) (eq-eqb _ _ here)))
+        ∙ ap (plus o truth) (none-before claim (suc j) fs (omega (arith, here)))
+        ∙ plus-zero o ring truth ∙ element-sum o ring (2 ^ n) _
+    on-table claim j (suc i) (f ∷ fs) is low =
+        let truth = true_value o n (table_at fs i) claim.statement.kind in
+        ap (λ t. plus o t (one_from claim (suc j) fs)) (elsewhere claim j f (λ e. absurd (omega (arith, e, is))))
+        ∙ ap (plus o 0) (on-table claim (suc j) i fs (omega (arith, is)) (omega (arith, low)))
+        ∙ plus_comm o ring 0 truth ∙ plus-zero o ring truth ∙ element-sum o ring (2 ^ n) _
+
+module _ (q : OpeningCase) (is : IsOpeningCase q) where
+  -- ---- the merged claim of true values
+
+  true-from : (p : ℕ) (claims : List Opening) → All (λ c. c.table < length q.tables) claims →
+      inner_from q.ops is.field.ring q.variables (merging_challenge q) p claims 0 q.tables ≡ powers_sum q.ops (merging_challenge q) p (map (true_opening q) claims)
+  unfolding powers_sum
+  true-from p [] named = none-from q.ops is.field.ring q.variables (merging_challenge q) p 0 q.tables
+  true-from p (c ∷ claims) named =
+      let gamma = merging_challenge q in
+      let low : c.table < length q.tables = named 0 c (omega arith) in
+      first-from q.ops is.field.ring q.variables gamma p c claims 0 q.tables
+      ∙ ap (λ t. plus q.ops (times q.ops (power q.ops gamma p) t) (inner_from q.ops is.field.ring q.variables gamma (suc p) claims 0 q.tables))
+      (on-table q.ops is.field.ring q.variables gamma c 0 c.table q.tables (omega arith) low)
+      ∙ ap (plus q.ops (times q.ops (power q.ops gamma p) (true_opening q c))) (true-from (suc p) claims (λ k d less. named (suc k) d (omega (arith, less))))
+
+  truth-is : powers_sum q.ops (merging_challenge q) 0 (map (true_opening q) q.claims) ≡ merged_claim q.ops (weighted_tables q) [] q.variables
+  truth-is =
+      sym (merged-inner q.ops is.field.ring q.variables (merging_challenge q) q.claims 0 q.tables ∙ true-from 0 q.claims is.named)
+
+  -- ---- excesses
+
+  excesses-are : (claims : List Opening) → map (excess_of q) claims ≡ poly_minus q.ops (claimed_values (statements_of claims)) (map (true_opening q) claims)
+  unfolding excess poly_minus
+  excesses-are [] = refl
+  excesses-are (c ∷ claims) = ap (λ l. excess_of q c ∷ l) (excesses-are claims)
+
+  claimed-count : (claims : List Opening) → length (claimed_values (statements_of claims)) ≡ length (map (true_opening q) claims)
+  claimed-count [] = refl
+  claimed-count (c ∷ claims) = ap suc (claimed-count claims)
+
+  -- a claim exceeds its true value nowhere just where it is true
+  no_excess : (c : Opening) → c.statement.claimed < q.ops.size → element q.ops (excess_of q c) ≡ 0 → IsOpeningTrue q c
+  unfolding excess IsTrueOf true_value inner
+  no_excess c low none =
+      let v = true_opening q c in
+      let whole : element q.ops v ≡ v = element-sum q.ops is.field.ring (2 ^ q.variables) _ in
+      let same = same-from_minus q.ops is.field.ring c.statement.claimed v (sym (element-plus q.ops is.field.ring c.statement.claimed (opposite q.ops v)) ∙ none) in
+      sym whole ∙ sym same ∙ element-small q.ops is.field.ring c.statement.claimed low
+
+  zero_excess : (c : Opening) → IsOpeningTrue q c → excess_of q c ≡ 0
+  unfolding excess IsTrueOf
+  zero_excess c right = minus-same q.ops is.field.ring c.statement.claimed (true_opening q c) (sym right)
+
+  none-exceeds : (claims : List Opening) → All (λ c. c < q.ops.size) (claimed_values (statements_of claims)) → AllZero q.ops (map (excess_of q) claims) → AllOpeningsTrue q claims
+  none-exceeds [] low zeros = tt
+  none-exceeds (c ∷ claims) low zeros = (no_excess c (low 0 0 (omega arith)) zeros.0, none-exceeds claims (λ k d less. low (suc k) d (omega (arith, less))) zeros.1)
+
+  none-false : (i : ℕ) (claims : List Opening) → AllOpeningsTrue q claims → first_false_opening q i claims ≡ None
+  unfolding first_false_opening is_true_of IsTrueOf
+  none-false i [] all = refl
+  none-false i (c ∷ claims) all =
+      ap (λ b. if b then first_false_opening q (suc i) claims else Some (record { statement = i; claimed = c.statement.claimed; actual = true_opening q c })) (eq-eqb _ _ all.0)
+      ∙ none-false (suc i) claims all.1
+
+  pub all-true : (i : ℕ) (claims : List Opening) → first_false_opening q i claims ≡ None → AllOpeningsTrue q claims
+  unfolding first_false_opening is_true_of IsTrueOf
+  all-true i [] none = tt
+  all-true i (c ∷ claims) none =
+      let rest = first_false_opening q (suc i) claims in
+      let here : FalseClaim = record { statement = i; claimed = c.statement.claimed; actual = true_opening q c } in
+      ⊎_elim
+      (λ same. (same, all-true (suc i) claims (sym (ap (λ b. if b then rest else Some here) (eq-eqb _ _ same)) ∙ none)))
+      (λ other. let bad : Some here ≡ None = sym (ap (λ b. if b then rest else Some here) (ne_eqb _ _ other)) ∙ none in cc)
+      (cases_eq (true_opening q c) c.statement.claimed)
+
+  zero-where : (claims : List Opening) (i : ℕ) (c : Opening) → slice_get claims i ≡ Some c → IsOpeningTrue q c → slice_get (map (excess_of q) claims) i ≡ Some 0
+  zero-where [] i c e right = cc
+  zero-where (d ∷ claims) zero c e right = let same : d ≡ c = cc in ap (λ x. Some (excess_of q x)) same ∙ ap (λ x. Some x) (zero_excess c right)
+  zero-where (d ∷ claims) (suc i) c e right = zero-where claims i c e right
+
+  true-where : (claims : List Opening) → All (λ c. c < q.ops.size) (claimed_values (statements_of claims)) → (i : ℕ) (c : Opening) → slice_get claims i ≡ Some c →
+      slice_get (map (excess_of q) claims) i ≡ Some 0 → IsOpeningTrue q c
+  true-where [] low i c e none = cc
+  true-where (d ∷ claims) low zero c e none =
+      let same : d ≡ c = cc in
+      let at : excess_of q d ≡ 0 = cc in
+      subst (IsOpeningTrue q) same (no_excess d (low 0 0 (omega arith)) (ap (element q.ops) at ∙ element-zero q.ops is.field.ring))
+  true-where (d ∷ claims) low (suc i) c e none = true-where claims (λ k n less. low (suc k) n (omega (arith, less))) i c e none
+
+  -- ---- the stage
+
+  module _ (came : SentOpenings) (count : length came.rounds ≡ q.variables) (wide : AllSend IsPair (messages_of came.rounds)) where
+    rs : List ℕ
+    rs = opening_challenges q came.rounds
+
+    residual : ℕ
+    residual = claim_along (next_claim evaluation q.ops) (opening_claim q) (messages_of came.rounds) (opening_challenges q came.rounds)
+
+    is-stage : IsStage q.ops IsPair (opening_stage q came.rounds)
+    is-stage = record {
+      certifies = merged-certifies q.ops is.field (weighted_tables q);
+      sends = wide;
+      count = length-messages came.rounds ∙ sym (length-challenges _ _ _ _ came.rounds);
+      small = element-powers_sum q.ops is.field.ring (merging_challenge q) 0 (claimed_values (statements_of q.claims));
+      true_is = ap (merged_claim q.ops (weighted_tables q) []) (sym (length-messages came.rounds ∙ count));
+      at = ap (λ p. poly_at q.ops p (merging_challenge q)) (excesses-are q.claims)
+          ∙ excess-powers q.ops is.field.ring (merging_challenge q) (claimed_values (statements_of q.claims)) (map (true_opening q) q.claims) (claimed-count q.claims)
+          ∙ ap (minus q.ops (opening_claim q)) truth-is;
+    }
+
+    matches : Bool
+    matches = openings_match q (claim_along (next_claim evaluation q.ops) (opening_claim q) (messages_of came.rounds) (opening_challenges q came.rounds)) came.openings (opening_challenges q came.rounds)
+
+    right-is : matches ≡ true → residual_in (opening_stage q came.rounds) ≡ true_residual_in (opening_stage q came.rounds)
+    unfolding matches openings_match
+    right-is matched =
+        let zs = opening_challenges q came.rounds in
+        let ps = weighted_tables q in
+        let both = both-true _ _ matched in
+        let openings : came.openings ≡ values_at q.ops ps zs = same-list came.openings (values_at q.ops ps zs) both.1 in
+        eqb-true _ _ both.0 ∙ ap (λ l. products_sum q.ops l (weights_values_at q.ops ps zs)) openings ∙ products-merged q.ops is.field.ring ps zs
+        ∙ sym (merged-end q.ops is.field.ring ps zs)
+
+    some-is : (first_false_opening q 0 q.claims ≡ None → ⊥) → AllZero q.ops (opening_stage q came.rounds).excess → ⊥
+    some-is wrong zeros = wrong (none-false 0 q.claims (none-exceeds q.claims is.below zeros))
+
+    certified-by : (l : Luck) → IsCertifiedIn q.ops (opening_stage q came.rounds) l → IsOpeningCertified q (opening_figures q came) l
+    unfolding opening_figures
+    certified-by (in_batch polynomial roots) c = record {
+      certificate = c.0;
+      are = c.1;
+      zero_where_true = λ i d e right. ap (λ p. slice_get p i) c.1 ∙ zero-where q.claims i d e right;
+      true_where_zero = λ i d e none. true-where q.claims is.below i d e (sym (ap (λ (p : List ℕ). slice_get p i) c.1) ∙ none);
+    }
+    certified-by (in_round round polynomial roots) c = c
+
+    pub certified-openings : CertifiesOpenings q (opening_figures q came)
+    unfolding opening_figures matches
+    certified-openings = record {
+      named = λ l e. certified-by l (named-certified q.ops is.field (opening_stage q came.rounds) is-stage matches (first_false_opening q 0 q.claims) right-is some-is l e);
+      no_other = λ right wrong.
+          one-named q.ops is.field (opening_stage q came.rounds) is-stage matches (first_false_opening q 0 q.claims) right-is some-is right
+          (λ none. wrong (all-true 0 q.claims none));
+    }
+
+  -- ---- what is built
+
+  true-values : (claims : List Opening) → AllOpeningsTrue q claims → map (true_opening q) claims ≡ claimed_values (statements_of claims)
+  unfolding IsTrueOf
+  true-values [] all = refl
+  true-values (c ∷ claims) all = ap (λ v. v ∷ map (true_opening q) claims) all.0 ∙ ap (λ l. c.statement.claimed ∷ l) (true-values claims all.1)
+
+  pub holds-openings : (came : SentOpenings) → AreOpeningsBuilt q came → AllOpeningsTrue q q.claims → (opening_figures q came).finding ≡ holds
+  unfolding opening_figures openings_match
+  holds-openings came built all =
+      let zs = opening_challenges q came.rounds in
+      let ps = weighted_tables q in
+      let gamma = merging_challenge q in
+      let residual = claim_along (next_claim evaluation q.ops) (opening_claim q) (messages_of came.rounds) zs in
+      let claim : opening_claim q ≡ merged_claim q.ops ps [] q.variables = ap (powers_sum q.ops gamma 0) (sym (true-values q.claims all)) ∙ truth-is in
+      let ends : residual ≡ products_sum q.ops came.openings (weights_values_at q.ops ps zs) =
+      ap (λ c. claim_along (next_claim evaluation q.ops) c (messages_of came.rounds) zs) claim
+      ∙ honest_along (merged_course q.ops ps) (honest_merged q.ops ps) (merged-keeps q.ops is.field.ring ps)
+      q.channel (begun_behind q.channel (behind_merging q) q.variables) [] q.variables came.rounds built.count built.built
+      ∙ merged-end q.ops is.field.ring ps zs ∙ sym (products-merged q.ops is.field.ring ps zs)
+      ∙ ap (λ l. products_sum q.ops l (weights_values_at q.ops ps zs)) (sym built.openings) in
+      let same : is_same_list came.openings (values_at q.ops ps zs) ≡ true =
+      ap (λ l. is_same_list l (values_at q.ops ps zs)) built.openings ∙ list-same (values_at q.ops ps zs) in
+      holds_where _ (first_false_opening q 0 q.claims) (stage_luck q.ops (opening_stage q came.rounds))
+      (ap (λ b. b && is_same_list came.openings (values_at q.ops ps zs)) (eq-eqb _ _ ends) ∙ same)
+      (none-false 0 q.claims all)
+
+-- ---- the transcript
+
+pub history-openings : (q : OpeningCase) (came : SentOpenings) → behind_openings q came ≡ q.history ++ opening_events q came
+history-openings q came =
+    let E = q.channel.extension in
+    let A = sent E (claimed_values (statements_of q.claims)) in
+    let B = replicate E.degree Draw in
+    let C = words (quadratic_seed E.degree evaluation q.channel.bits q.variables) in
+    let D = rounds_events E q.channel.bits came.rounds in
+    let O = sent E came.openings in
+    ap (λ l. l ++ C ++ D ++ O) (append_assoc q.history A B) ∙ ap (λ l. l ++ D ++ O) (append_assoc q.history (A ++ B) C)
+    ∙ ap (λ l. l ++ O) (append_assoc q.history (A ++ B ++ C) D) ∙ append_assoc q.history (A ++ B ++ C ++ D) O
