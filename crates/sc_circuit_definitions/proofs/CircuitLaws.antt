@@ -21,20 +21,19 @@ use Rattle.sc_definitions.proofs.PolyLaws.{length-minus}
 use Rattle.sc_definitions.proofs.StatementLaws.{element-powers_sum}
 use Rattle.sc_definitions.proofs.RootLaws.{same-from_minus}
 use Rattle.sc_definitions.proofs.BuiltLaws.{length-messages, length-challenges}
-use Rattle.sc_definitions.proofs.LuckyLaws.{AllSend, IsPair}
 use Rattle.sc_definitions.proofs.Identity.{atom, nought, ◌⊕◌, ◌⊗◌, ◌⊖◌, Agree, identity}
-use Rattle.sc_soundness.specs.Stages.{Stage, residual_in, true_residual_in, StageLuck, stages_luck, IsCertifiedIn, IsCertifiedOf}
+use Rattle.sc_soundness.specs.Stages.{Stage, stage_residual, true_stage_residual, StageLuck, stages_luck, IsCertifiedIn, IsCertifiedAmong, IsStage, AreLinked}
 use Rattle.sc_soundness.specs.Differences.{Difference, first_difference}
-use Rattle.sc_soundness.proofs.CourseLaws.{still-certifies, honest_along}
-use Rattle.sc_soundness.proofs.StageLaws.{IsStage, AreLinked, stages-certified}
+use Rattle.sc_soundness.proofs.CourseLaws.{no_rounds-sound, honest-end_true}
+use Rattle.sc_soundness.proofs.StageLaws.{stages-sound}
 use Rattle.sc_soundness.proofs.PowerLaws.{excess-powers}
 use Rattle.sc_soundness.proofs.ImageLaws.{difference-none, same-lists, images-apart, rows-below, rows-image}
 use Rattle.sc_circuit_definitions.specs.declared.gate.Gate.{Gate}
 use Rattle.sc_circuit_definitions.specs.Circuits.{gate_value, top_values, layer_variables, IsWidth, top_width, PlacesBelow, IsCircuit, weighted_sum}
 use Rattle.sc_circuit_definitions.specs.LayerRounds.{layer_sum, left_at, right_at, layer_at, layer_claim, honest_layer, layer_course}
-use Rattle.sc_circuit_definitions.specs.CircuitPlays.{CircuitCase, IsCircuitCase, images_of, LayerStart, SentLayer, output_challenge, first_start, layer_prelude, rounds_over, begun_at, play_of, merge_of, next_start, plays_from, end_from, merges_from, events_from, circuit_events, AreShaped, IsBuiltLayer, AreBuilt}
+use Rattle.sc_circuit_definitions.specs.CircuitPlays.{CircuitCase, IsCircuitCase, images_of, LayerStart, SentLayer, output_challenge, first_start, layer_prelude, rounds_over, before_rounds, play_of, merge_of, next_start, plays_from, end_from, merges_from, events_from, circuit_events, AreShaped, IsBuiltLayer, AreBuiltLayers}
 use Rattle.sc_circuit_definitions.specs.CircuitFindings.{agrees, inputs_agree, first_disagreement, stage_of, stage_of_inputs, stages_of, holds, refuted, lucky, named, finding_by, false_output, circuit_figures, drawn_for, coefficients_for, IsCertified, CertifiesCircuit}
-use Rattle.sc_circuit_definitions.proofs.LayerRoundLaws.{claim-end, layer-certifies, layer-keeps}
+use Rattle.sc_circuit_definitions.proofs.LayerRoundLaws.{claim-end, layer-sound, layer-keeps}
 use Rattle.sc_circuit_definitions.proofs.LayerTruthLaws.{layer-truth, powers-weighted, merged-weighted}
 
 -- ---- helpers
@@ -42,10 +41,6 @@ use Rattle.sc_circuit_definitions.proofs.LayerTruthLaws.{layer-truth, powers-wei
 if_none : {E : Type 0} (b : Bool) (rest : Option E) (e : E) → (if b then rest else Some e) ≡ None → (b ≡ true) × (rest ≡ None)
 if_none true rest e is = (refl, is)
 if_none false rest e is = cc
-
-all_send : (messages : List (List ℕ)) → All (λ values. length values ≡ 2) messages → AllSend IsPair messages
-all_send [] all = tt
-all_send (m ∷ ms) all = (all 0 [] (omega arith), all_send ms (λ k d less. all (suc k) d (omega (arith, less))))
 
 -- ---- values
 
@@ -125,10 +120,10 @@ module _ (q : CircuitCase) (is : IsCircuitCase q) where
     drawn-count count = length-challenges _ _ _ _ c.rounds ∙ count
 
     is-stage : IsStart (gates ∷ ls) at → length c.rounds ≡ rounds_over q ls → All (λ values. length values ≡ 2) (messages_of c.rounds) →
-        IsStage q.ops IsPair (stage_of q.ops (play_of q gates ls at c))
+        IsStage q.ops (stage_of q.ops (play_of q gates ls at c))
     is-stage start count wide = record {
-      certifies = layer-certifies q.ops is.field (play_of q gates ls at c).tables;
-      sends = all_send (messages_of c.rounds) wide;
+      sound = layer-sound q.ops is.field (play_of q gates ls at c).tables;
+      pairs = wide;
       count = rounds-count count ∙ sym (drawn-count count);
       small = start.small;
       true_is = truth-is ∙ ap (layer_claim q.ops (play_of q gates ls at c).tables []) (sym (rounds-count count));
@@ -169,7 +164,7 @@ module _ (q : CircuitCase) (is : IsCircuitCase q) where
     same_value x y zero_is = same-from_minus q.ops is.field.ring x y (sym (element-plus q.ops is.field.ring x (opposite q.ops y)) ∙ zero_is)
 
     ends-true : agrees q.ops (play_of q gates ls at c) ≡ true → AllZero q.ops (next_start q ls (play_of q gates ls at c)).excess →
-        residual_in (stage_of q.ops (play_of q gates ls at c)) ≡ true_residual_in (stage_of q.ops (play_of q gates ls at c))
+        stage_residual (stage_of q.ops (play_of q gates ls at c)) ≡ true_stage_residual (stage_of q.ops (play_of q gates ls at c))
     unfolding agrees layer_sum layer_at
     ends-true agreed zeros =
         let p = play_of q gates ls at c in
@@ -198,7 +193,8 @@ module _ (q : CircuitCase) (is : IsCircuitCase q) where
         let rs = p.challenges in
         eq-eqb _ _ (
         ap (λ n. claim_along (next_through q.ops) n (messages_of c.rounds) rs) (right ∙ truth-is)
-        ∙ honest_along (layer_course q.ops p.tables) (honest_layer q.ops p.tables) (layer-keeps q.ops is.field p.tables) q.channel (begun_at q ls at) [] (rounds_over q ls) c.rounds built.count built.built
+        ∙ honest-end_true (layer_course q.ops p.tables) (honest_layer q.ops p.tables) (layer-keeps q.ops is.field p.tables)
+        q.channel (before_rounds q ls at) [] (rounds_over q ls) c.rounds built.count built.built
         ∙ claim-end q.ops is.field.ring p.tables rs
         ∙ ap (λ x. layer_sum q.ops p.tables rs x (right_at q.ops p.tables rs)) (sym built.left)
         ∙ ap (layer_sum q.ops p.tables rs c.left) (sym built.right))
@@ -213,9 +209,9 @@ module _ (q : CircuitCase) (is : IsCircuitCase q) where
     first : Stage
     others : List Stage
     are : stages ≡ first ∷ others
-    stage : IsStage q.ops IsPair first
+    stage : IsStage q.ops first
     excess : first.excess ≡ at.excess
-    linked : AreLinked q.ops is.field IsPair first others
+    linked : AreLinked q.ops first others
 
   chain : (i : ℕ) (ls : List (List Gate)) (came : List SentLayer) (at : LayerStart) → IsCircuit ls (length q.inputs) → AreShaped q ls came → IsStart ls at →
       first_disagreement q.ops i (plays_from q ls came at) (inputs_agree q (end_from q ls came at)) ≡ None → AreStages (stages-from ls came at) at
@@ -228,8 +224,8 @@ module _ (q : CircuitCase) (is : IsCircuitCase q) where
         others = [];
         are = refl;
         stage = record {
-          certifies = still-certifies q.ops is.field truth IsPair 3;
-          sends = tt;
+          sound = no_rounds-sound q.ops is.field truth 2 3;
+          pairs = λ k d low. absurd (omega (arith, low));
           count = refl;
           small = start.small;
           true_is = sym (element-weighted at.weights (images_of q []));
@@ -268,22 +264,22 @@ module _ (q : CircuitCase) (is : IsCircuitCase q) where
   -- where all layers agree although an output is false, a challenge was lucky
   luck-found : (came : List SentLayer) → AreShaped q q.layers came → (q.outputs ≡ top_values q.base q.layers q.inputs → ⊥) →
       first_disagreement q.ops 0 (plays_from q q.layers came (first_start q)) (inputs_agree q (end_from q q.layers came (first_start q))) ≡ None →
-      (l : StageLuck) × (stages_luck q.ops 0 (stages-from q.layers came (first_start q)) ≡ Some l) × IsCertifiedOf q.ops 0 (stages-from q.layers came (first_start q)) l
+      (l : StageLuck) × (stages_luck q.ops 0 (stages-from q.layers came (first_start q)) ≡ Some l) × IsCertifiedAmong q.ops 0 (stages-from q.layers came (first_start q)) l
   luck-found came shaped wrong agreed =
       let all = chain 0 q.layers came (first_start q) is.circuit shaped first-is agreed in
       let some : AllZero q.ops all.first.excess → ⊥ =
       λ zeros. wrong (images-apart q.base q.ops is.base_field is.field q.embedding is.embeds q.outputs (top_values q.base q.layers q.inputs)
       (is.outputs_count ∙ sym (values-length q.layers)) is.outputs_below (values-below q.layers) (subst (AllZero q.ops) all.excess zeros)) in
-      let found = stages-certified q.ops is.field IsPair 0 all.first all.others all.stage some all.linked in (
+      let found = stages-sound q.ops is.field 0 all.first all.others all.stage some all.linked in (
         found.0,
         ap (stages_luck q.ops 0) all.are ∙ found.1,
-        subst (λ stages. IsCertifiedOf q.ops 0 stages found.0) (sym all.are) found.2,
+        subst (λ stages. IsCertifiedAmong q.ops 0 stages found.0) (sym all.are) found.2,
       )
 
   -- ---- layers that are built
 
   agreed-built : (i : ℕ) (ls : List (List Gate)) (came : List SentLayer) (at : LayerStart) → IsCircuit ls (length q.inputs) →
-      at.claim ≡ weighted_sum q.ops at.weights (images_of q ls) → AreBuilt q ls came at →
+      at.claim ≡ weighted_sum q.ops at.weights (images_of q ls) → AreBuiltLayers q ls came at →
       first_disagreement q.ops i (plays_from q ls came at) (inputs_agree q (end_from q ls came at)) ≡ None
   unfolding first_disagreement
   agreed-built i [] [] at fits right built = ap (λ b. if b then None else Some i) (eq-eqb _ _ right)
@@ -300,7 +296,7 @@ module _ (q : CircuitCase) (is : IsCircuitCase q) where
       ap (λ b. if b then rest else Some i) (agrees-built gates ls fits at c right built.0)
       ∙ agreed-built (suc i) ls came next fits.2 true_next built.1
 
-  pub holds-built : (came : List SentLayer) → q.outputs ≡ top_values q.base q.layers q.inputs → AreBuilt q q.layers came (first_start q) →
+  pub holds-built : (came : List SentLayer) → q.outputs ≡ top_values q.base q.layers q.inputs → AreBuiltLayers q q.layers came (first_start q) →
       (circuit_figures q came).finding ≡ holds
   unfolding circuit_figures
   holds-built came right built =
@@ -316,7 +312,7 @@ module _ (q : CircuitCase) (is : IsCircuitCase q) where
 
 -- ---- where a stage stands
 
--- the challenge that is drawn for the claim at a place, behind a start, and how many coefficients its polynomial has
+-- the challenge that is drawn for the claim at a place, from a start on, and how many coefficients its polynomial has
 abbrev drawn_at : LayerStart → List ℕ → ℕ → Option ℕ
 drawn_at at merges zero = Some at.drawn
 drawn_at at merges (suc i) = slice_get merges i
@@ -461,7 +457,7 @@ module _ (q : CircuitCase) where
       ∙ ap (λ l. l ++ rest) (ap (λ l. l ++ C ++ D) (append_assoc at.history A B) ∙ ap (λ l. l ++ D) (append_assoc at.history (A ++ B) C) ∙ append_assoc at.history (A ++ B ++ C) D)
       ∙ append_assoc at.history (A ++ B ++ C ++ D) rest
 
-  -- the history at the end is the old one with the transcript behind it
+  -- the history at the end is the old one with the transcript after it
   pub history-circuit : (came : List SentLayer) → (end_from q q.layers came (first_start q)).history ≡ q.history ++ circuit_events q came
   history-circuit came =
       let W = words q.outputs in

@@ -14,7 +14,7 @@ use Rattle.sc_definitions.proofs.ValueLaws.{element-value}
 use Rattle.sc_definitions.proofs.Identity.{atom, ◌⊕◌, ◌⊗◌, Agree, identity}
 use Rattle.sc_soundness.proofs.PowerLaws.{sum-swap}
 use Rattle.sc_circuit_definitions.specs.LayerRounds.{LayerTables, layer_sum, layer_at, layer_claim, layer_round}
-use Rattle.sc_circuit_definitions.specs.LayerPhases.{Phase, phase_at, phase_claim, row_sum, bound_phase, phase_at_next, first_factor, first_rest, first_phase, row_at, second_factor, second_rest, second_phase}
+use Rattle.sc_circuit_definitions.specs.LayerPhases.{Phase, phase_at, phase_claim, row_sum, bound_phase, phase_at_next, first_factor, first_rest, first_phase, row_at, second_factor, second_rest, second_phase, PhasesMakeRounds}
 use Rattle.sc_circuit_definitions.proofs.LayerRoundLaws.{round-at}
 use Rattle.sc_circuit_definitions.proofs.LayerTruthLaws.{digits-append}
 
@@ -207,3 +207,6 @@ module _ (o : Ops) (ring : IsRing o) where
         round-at o ring t (us ++ rs) m x ∙ ap (λ l. layer_claim o t l m) (append_assoc us rs (x ∷ []))
         ∙ second-claim t us (rs ++ x ∷ []) m size more ∙ phase-rows (second_phase o t us) (rs ++ x ∷ []) m
         ∙ ap (λ p. sum_below o (2 ^ m) (row_sum o p)) (phase-more (second_phase o t us) rs x m)
+
+    pub phases-make_rounds : PhasesMakeRounds o t
+    phases-make_rounds = record { first = first-node; second = second-node }

@@ -1,4 +1,4 @@
--- A layer's rounds: the polynomial at a challenge is the true claim behind it, and its values at 0 and at 1 are the true claim before it in sum.
+-- A layer's rounds: the polynomial at a challenge is the true claim after it, and the sum of its values at 0 and at 1 is the true claim before it.
 use Rattle.std.proofs.Common.{◌≡◌, ℕ, zero, suc, ◌+◌, ◌-◌, ◌%◌, ◌^◌, ◌<◌, ◌≤◌, Bool, true, false, not, nat_lt, List, [], ◌∷◌, ◌++◌, length, take, drop, if◌then◌else◌, sym, ◌∙◌, ap, refl, arith, append_assoc, length-append, lt-ltb, le-ltb, ⊎_elim}
 use Rattle.std.proofs.lemmas.Bool.{cases_lt}
 use Rattle.std.proofs.lemmas.Nat.{pow_pos}
@@ -15,12 +15,11 @@ use Rattle.sc_definitions.proofs.ValueLaws.{element-value}
 use Rattle.sc_definitions.proofs.ProductLaws.{first-line}
 use Rattle.sc_definitions.proofs.PolyLaws.{poly_at-plus, poly_at-times, poly_at-sum, length-sum}
 use Rattle.sc_definitions.proofs.InterpolationLaws.{next-honest}
-use Rattle.sc_definitions.proofs.LuckyLaws.{IsPair, Certifies}
 use Rattle.sc_definitions.proofs.Identity.{atom, nought, ◌⊕◌, ◌⊗◌, ◌⊖◌, Agree, identity}
-use Rattle.sc_soundness.specs.Courses.{AreRounds, KeepsTrue}
-use Rattle.sc_soundness.proofs.CourseLaws.{rounds_certify}
+use Rattle.sc_soundness.specs.Courses.{AreSumcheckRounds, IsSound, KeepsTrue}
+use Rattle.sc_soundness.proofs.CourseLaws.{rounds-sound}
 use Rattle.sc_soundness.proofs.ThroughLaws.{through-width, through-both}
-use Rattle.sc_circuit_definitions.specs.LayerRounds.{LayerTables, layer_sum, left_at, right_at, layer_at, layer_claim, part_line, layer_line, layer_round, honest_layer, layer_excess, layer_course}
+use Rattle.sc_circuit_definitions.specs.LayerRounds.{LayerTables, layer_sum, left_at, right_at, layer_at, layer_claim, part_line, layer_line, layer_round, honest_layer, layer_excess, layer_course, LayerRoundsAre}
 
 -- the digits of a row of either half
 pub digits-low : (n b : ℕ) → b < 2 ^ n → digits (suc n) b ≡ 0 ∷ digits n b
@@ -188,7 +187,7 @@ module _ (o : Ops) (ring : IsRing o) where
 
 module _ (o : Ops) (field : IsField o) where
   module _ (t : LayerTables) where
-    pub layer-rounds : AreRounds o (layer_course o t) IsPair 3
+    pub layer-rounds : AreSumcheckRounds o (layer_course o t) 2 3
     unfolding next_through layer_excess layer_claim
     layer-rounds = record {
       sent = sent_through o;
@@ -203,8 +202,8 @@ module _ (o : Ops) (field : IsField o) where
       true_element = λ rs m. element-sum o field.ring (2 ^ m) _;
     }
 
-    pub layer-certifies : Certifies o (layer_course o t) IsPair 3
-    layer-certifies = rounds_certify o field (layer_course o t) IsPair 3 layer-rounds
+    pub layer-sound : IsSound o (layer_course o t) 2 3
+    layer-sound = rounds-sound o field (layer_course o t) 2 3 layer-rounds
 
     pub layer-keeps : KeepsTrue (layer_course o t) (honest_layer o t)
     unfolding honest_layer
@@ -213,3 +212,6 @@ module _ (o : Ops) (field : IsField o) where
           next-honest o field 1 (layer_claim o t rs (suc m)) r (layer_round o t rs m) (round-length o field.ring t rs m) (omega (arith, field.at_least)) (claim-split o field.ring t rs m)
           ∙ round-at o field.ring t rs m r;
     }
+
+    pub layer_rounds-are : LayerRoundsAre o t
+    layer_rounds-are = record { rounds = layer-rounds; honest = layer-keeps; last = claim-end o field.ring t }

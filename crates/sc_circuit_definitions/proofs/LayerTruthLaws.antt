@@ -15,8 +15,8 @@ use Rattle.sc_definitions.proofs.TableLaws.{two_halves, length-digits, value-dig
 use Rattle.sc_definitions.proofs.Identity.{atom, nought, ◌⊕◌, ◌⊗◌, Agree, identity}
 use Rattle.sc_soundness.proofs.PowerLaws.{sum-first, powers_sum-rows}
 use Rattle.sc_circuit_definitions.specs.declared.gate.Gate.{Gate}
-use Rattle.sc_circuit_definitions.specs.Circuits.{gate_value, PlacesBelow, weighted_sum, merged_weight, is_same_kind, is_at, gates_at}
-use Rattle.sc_circuit_definitions.specs.LayerRounds.{layer_sum, layer_at, layer_claim}
+use Rattle.sc_circuit_definitions.specs.Circuits.{gate_value, PlacesBelow, weighted_sum, merged_weight, is_same_kind, is_gate_at, gate_weights}
+use Rattle.sc_circuit_definitions.specs.LayerRounds.{LayersSumGates, layer_sum, layer_at, layer_claim}
 use Rattle.sc_circuit_definitions.proofs.LayerRoundLaws.{digits-low, digits-high}
 
 -- the digits of a row of two parts
@@ -93,10 +93,10 @@ module _ (o : Ops) (ring : IsRing o) where
   one_gate : (N k : ℕ) (w A B v : ℕ → ℕ) (g : ℕ) (gate : Gate) →
       (gate.left * 2 ^ k + gate.right < N)
       × (A (gate.left * 2 ^ k + gate.right) ≡ plus o (v gate.left) (v gate.right)) × (B (gate.left * 2 ^ k + gate.right) ≡ times o (v gate.left) (v gate.right)) →
-      plus o (sum_below o N (λ b. times o (if is_at false k b gate then w g else 0) (A b)))
-      (sum_below o N (λ b. times o (if is_at true k b gate then w g else 0) (B b)))
+      plus o (sum_below o N (λ b. times o (if is_gate_at false k b gate then w g else 0) (A b)))
+      (sum_below o N (λ b. times o (if is_gate_at true k b gate then w g else 0) (B b)))
       ≡ times o (w g) (gate_value o v gate)
-  unfolding gate_value is_at
+  unfolding gate_value is_gate_at
   one_gate N k w A B v g gate at =
       let r = gate.left * 2 ^ k + gate.right in
       elim gate.product as (λ t. plus o (sum_below o N (λ b. times o (if is_same_kind t false && (b == r) then w g else 0) (A b)))
@@ -119,14 +119,14 @@ module _ (o : Ops) (ring : IsRing o) where
       ((gate : Gate) → gate.left < 2 ^ k → gate.right < 2 ^ k → (gate.left * 2 ^ k + gate.right < N)
       × (A (gate.left * 2 ^ k + gate.right) ≡ plus o (v gate.left) (v gate.right)) × (B (gate.left * 2 ^ k + gate.right) ≡ times o (v gate.left) (v gate.right))) →
       PlacesBelow (2 ^ k) gates →
-      sum_below o N (λ b. plus o (times o (gates_at o false w k g gates b) (A b)) (times o (gates_at o true w k g gates b) (B b))) ≡ gates_sum w g gates v
-  unfolding gates_at gates_sum Agree
+      sum_below o N (λ b. plus o (times o (gate_weights o false w k g gates b) (A b)) (times o (gate_weights o true w k g gates b) (B b))) ≡ gates_sum w g gates v
+  unfolding gate_weights gates_sum Agree
   over_places N k w A B v g [] at places =
       sum-same o N _ _ (λ b _. identity o ring (A b ∷ B b ∷ []) (nought ⊗ atom 0 ⊕ nought ⊗ atom 1) nought tt tt refl) ∙ sum-none o ring N
   over_places N k w A B v g (gate ∷ gates) at places =
-      let rest_s : ℕ → ℕ = gates_at o false w k (suc g) gates in
-      let rest_p : ℕ → ℕ = gates_at o true w k (suc g) gates in
-      let here : Bool → ℕ → ℕ = λ kind b. if is_at kind k b gate then w g else 0 in
+      let rest_s : ℕ → ℕ = gate_weights o false w k (suc g) gates in
+      let rest_p : ℕ → ℕ = gate_weights o true w k (suc g) gates in
+      let here : Bool → ℕ → ℕ = λ kind b. if is_gate_at kind k b gate then w g else 0 in
       sum-same o N _ _ (λ b _. identity o ring (here false b ∷ here true b ∷ rest_s b ∷ rest_p b ∷ A b ∷ B b ∷ [])
       ((atom 0 ⊕ atom 2) ⊗ atom 4 ⊕ (atom 1 ⊕ atom 3) ⊗ atom 5) ((atom 0 ⊗ atom 4 ⊕ atom 1 ⊗ atom 5) ⊕ (atom 2 ⊗ atom 4 ⊕ atom 3 ⊗ atom 5)) tt tt refl)
       ∙ sym (sum-plus o ring N (λ b. plus o (times o (here false b) (A b)) (times o (here true b) (B b))) (λ b. plus o (times o (rest_s b) (A b)) (times o (rest_p b) (B b))))
@@ -147,13 +147,11 @@ module _ (o : Ops) (ring : IsRing o) where
       )
 
   -- the sum over the places of what its rounds sum is that over its gates
-  pub layer-truth : (k : ℕ) (gates : List Gate) (w v : ℕ → ℕ) → PlacesBelow (2 ^ k) gates →
-      layer_claim o (record { variables = k; sums = gates_at o false w k 0 gates; products = gates_at o true w k 0 gates; below = v }) [] (k + k)
-      ≡ weighted_sum o w (map (gate_value o v) gates)
+  pub layer-truth : LayersSumGates o
   unfolding layer_claim layer_at layer_sum weighted_sum
   layer-truth k gates w v places =
       let K = 2 ^ k in
-      let s = gates_at o false w k 0 gates in let p = gates_at o true w k 0 gates in
+      let s = gate_weights o false w k 0 gates in let p = gate_weights o true w k 0 gates in
       let front : ℕ → ℕ = λ b. value o v (take k (digits (k + k) b)) in
       let back : ℕ → ℕ = λ b. value o v (drop k (digits (k + k) b)) in
       let A : ℕ → ℕ = λ b. plus o (front b) (back b) in
@@ -170,8 +168,10 @@ module _ (o : Ops) (ring : IsRing o) where
       let fits : suc gate.left * K ≤ K * K = mul-le (suc gate.left) K K K left_low (omega arith) in
       let inside : gate.left * K + gate.right < K * K = omega arith in (
         subst (λ n. gate.left * K + gate.right < n) (sym size) inside,
-        ap (λ n. plus o n (back (gate.left * K + gate.right))) split.0 ∙ ap (plus o (element o (v gate.left))) split.1 ∙ plus-element_left o ring (v gate.left) (element o (v gate.right)) ∙ plus-element_right o ring (v gate.left) (v gate.right),
-        ap (λ n. times o n (back (gate.left * K + gate.right))) split.0 ∙ ap (times o (element o (v gate.left))) split.1 ∙ times-element_left o ring (v gate.left) (element o (v gate.right)) ∙ times-element_right o ring (v gate.left) (v gate.right),
+        ap (λ n. plus o n (back (gate.left * K + gate.right))) split.0 ∙ ap (plus o (element o (v gate.left))) split.1
+            ∙ plus-element_left o ring (v gate.left) (element o (v gate.right)) ∙ plus-element_right o ring (v gate.left) (v gate.right),
+        ap (λ n. times o n (back (gate.left * K + gate.right))) split.0 ∙ ap (times o (element o (v gate.left))) split.1
+            ∙ times-element_left o ring (v gate.left) (element o (v gate.right)) ∙ times-element_right o ring (v gate.left) (v gate.right),
       )) places
       ∙ sym (gates_sum-weighted w 0 gates v)
       ∙ sum-same o (length gates) _ _ (λ i _. let e : 0 + i ≡ i = omega arith in ap (λ n. times o (w n) (rows_of (map (gate_value o v) gates) i)) e)

@@ -10,9 +10,9 @@ use Rattle.sc_definitions.proofs.Sums.{sum-same, sum-plus}
 use Rattle.sc_definitions.proofs.SuccessorLaws.{sum-none, one-place}
 use Rattle.sc_definitions.proofs.Identity.{atom, nought, ◌⊕◌, ◌⊗◌, Agree, identity}
 use Rattle.sc_circuit_definitions.specs.declared.gate.Gate.{Gate}
-use Rattle.sc_circuit_definitions.specs.Circuits.{PlacesBelow, is_same_kind, is_at, gates_at}
+use Rattle.sc_circuit_definitions.specs.Circuits.{PlacesBelow, is_same_kind, is_gate_at, gate_weights}
 use Rattle.sc_circuit_definitions.specs.LayerRounds.{LayerTables}
-use Rattle.sc_circuit_definitions.specs.LayerPhases.{first_factor, first_rest, row_at, shares_at, factor_share, rest_share, row_share}
+use Rattle.sc_circuit_definitions.specs.LayerPhases.{first_factor, first_rest, row_at, shares_at, factor_share, rest_share, row_share, WalksMakePhases}
 use Rattle.sc_circuit_definitions.proofs.LayerTruthLaws.{at_place, never}
 
 -- two places of blocks are the same where their blocks are, and their places in these
@@ -52,20 +52,21 @@ module _ (o : Ops) (ring : IsRing o) where
 
   module _ (k : ℕ) (w v : ℕ → ℕ) where
     -- the tables of gates that are numbered from g on
-    abbrev pub tables : ℕ → List Gate → LayerTables
-    tables g gates = record { variables = k; sums = gates_at o false w k g gates; products = gates_at o true w k g gates; below = v }
+    abbrev tables : ℕ → List Gate → LayerTables
+    tables g gates = record { variables = k; sums = gate_weights o false w k g gates; products = gate_weights o true w k g gates; below = v }
 
     -- ---- the first half
 
     one-factor : (g : ℕ) (gate : Gate) (x : ℕ) → gate.right < 2 ^ k →
-        sum_below o (2 ^ k) (λ y. plus o (if is_at false k (x * 2 ^ k + y) gate then w g else 0) (times o (if is_at true k (x * 2 ^ k + y) gate then w g else 0) (v y)))
+        sum_below o (2 ^ k) (λ y. plus o (if is_gate_at false k (x * 2 ^ k + y) gate then w g else 0) (times o (if is_gate_at true k (x * 2 ^ k + y) gate then w g else 0) (v y)))
         ≡ element o (if x == gate.left then factor_share o w v g gate else 0)
-    unfolding is_at factor_share
+    unfolding is_gate_at factor_share
     one-factor g gate x low =
         let K = 2 ^ k in
         let l = gate.left in let r = gate.right in
         let c = x == l in
-        elim gate.product as (λ p. sum_below o K (λ y. plus o (if is_same_kind p false && (x * K + y == l * K + r) then w g else 0) (times o (if is_same_kind p true && (x * K + y == l * K + r) then w g else 0) (v y)))
+        elim gate.product as (λ p. sum_below o K (λ y. plus o (if is_same_kind p false && (x * K + y == l * K + r) then w g else 0)
+        (times o (if is_same_kind p true && (x * K + y == l * K + r) then w g else 0) (v y)))
         ≡ element o (if c then (if p then times o (w g) (v r) else w g) else 0)) [
           | true ↦
               sum-same o K _ _ (λ y ly. ap (λ b. plus o 0 (times o (if b then w g else 0) (v y))) (same_places K x y l r ly low) ∙ zero-left _ ∙ element-times o ring _ _)
@@ -82,15 +83,15 @@ module _ (o : Ops) (ring : IsRing o) where
           whole false z e = sym (element-zero o ring)
 
     pub factors-walk : (g : ℕ) (gates : List Gate) (x : ℕ) → PlacesBelow (2 ^ k) gates → first_factor o (tables g gates) x ≡ shares_at o (λ gate. gate.left) (factor_share o w v) g gates x
-    unfolding first_factor gates_at shares_at Agree
+    unfolding first_factor gate_weights shares_at Agree
     factors-walk g [] x places =
         sum-same o (2 ^ k) _ _ (λ y _. identity o ring (v y ∷ []) (nought ⊕ nought ⊗ atom 0) nought tt tt refl) ∙ sum-none o ring (2 ^ k)
     factors-walk g (gate ∷ gates) x places =
         let K = 2 ^ k in
-        let A : ℕ → ℕ = λ y. if is_at false k (x * K + y) gate then w g else 0 in
-        let B : ℕ → ℕ = λ y. if is_at true k (x * K + y) gate then w g else 0 in
-        let S : ℕ → ℕ = λ y. gates_at o false w k (suc g) gates (x * K + y) in
-        let P : ℕ → ℕ = λ y. gates_at o true w k (suc g) gates (x * K + y) in
+        let A : ℕ → ℕ = λ y. if is_gate_at false k (x * K + y) gate then w g else 0 in
+        let B : ℕ → ℕ = λ y. if is_gate_at true k (x * K + y) gate then w g else 0 in
+        let S : ℕ → ℕ = λ y. gate_weights o false w k (suc g) gates (x * K + y) in
+        let P : ℕ → ℕ = λ y. gate_weights o true w k (suc g) gates (x * K + y) in
         sum-same o K _ _ (λ y _. identity o ring (A y ∷ B y ∷ S y ∷ P y ∷ v y ∷ [])
         ((atom 0 ⊕ atom 2) ⊕ (atom 1 ⊕ atom 3) ⊗ atom 4) ((atom 0 ⊕ atom 1 ⊗ atom 4) ⊕ (atom 2 ⊕ atom 3 ⊗ atom 4)) tt tt refl)
         ∙ sym (sum-plus o ring K (λ y. plus o (A y) (times o (B y) (v y))) (λ y. plus o (S y) (times o (P y) (v y))))
@@ -99,8 +100,8 @@ module _ (o : Ops) (ring : IsRing o) where
         ∙ ap (plus o (if x == gate.left then factor_share o w v g gate else 0)) (factors-walk (suc g) gates x places.2)
 
     one-rest : (g : ℕ) (gate : Gate) (x : ℕ) → gate.right < 2 ^ k →
-        sum_below o (2 ^ k) (λ y. times o (if is_at false k (x * 2 ^ k + y) gate then w g else 0) (v y)) ≡ (if x == gate.left then rest_share o w v g gate else 0)
-    unfolding is_at rest_share
+        sum_below o (2 ^ k) (λ y. times o (if is_gate_at false k (x * 2 ^ k + y) gate then w g else 0) (v y)) ≡ (if x == gate.left then rest_share o w v g gate else 0)
+    unfolding is_gate_at rest_share
     one-rest g gate x low =
         let K = 2 ^ k in
         let l = gate.left in let r = gate.right in
@@ -116,13 +117,13 @@ module _ (o : Ops) (ring : IsRing o) where
           nothing false = refl
 
     pub rests-walk : (g : ℕ) (gates : List Gate) (x : ℕ) → PlacesBelow (2 ^ k) gates → first_rest o (tables g gates) x ≡ shares_at o (λ gate. gate.left) (rest_share o w v) g gates x
-    unfolding first_rest gates_at shares_at Agree
+    unfolding first_rest gate_weights shares_at Agree
     rests-walk g [] x places =
         sum-same o (2 ^ k) _ _ (λ y _. identity o ring (v y ∷ []) (nought ⊗ atom 0) nought tt tt refl) ∙ sum-none o ring (2 ^ k)
     rests-walk g (gate ∷ gates) x places =
         let K = 2 ^ k in
-        let A : ℕ → ℕ = λ y. if is_at false k (x * K + y) gate then w g else 0 in
-        let S : ℕ → ℕ = λ y. gates_at o false w k (suc g) gates (x * K + y) in
+        let A : ℕ → ℕ = λ y. if is_gate_at false k (x * K + y) gate then w g else 0 in
+        let S : ℕ → ℕ = λ y. gate_weights o false w k (suc g) gates (x * K + y) in
         sum-same o K _ _ (λ y _. identity o ring (A y ∷ S y ∷ v y ∷ []) ((atom 0 ⊕ atom 1) ⊗ atom 2) (atom 0 ⊗ atom 2 ⊕ atom 1 ⊗ atom 2) tt tt refl)
         ∙ sym (sum-plus o ring K (λ y. times o (A y) (v y)) (λ y. times o (S y) (v y)))
         ∙ ap (λ n. plus o n (sum_below o K (λ y. times o (S y) (v y)))) (one-rest g gate x places.1)
@@ -132,8 +133,8 @@ module _ (o : Ops) (ring : IsRing o) where
 
     module _ (us : List ℕ) (size : length us ≡ k) where
       one-row : (product : Bool) (g : ℕ) (gate : Gate) (y : ℕ) → gate.left < 2 ^ k → gate.right < 2 ^ k → y < 2 ^ k →
-          sum_below o (2 ^ k) (λ x. times o (if is_at product k (x * 2 ^ k + y) gate then w g else 0) (weight o us x)) ≡ (if y == gate.right then row_share o product w us g gate else 0)
-      unfolding is_at row_share
+          sum_below o (2 ^ k) (λ x. times o (if is_gate_at product k (x * 2 ^ k + y) gate then w g else 0) (weight o us x)) ≡ (if y == gate.right then row_share o product w us g gate else 0)
+      unfolding is_gate_at row_share
       one-row product g gate y low_l low_r ly =
           let K = 2 ^ k in
           let l = gate.left in let r = gate.right in
@@ -156,17 +157,24 @@ module _ (o : Ops) (ring : IsRing o) where
             nothing false = refl
 
       pub rows-walk : (product : Bool) (g : ℕ) (gates : List Gate) (y : ℕ) → PlacesBelow (2 ^ k) gates → y < 2 ^ k →
-          row_at o k (gates_at o product w k g gates) us y ≡ shares_at o (λ gate. gate.right) (row_share o product w us) g gates y
-      unfolding row_at value gates_at shares_at Agree
+          row_at o k (gate_weights o product w k g gates) us y ≡ shares_at o (λ gate. gate.right) (row_share o product w us) g gates y
+      unfolding row_at value gate_weights shares_at Agree
       rows-walk product g [] y places ly =
           sum-same o (2 ^ length us) _ _ (λ x _. identity o ring (weight o us x ∷ []) (nought ⊗ atom 0) nought tt tt refl) ∙ sum-none o ring (2 ^ length us)
       rows-walk product g (gate ∷ gates) y places ly =
           let K = 2 ^ k in
-          let A : ℕ → ℕ = λ x. if is_at product k (x * K + y) gate then w g else 0 in
-          let S : ℕ → ℕ = λ x. gates_at o product w k (suc g) gates (x * K + y) in
+          let A : ℕ → ℕ = λ x. if is_gate_at product k (x * K + y) gate then w g else 0 in
+          let S : ℕ → ℕ = λ x. gate_weights o product w k (suc g) gates (x * K + y) in
           let N = 2 ^ length us in
           let many : N ≡ K = ap (λ n. 2 ^ n) size in
           sum-same o N _ _ (λ x _. identity o ring (A x ∷ S x ∷ weight o us x ∷ []) ((atom 0 ⊕ atom 1) ⊗ atom 2) (atom 0 ⊗ atom 2 ⊕ atom 1 ⊗ atom 2) tt tt refl)
           ∙ sym (sum-plus o ring N (λ x. times o (A x) (weight o us x)) (λ x. times o (S x) (weight o us x)))
           ∙ ap (λ n. plus o n (sum_below o N (λ x. times o (S x) (weight o us x)))) (ap (λ n. sum_below o n (λ x. times o (A x) (weight o us x))) many ∙ one-row product g gate y places.0 places.1 ly)
           ∙ ap (plus o (if y == gate.right then row_share o product w us g gate else 0)) (rows-walk product (suc g) gates y places.2 ly)
+
+    pub walks-make_phases : (gates : List Gate) → PlacesBelow (2 ^ k) gates → WalksMakePhases o k w v gates
+    walks-make_phases gates places = record {
+      factors = λ x. factors-walk 0 gates x places;
+      rests = λ x. rests-walk 0 gates x places;
+      rows = λ product us y size low. rows-walk us size product 0 gates y places low;
+    }

@@ -6,12 +6,12 @@ use Rattle.sc_definitions.specs.Rounds.{claim_along}
 use Rattle.sc_definitions.specs.Interpolation.{next_through}
 use Rattle.sc_definitions.specs.Transcript.{messages_of}
 use Rattle.sc_definitions.specs.Lucky.{IsCertificate, Luck, in_batch, in_round, IsRoundLuck}
-use Rattle.sc_soundness.specs.Courses.{still_course}
+use Rattle.sc_soundness.specs.Courses.{course_without_rounds}
 use Rattle.sc_soundness.specs.Stages.{Stage, StageLuck, stages_luck}
 use Rattle.sc_soundness.specs.Differences.{Difference, first_difference}
 use Rattle.sc_circuit_definitions.specs.Circuits.{top_values, weighted_sum}
 use Rattle.sc_circuit_definitions.specs.LayerRounds.{layer_sum, layer_course}
-use Rattle.sc_circuit_definitions.specs.CircuitPlays.{CircuitCase, images_of, LayerStart, SentLayer, LayerPlay, output_challenge, first_start, plays_from, end_from, merges_from}
+use Rattle.sc_circuit_definitions.specs.CircuitPlays.{CircuitCase, IsCircuitCase, AreShaped, AreBuiltLayers, images_of, LayerStart, SentLayer, LayerPlay, output_challenge, first_start, plays_from, end_from, merges_from}
 
 -- ---- agreement
 
@@ -19,15 +19,15 @@ use Rattle.sc_circuit_definitions.specs.CircuitPlays.{CircuitCase, images_of, La
 abbrev pub layer_residual : Ops → LayerPlay → ℕ
 layer_residual o p = claim_along (next_through o) p.start.claim (messages_of p.came.rounds) p.challenges
 
--- it is what the rounds sum at their challenges, where the values below are the two that came
+-- A layer agrees: this is what the rounds sum at their challenges, where the layer below has the two values that came.
 unfoldable pub agrees : Ops → LayerPlay → Bool
 agrees o p = layer_residual o p == layer_sum o p.tables p.challenges p.came.left p.came.right
 
--- the claim on the inputs is the true one
+-- the inputs agree: the claim on them is the true one
 abbrev pub inputs_agree : CircuitCase → LayerStart → Bool
 inputs_agree q end = end.claim == weighted_sum q.ops end.weights (images_of q [])
 
--- the first layer, numbered from i on, that does not agree; behind them stand the inputs, which agree or not
+-- The first layer that does not agree, if one does not: of these, which are numbered from i on, and then of the inputs, which agree or not.
 unfoldable pub first_disagreement : Ops → ℕ → List LayerPlay → Bool → Option ℕ
 first_disagreement o i [] inputs = if inputs then None else Some i
 first_disagreement o i (p ∷ ps) inputs = if agrees o p then first_disagreement o (suc i) ps inputs else Some i
@@ -52,7 +52,7 @@ stage_of_inputs q end = record {
   excess = end.excess;
   claim = end.claim;
   truth = weighted_sum q.ops end.weights (images_of q []);
-  course = still_course q.ops (weighted_sum q.ops end.weights (images_of q []));
+  course = course_without_rounds q.ops (weighted_sum q.ops end.weights (images_of q []));
   messages = [];
   challenges = [];
 }
@@ -62,7 +62,7 @@ stages_of q plays end = map (stage_of q.ops) plays ++ stage_of_inputs q end ∷ 
 
 -- ---- what is found
 
--- The outputs are the circuit's; a layer does not agree; or all agree although an output is false, and a challenge was lucky.
+-- All layers agree, and the outputs are the circuit's; a layer does not agree; or all agree although an output is false, and a challenge was lucky.
 pub data CircuitFinding : Type 0 where
   holds : CircuitFinding
   refuted : (layer : ℕ) → CircuitFinding
@@ -73,7 +73,7 @@ abbrev pub named : Option StageLuck → CircuitFinding
 named (Some l) = lucky l
 named None = refuted 0
 
--- by the first layer that does not agree, if one does not, the first false output, if one is, and the first lucky challenge, if one is
+-- the finding by the first layer that does not agree, if one does not, the first false output, if one is, and the first lucky challenge, if one is
 abbrev pub finding_by : Option ℕ → Option Difference → Option StageLuck → CircuitFinding
 finding_by (Some i) fault luck = refuted i
 finding_by None None luck = holds
@@ -120,18 +120,20 @@ abbrev pub coefficients_for : CircuitCase → ℕ → ℕ
 coefficients_for q zero = length q.outputs
 coefficients_for q (suc i) = 2
 
+-- the challenge that made a layer's claim was lucky: the polynomial certifies it
 pub record IsMergeLuck (q : CircuitCase) (f : CircuitFigures) (layer : ℕ) (polynomial : List ℕ) (roots : ℕ) : Type 0 where
   pub challenge : ℕ
   pub drawn : drawn_for q f.merges layer ≡ Some challenge
   pub certificate : IsCertificate q.ops challenge polynomial roots
   pub coefficients : length polynomial ≡ coefficients_for q layer
 
--- a round's, of the layer's challenges
+-- the challenge of a round of the layer was
 pub record IsLayerLuck (q : CircuitCase) (f : CircuitFigures) (layer round : ℕ) (polynomial : List ℕ) (roots : ℕ) : Type 0 where
   pub challenges : List ℕ
   pub are : slice_get f.challenges layer ≡ Some challenges
   pub luck : IsRoundLuck q.ops challenges round polynomial roots
 
+-- a lucky challenge of a layer is certified
 abbrev pub IsCertified : CircuitCase → CircuitFigures → ℕ → Luck → Type 0
 IsCertified q f layer (in_batch polynomial roots) = IsMergeLuck q f layer polynomial roots
 IsCertified q f layer (in_round round polynomial roots) = IsLayerLuck q f layer round polynomial roots
@@ -140,3 +142,14 @@ IsCertified q f layer (in_round round polynomial roots) = IsLayerLuck q f layer 
 pub record CertifiesCircuit (q : CircuitCase) (f : CircuitFigures) : Type 0 where
   pub named : (l : StageLuck) → f.finding ≡ lucky l → IsCertified q f l.stage l.luck
   pub no_other : ((i : ℕ) → f.finding ≡ refuted i → ⊥) → (q.outputs ≡ top_values q.base q.layers q.inputs → ⊥) → (l : StageLuck) × (f.finding ≡ lucky l)
+
+-- ---- the laws
+
+-- The figures of whatever came in the right shape certify themselves.
+abbrev pub CircuitsAreCertified : Type 0
+CircuitsAreCertified = (q : CircuitCase) → IsCircuitCase q → (came : List SentLayer) → AreShaped q q.layers came → CertifiesCircuit q (circuit_figures q came)
+
+-- Layers that are built on true outputs show that they hold.
+abbrev pub BuiltCircuitsHold : Type 0
+BuiltCircuitsHold = (q : CircuitCase) → IsCircuitCase q → (came : List SentLayer) → q.outputs ≡ top_values q.base q.layers q.inputs →
+    AreBuiltLayers q q.layers came (first_start q) → (circuit_figures q came).finding ≡ holds

@@ -1,5 +1,5 @@
 -- What is played on a circuit: its transcript, and the challenges along it.
-use Rattle.std.specs.Prelude.{◌≡◌, ◌<◌, ℕ, ◌+◌, All, true, false, List, [], ◌∷◌, ◌++◌, length, take, drop, map, replicate}
+use Rattle.std.specs.Prelude.{◌≡◌, ◌<◌, ℕ, ◌+◌, All, List, [], ◌∷◌, ◌++◌, length, take, drop, map, replicate}
 use Rattle.sc_definitions.specs.declared.events.Event.{Event}
 use Rattle.sc_definitions.specs.declared.events.Event.TheVariants.{Draw}
 use Rattle.sc_definitions.specs.Ring.{Ops, IsField, IsRingMap, ◌+⟨◌⟩◌, ◌-⟨◌⟩◌, ◌*⟨◌⟩◌, power}
@@ -12,11 +12,11 @@ use Rattle.sc_definitions.specs.Replays.{AllPass}
 use Rattle.sc_definitions.specs.Channels.{Channel, IsBuilt}
 use Rattle.sc_definitions.specs.Seeds.{degree_seed}
 use Rattle.sc_circuit_definitions.specs.declared.gate.Gate.{Gate}
-use Rattle.sc_circuit_definitions.specs.Circuits.{top_values, top_width, layer_variables, IsCircuit, merged_weight, gates_at}
-use Rattle.sc_circuit_definitions.specs.LayerRounds.{LayerTables, left_at, right_at, honest_layer}
+use Rattle.sc_circuit_definitions.specs.Circuits.{top_values, top_width, layer_variables, IsCircuit, merged_weight}
+use Rattle.sc_circuit_definitions.specs.LayerRounds.{LayerTables, gate_tables, left_at, right_at, honest_layer}
 
 -- A circuit, inputs and claimed outputs, over a base ring whose elements are embedded into the ring of the challenges; and rounds that go over a channel
--- behind a history.
+-- after a history.
 pub record CircuitCase : Type 0 where
   pub base : Ops
   pub ops : Ops
@@ -43,8 +43,8 @@ images_of q layers = map q.embedding (top_values q.base layers q.inputs)
 
 -- ---- where a layer begins
 
--- At a history, under a claim on the layer's values with their weights. The claim was made by a challenge that was drawn for it, and exceeds the true one
--- by the value of a polynomial there.
+-- A layer begins at a history, under a claim: the sum of its values, each times its weight. A challenge was drawn that made the claim, and the claim exceeds
+-- the true one by the value of a polynomial there.
 pub record LayerStart : Type 0 where
   pub history : List Event
   pub claim : ℕ
@@ -52,11 +52,11 @@ pub record LayerStart : Type 0 where
   pub drawn : ℕ
   pub excess : List ℕ
 
--- the challenge of the outputs
+-- the challenge of the outputs, drawn after them
 abbrev pub output_challenge : CircuitCase → ℕ
 output_challenge q = extension_draw q.channel.rules q.channel.extension (q.history ++ words q.outputs)
 
--- the first layer begins behind the outputs and their challenge, whose powers are their weights
+-- The first layer begins after the outputs and their challenge, whose powers are the weights.
 abbrev pub first_start : CircuitCase → LayerStart
 first_start q = record {
   history = q.history ++ words q.outputs ++ replicate q.channel.extension.degree Draw;
@@ -68,7 +68,7 @@ first_start q = record {
 
 -- ---- what a layer sends, and what it makes of it
 
--- its rounds, and the values below at the two halves of their challenges, as they are sent
+-- its rounds, and the values of the layer below at the two halves of their challenges, as they are sent
 pub record SentLayer : Type 0 where
   pub rounds : List Round
   pub left : ℕ
@@ -86,48 +86,44 @@ pub record LayerPlay : Type 0 where
   pub came : SentLayer
   pub challenges : List ℕ
 
--- the tables of a layer over these layers, whose gates have these weights
-abbrev pub tables_in : CircuitCase → List Gate → List (List Gate) → (ℕ → ℕ) → LayerTables
-tables_in q gates below w =
-    let k = layer_variables (top_width below (length q.inputs)) in
-    record {
-      variables = k;
-      sums = gates_at q.ops false w k 0 gates;
-      products = gates_at q.ops true w k 0 gates;
-      below = rows_of (images_of q below);
-    }
+-- the tables of a layer above these layers, whose gates have these weights
+abbrev pub layer_tables : CircuitCase → List Gate → List (List Gate) → (ℕ → ℕ) → LayerTables
+layer_tables q gates below w =
+    gate_tables q.ops (layer_variables (top_width below (length q.inputs))) w (rows_of (images_of q below)) gates
 
--- how many rounds a layer over these layers has
+-- how many rounds a layer above these layers has: twice as many as the first of them has variables
 abbrev pub rounds_over : CircuitCase → List (List Gate) → ℕ
 rounds_over q below = layer_variables (top_width below (length q.inputs)) + layer_variables (top_width below (length q.inputs))
 
--- its first round stands behind its seed and its claim
-abbrev pub begun_at : CircuitCase → List (List Gate) → LayerStart → List Event
-begun_at q below at = at.history ++ layer_prelude q.channel.extension q.channel.bits (rounds_over q below) at.claim
+-- the history before its first round: its seed and its claim were put
+abbrev pub before_rounds : CircuitCase → List (List Gate) → LayerStart → List Event
+before_rounds q below at = at.history ++ layer_prelude q.channel.extension q.channel.bits (rounds_over q below) at.claim
 
--- the play of a layer over these layers
+-- the play of a layer above these layers
 abbrev pub play_of : CircuitCase → List Gate → List (List Gate) → LayerStart → SentLayer → LayerPlay
 play_of q gates below at came = record {
   start = at;
   values = images_of q (gates ∷ below);
-  tables = tables_in q gates below at.weights;
+  tables = layer_tables q gates below at.weights;
   came = came;
-  challenges = challenges q.channel.rules q.channel.extension q.channel.bits (begun_at q below at) came.rounds;
+  challenges = challenges q.channel.rules q.channel.extension q.channel.bits (before_rounds q below at) came.rounds;
 }
 
--- the history behind its two values
-abbrev pub behind_values : CircuitCase → List (List Gate) → LayerPlay → List Event
-behind_values q below p =
-    begun_at q below p.start ++ rounds_events q.channel.extension q.channel.bits p.came.rounds ++ sent q.channel.extension (p.came.left ∷ p.came.right ∷ [])
+-- the history after its two values
+abbrev pub after_values : CircuitCase → List (List Gate) → LayerPlay → List Event
+after_values q below p =
+    before_rounds q below p.start ++ rounds_events q.channel.extension q.channel.bits p.came.rounds
+    ++ sent q.channel.extension (p.came.left ∷ p.came.right ∷ [])
 
--- the challenge that merges them, drawn there
+-- the challenge that merges the two values, drawn there
 abbrev pub merge_of : CircuitCase → List (List Gate) → LayerPlay → ℕ
-merge_of q below p = extension_draw q.channel.rules q.channel.extension (behind_values q below p)
+merge_of q below p = extension_draw q.channel.rules q.channel.extension (after_values q below p)
 
--- The layer below begins behind that challenge: its claim is the first of the two values and the challenge times the second.
+-- The layer below begins after that challenge: its claim is the first of the two values and the challenge times the second, its weights those of the two
+-- halves merged so, and the polynomial is what each value exceeds the true one by.
 abbrev pub next_start : CircuitCase → List (List Gate) → LayerPlay → LayerStart
 next_start q below p = record {
-  history = behind_values q below p ++ replicate q.channel.extension.degree Draw;
+  history = after_values q below p ++ replicate q.channel.extension.degree Draw;
   claim = p.came.left +⟨ q.ops ⟩ merge_of q below p *⟨ q.ops ⟩ p.came.right;
   weights = merged_weight q.ops (merge_of q below p) (take p.tables.variables p.challenges) (drop p.tables.variables p.challenges);
   drawn = merge_of q below p;
@@ -143,20 +139,20 @@ plays_from q (gates ∷ layers) [] at = []
 plays_from q (gates ∷ layers) (c ∷ came) at =
     play_of q gates layers at c ∷ plays_from q layers came (next_start q layers (play_of q gates layers at c))
 
--- where the inputs begin
+-- where the inputs begin, which are the last layer
 abbrev pub end_from : CircuitCase → List (List Gate) → List SentLayer → LayerStart → LayerStart
 end_from q [] came at = at
 end_from q (gates ∷ layers) [] at = at
 end_from q (gates ∷ layers) (c ∷ came) at = end_from q layers came (next_start q layers (play_of q gates layers at c))
 
--- the challenges that merge the values of each layer
+-- the challenges that merge the two values of each layer
 abbrev pub merges_from : CircuitCase → List (List Gate) → List SentLayer → LayerStart → List ℕ
 merges_from q [] came at = []
 merges_from q (gates ∷ layers) [] at = []
 merges_from q (gates ∷ layers) (c ∷ came) at =
     merge_of q layers (play_of q gates layers at c) ∷ merges_from q layers came (next_start q layers (play_of q gates layers at c))
 
--- what a layer appends: its prelude, its rounds, its two values, and the draw that merges them
+-- what a layer appends: its seed and its claim, its rounds, its two values, and the draw that merges them
 abbrev pub layer_events : CircuitCase → List (List Gate) → LayerPlay → List Event
 layer_events q below p =
     layer_prelude q.channel.extension q.channel.bits (rounds_over q below) p.start.claim
@@ -180,7 +176,7 @@ abbrev pub AllLayersPass : CircuitCase → List (List Gate) → List SentLayer �
 AllLayersPass q [] came at = Unit {0}
 AllLayersPass q (gates ∷ layers) [] at = Unit {0}
 AllLayersPass q (gates ∷ layers) (c ∷ came) at =
-    AllPass q.channel.rules q.channel.extension q.channel.bits (begun_at q layers at) c.rounds
+    AllPass q.channel.rules q.channel.extension q.channel.bits (before_rounds q layers at) c.rounds
     × AllLayersPass q layers came (next_start q layers (play_of q gates layers at c))
 
 -- what each of these layers sent has the shape of its rounds: as many as the layer below has variables twice, of two values each
@@ -195,14 +191,14 @@ AreShaped q (gates ∷ layers) (c ∷ came) =
 
 -- Its rounds send what an honest prover sends, each with the first witness, and its two values are the true ones.
 pub record IsBuiltLayer (q : CircuitCase) (below : List (List Gate)) (p : LayerPlay) : Type 0 where
-  pub built : IsBuilt (honest_layer q.ops p.tables) q.channel (begun_at q below p.start) [] (rounds_over q below) p.came.rounds
+  pub built : IsBuilt (honest_layer q.ops p.tables) q.channel (before_rounds q below p.start) [] (rounds_over q below) p.came.rounds
   pub count : length p.came.rounds ≡ rounds_over q below
   pub left : p.came.left ≡ left_at q.ops p.tables p.challenges
   pub right : p.came.right ≡ right_at q.ops p.tables p.challenges
 
-abbrev pub AreBuilt : CircuitCase → List (List Gate) → List SentLayer → LayerStart → Type 0
-AreBuilt q [] [] at = Unit {0}
-AreBuilt q [] (c ∷ came) at = ⊥
-AreBuilt q (gates ∷ layers) [] at = ⊥
-AreBuilt q (gates ∷ layers) (c ∷ came) at =
-    IsBuiltLayer q layers (play_of q gates layers at c) × AreBuilt q layers came (next_start q layers (play_of q gates layers at c))
+abbrev pub AreBuiltLayers : CircuitCase → List (List Gate) → List SentLayer → LayerStart → Type 0
+AreBuiltLayers q [] [] at = Unit {0}
+AreBuiltLayers q [] (c ∷ came) at = ⊥
+AreBuiltLayers q (gates ∷ layers) [] at = ⊥
+AreBuiltLayers q (gates ∷ layers) (c ∷ came) at =
+    IsBuiltLayer q layers (play_of q gates layers at c) × AreBuiltLayers q layers came (next_start q layers (play_of q gates layers at c))

@@ -1,13 +1,12 @@
 -- Of one stage whose rounds leave the true claim although something that is claimed is false, a challenge is named lucky, and certified.
-use Rattle.std.proofs.Common.{List, ◌≡◌, Bool, true, false, Option, Some, None, sym, ◌∙◌, ap, refl, subst, ⊎_elim, ℕ, suc, [], ◌∷◌, All, length, arith}
+use Rattle.std.proofs.Common.{◌≡◌, Bool, true, false, Option, Some, None, sym, ◌∙◌, ap, refl, subst, ⊎_elim}
 use Rattle.std.proofs.lemmas.Option.{same_Some}
 use Rattle.sc_definitions.specs.Ring.{Ops, IsField}
 use Rattle.sc_definitions.specs.Polynomials.{AllZero}
 use Rattle.sc_definitions.specs.Lucky.{Luck}
-use Rattle.sc_definitions.proofs.LuckyLaws.{AllSend, IsPair}
 use Rattle.sc_verdicts.specs.Findings.{holds, lucky, named}
-use Rattle.sc_soundness.specs.Stages.{Stage, residual_in, true_residual_in, stage_luck, IsCertifiedIn}
-use Rattle.sc_soundness.proofs.StageLaws.{IsStage, lucky_or_false}
+use Rattle.sc_soundness.specs.Stages.{Stage, stage_residual, true_stage_residual, stage_luck, IsCertifiedIn, IsStage}
+use Rattle.sc_soundness.proofs.StageLaws.{lucky_or_false}
 use Rattle.sc_merge_definitions.specs.QuadraticPlays.{finding_where}
 
 lucky_where : {X : Type 0} (matched : Bool) (fault : Option X) (luck : Option Luck) (l : Luck) → finding_where matched fault luck ≡ lucky l →
@@ -21,11 +20,11 @@ named_where : {X : Type 0} (fault : Option X) (luck : Option Luck) (l : Luck) �
 named_where None luck l some e = absurd (some refl)
 named_where (Some x) luck l some e = ap named e
 
-module _ (o : Ops) (field : IsField o) (s : Stage) (is : IsStage o IsPair s) {X : Type 0} (matched : Bool) (fault : Option X)
-    (right : matched ≡ true → residual_in s ≡ true_residual_in s) (some : (fault ≡ None → ⊥) → AllZero o s.excess → ⊥) where
+module _ (o : Ops) (field : IsField o) (s : Stage) (is : IsStage o s) {X : Type 0} (matched : Bool) (fault : Option X)
+    (right : matched ≡ true → stage_residual s ≡ true_stage_residual s) (some : (fault ≡ None → ⊥) → AllZero o s.excess → ⊥) where
   found : matched ≡ true → (fault ≡ None → ⊥) → (l : Luck) × (stage_luck o s ≡ Some l) × IsCertifiedIn o s l
   found is_matched false_one =
-      ⊎_elim (λ luck. luck) (λ none. absurd (none.1 (right is_matched))) (lucky_or_false o field IsPair s is (some false_one))
+      ⊎_elim (λ luck. luck) (λ none. absurd (none.1 (right is_matched))) (lucky_or_false o field s is (some false_one))
 
   -- a challenge that is named is certified
   pub named-certified : (l : Luck) → finding_where matched fault (stage_luck o s) ≡ lucky l → IsCertifiedIn o s l
@@ -42,8 +41,3 @@ module _ (o : Ops) (field : IsField o) (s : Stage) (is : IsStage o IsPair s) {X 
 
 pub holds_where : {X : Type 0} (matched : Bool) (fault : Option X) (luck : Option Luck) → matched ≡ true → fault ≡ None → finding_where matched fault luck ≡ holds
 holds_where matched fault luck m f = ap (λ b. finding_where b fault luck) m ∙ ap (λ x. finding_where true x luck) f
-
--- each message is a pair
-pub pairs_send : (messages : List (List ℕ)) → All (λ values. length values ≡ 2) messages → AllSend IsPair messages
-pairs_send [] all = tt
-pairs_send (m ∷ ms) all = (all 0 [] (omega arith), pairs_send ms (λ k d less. all (suc k) d (omega (arith, less))))

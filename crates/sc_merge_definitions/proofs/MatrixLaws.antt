@@ -12,10 +12,11 @@ use Rattle.std.proofs.lemmas.List.FromFn.{get_or-map-range_with_len, length-map-
 use Rattle.sc_definitions.specs.Ring.{times, minus, power}
 use Rattle.sc_definitions.specs.Tables.{evaluation, prefix, sum_below, inner, rows_of, value, bound_by}
 use Rattle.sc_definitions.specs.Polynomials.{AllZero}
-use Rattle.sc_definitions.specs.Rounds.{true_claim, next_claim, claim_along}
+use Rattle.sc_definitions.specs.Rounds.{honest_pair, next_claim, claim_along}
+use Rattle.sc_definitions.specs.TwoTables.{true_claim_on}
 use Rattle.sc_definitions.specs.Statements.{powers_sum}
 use Rattle.sc_definitions.specs.Transcript.{Round, messages_of, rounds_events}
-use Rattle.sc_definitions.specs.Lucky.{Luck, in_batch, in_round}
+use Rattle.sc_definitions.specs.Lucky.{course_on, Luck, in_batch, in_round}
 use Rattle.sc_definitions.proofs.RingLaws.{plus_below, size_pos}
 use Rattle.sc_definitions.proofs.Sums.{sum-same, times-sum}
 use Rattle.sc_definitions.proofs.BlockLaws.{sum-blocks, sums-product}
@@ -24,20 +25,17 @@ use Rattle.sc_definitions.proofs.MappedRounds.{image_inner}
 use Rattle.sc_definitions.proofs.RoundLaws.{true_claim-inner}
 use Rattle.sc_definitions.proofs.StatementLaws.{element-powers_sum}
 use Rattle.sc_definitions.proofs.BuiltLaws.{length-messages, length-challenges}
-use Rattle.sc_definitions.proofs.LuckyLaws.{AllSend, IsPair}
 use Rattle.sc_definitions.proofs.PolyLaws.{length-minus}
 use Rattle.sc_definitions.proofs.Identity.{atom, ◌⊗◌, Agree, identity}
 use Rattle.sc_verdicts.specs.Findings.{holds}
-use Rattle.sc_soundness.specs.Stages.{residual_in, true_residual_in, stage_luck, IsCertifiedIn}
+use Rattle.sc_soundness.specs.Stages.{stage_residual, true_stage_residual, stage_luck, IsCertifiedIn, IsStage}
 use Rattle.sc_soundness.specs.Differences.{first_difference}
-use Rattle.sc_soundness.specs.Pairs.{honest_of_pair, pair_course}
-use Rattle.sc_soundness.proofs.CourseLaws.{honest_along}
-use Rattle.sc_soundness.proofs.StageLaws.{IsStage}
-use Rattle.sc_soundness.proofs.PairLaws.{pair-certifies, pair-keeps, pair-end}
+use Rattle.sc_soundness.proofs.CourseLaws.{two_tables-sound, two_tables-keep, honest-end_true}
+use Rattle.sc_soundness.proofs.MergedLaws.{pair-end}
 use Rattle.sc_soundness.proofs.PowerLaws.{excess-powers, powers_sum-rows, sum-swap}
 use Rattle.sc_soundness.proofs.ImageLaws.{difference-none, same-lists, images-apart, rows-below, rows-image}
-use Rattle.sc_merge_definitions.specs.QuadraticPlays.{begun_behind, IsCertifiedBy}
-use Rattle.sc_merge_definitions.specs.Matrices.{side_variables, product_entry, product_values, MatmulCase, IsMatmulCase, observed, point_of_case, behind_point, behind_rounds, matmul_events, entries_claim, left_table, right_table, inner_variables, matmul_challenges, matmul_stage, false_entry, matmul_figures, AreMatmulBuilt, CertifiesMatmul}
+use Rattle.sc_merge_definitions.specs.QuadraticPlays.{seeded_history, IsCertifiedBy}
+use Rattle.sc_merge_definitions.specs.Matrices.{side_variables, product_entry, product_values, MatmulCase, IsMatmulCase, observed_entries, drawn_point, after_point, after_rounds, matmul_events, entries_claim, left_table, right_table, matmul_tables, inner_variables, matmul_challenges, matmul_stage, false_entry, matmul_figures, AreBuiltRounds, CertifiesMatmul}
 use Rattle.sc_merge_definitions.proofs.FindingLaws.{named-certified, one-named, holds_where}
 
 module _ (q : MatmulCase) (is : IsMatmulCase q) where
@@ -91,13 +89,13 @@ module _ (q : MatmulCase) (is : IsMatmulCase q) where
 
   -- ---- the claim on the true entries
 
-  true-entries : powers_sum q.ops (point_of_case q) 0 (map q.embedding (product_values q.base q.left q.right))
+  true-entries : powers_sum q.ops (drawn_point q) 0 (map q.embedding (product_values q.base q.left q.right))
       ≡ sum_below q.ops q.left.cols (λ x. times q.ops (left_table q x) (right_table q x))
   unfolding left_table right_table Agree
   true-entries =
       let o = q.ops in
       let ring = is.field.ring in
-      let rho = point_of_case q in
+      let rho = drawn_point q in
       let n = q.left.rows in
       let m = q.right.cols in
       let c = q.left.cols in
@@ -124,30 +122,30 @@ module _ (q : MatmulCase) (is : IsMatmulCase q) where
       ∙ sum-swap o ring n c (λ i x. sum_below o m (λ j. term i j x))
       ∙ sum-same o c _ _ (λ x _. sym (sums-product o ring n m (λ i. times o (P (i * m)) (L i x)) (λ j. times o (P j) (R x j))))
 
-  truth-is : powers_sum q.ops (point_of_case q) 0 (map q.embedding (product_values q.base q.left q.right))
-      ≡ true_claim evaluation prefix q.ops (left_table q) (right_table q) [] (inner_variables q)
+  pub entries-sum : powers_sum q.ops (drawn_point q) 0 (map q.embedding (product_values q.base q.left q.right))
+      ≡ true_claim_on q.ops (matmul_tables q) [] (inner_variables q)
   unfolding inner bound_by
-  truth-is =
+  entries-sum =
       true-entries
       ∙ ap (λ n. sum_below q.ops n (λ x. times q.ops (left_table q x) (right_table q x))) is.inner_power
       ∙ sym (true_claim-inner q.ops is.field.ring evaluation prefix (left_table q) (right_table q) [] (inner_variables q))
 
   -- ---- the stage
 
-  module _ (rounds : List Round) (count : length rounds ≡ inner_variables q) (wide : AllSend IsPair (messages_of rounds)) where
+  module _ (rounds : List Round) (count : length rounds ≡ inner_variables q) (wide : All (λ values. length values ≡ 2) (messages_of rounds)) where
     lengths-same : length (map q.embedding q.claimed.values) ≡ length (map q.embedding (product_values q.base q.left q.right))
     lengths-same =
         length-map q.claimed.values q.embedding ∙ is.claimed_count ∙ sym values-count ∙ sym (length-map (product_values q.base q.left q.right) q.embedding)
 
-    is-stage : IsStage q.ops IsPair (matmul_stage q rounds)
+    is-stage : IsStage q.ops (matmul_stage q rounds)
     is-stage = record {
-      certifies = pair-certifies q.ops is.field (left_table q) (right_table q);
-      sends = wide;
+      sound = two_tables-sound q.ops is.field (matmul_tables q) tt;
+      pairs = wide;
       count = length-messages rounds ∙ sym (length-challenges _ _ _ _ rounds);
-      small = element-powers_sum q.ops is.field.ring (point_of_case q) 0 (map q.embedding q.claimed.values);
-      true_is = ap (true_claim evaluation prefix q.ops (left_table q) (right_table q) []) (sym (length-messages rounds ∙ count));
-      at = excess-powers q.ops is.field.ring (point_of_case q) (map q.embedding q.claimed.values) (map q.embedding (product_values q.base q.left q.right)) lengths-same
-          ∙ ap (minus q.ops (entries_claim q)) truth-is;
+      small = element-powers_sum q.ops is.field.ring (drawn_point q) 0 (map q.embedding q.claimed.values);
+      true_is = ap (true_claim_on q.ops (matmul_tables q) []) (sym (length-messages rounds ∙ count));
+      at = excess-powers q.ops is.field.ring (drawn_point q) (map q.embedding q.claimed.values) (map q.embedding (product_values q.base q.left q.right)) lengths-same
+          ∙ ap (minus q.ops (entries_claim q)) entries-sum;
     }
 
     matches : Bool
@@ -155,7 +153,7 @@ module _ (q : MatmulCase) (is : IsMatmulCase q) where
         claim_along (next_claim evaluation q.ops) (entries_claim q) (messages_of rounds) (matmul_challenges q rounds)
         == times q.ops (value q.ops (left_table q) (matmul_challenges q rounds)) (value q.ops (right_table q) (matmul_challenges q rounds))
 
-    right-is : matches ≡ true → residual_in (matmul_stage q rounds) ≡ true_residual_in (matmul_stage q rounds)
+    right-is : matches ≡ true → stage_residual (matmul_stage q rounds) ≡ true_stage_residual (matmul_stage q rounds)
     unfolding matches
     right-is matched = eqb-true _ _ matched ∙ sym (pair-end q.ops is.field.ring (left_table q) (right_table q) (matmul_challenges q rounds))
 
@@ -166,7 +164,7 @@ module _ (q : MatmulCase) (is : IsMatmulCase q) where
         images-apart q.base q.ops is.base_field is.field q.embedding is.embeds q.claimed.values V (is.claimed_count ∙ sym values-count) is.claimed_below values-below zeros in
         wrong (ap (λ xs. first_difference 0 xs V) same ∙ difference-none 0 V)
 
-    certified-by : (l : Luck) → IsCertifiedIn q.ops (matmul_stage q rounds) l → IsCertifiedBy q.ops (point_of_case q) (length q.claimed.values) (matmul_challenges q rounds) l
+    certified-by : (l : Luck) → IsCertifiedIn q.ops (matmul_stage q rounds) l → IsCertifiedBy q.ops (drawn_point q) (length q.claimed.values) (matmul_challenges q rounds) l
     certified-by (in_batch polynomial roots) c = (
       c.0,
       ap length c.1 ∙ length-minus q.ops is.field.ring (map q.embedding q.claimed.values) (map q.embedding (product_values q.base q.left q.right)) lengths-same
@@ -185,26 +183,26 @@ module _ (q : MatmulCase) (is : IsMatmulCase q) where
 
   -- ---- rounds that are built
 
-  pub holds-matmul : (rounds : List Round) → length rounds ≡ inner_variables q → AreMatmulBuilt q rounds → q.claimed.values ≡ product_values q.base q.left q.right →
+  pub holds-matmul : (rounds : List Round) → length rounds ≡ inner_variables q → AreBuiltRounds q rounds → q.claimed.values ≡ product_values q.base q.left q.right →
       (matmul_figures q rounds).finding ≡ holds
   unfolding matmul_figures
   holds-matmul rounds count built right =
       let V = product_values q.base q.left q.right in
       let rs = matmul_challenges q rounds in
-      let claim : entries_claim q ≡ true_claim evaluation prefix q.ops (left_table q) (right_table q) [] (inner_variables q) =
-      ap (λ xs. powers_sum q.ops (point_of_case q) 0 (map q.embedding xs)) right ∙ truth-is in
+      let claim : entries_claim q ≡ true_claim_on q.ops (matmul_tables q) [] (inner_variables q) =
+      ap (λ xs. powers_sum q.ops (drawn_point q) 0 (map q.embedding xs)) right ∙ entries-sum in
       holds_where _ (false_entry q) (stage_luck q.ops (matmul_stage q rounds))
       (eq-eqb _ _ (ap (λ c. claim_along (next_claim evaluation q.ops) c (messages_of rounds) rs) claim
-      ∙ honest_along (pair_course q.ops (left_table q) (right_table q)) (honest_of_pair q.ops (left_table q) (right_table q)) (pair-keeps q.ops is.field.ring (left_table q) (right_table q))
-      q.channel (begun_behind q.channel (behind_point q) (inner_variables q)) [] (inner_variables q) rounds count built
+      ∙ honest-end_true (course_on q.ops (matmul_tables q)) (honest_pair evaluation prefix q.ops (left_table q) (right_table q)) (two_tables-keep q.ops is.field.ring (matmul_tables q) tt)
+      q.channel (seeded_history q.channel (after_point q) (inner_variables q)) [] (inner_variables q) rounds count built
       ∙ pair-end q.ops is.field.ring (left_table q) (right_table q) rs))
       (ap (λ xs. first_difference 0 xs V) right ∙ difference-none 0 V)
 
 -- ---- the transcript
 
-pub history-matmul : (q : MatmulCase) (rounds : List Round) → behind_rounds q rounds ≡ q.history ++ matmul_events q rounds
+pub history-matmul : (q : MatmulCase) (rounds : List Round) → after_rounds q rounds ≡ q.history ++ matmul_events q rounds
 history-matmul q rounds =
-    let A = words (observed q) in
+    let A = words (observed_entries q) in
     let B = replicate q.channel.extension.degree Draw in
     let C = words (quadratic_seed q.channel.extension.degree evaluation q.channel.bits (inner_variables q)) in
     let D = rounds_events q.channel.extension q.channel.bits rounds in

@@ -1,6 +1,7 @@
 -- The merged claim of true values is the sum over all tables; and what its rounds and openings show is certified.
-use Rattle.std.proofs.Common.{◌≡◌, ℕ, zero, suc, ◌+◌, ◌^◌, ◌<◌, ◌==◌, ◌&&◌, Bool, true, false, List, [], ◌∷◌, ◌++◌, All, length, map, if◌then◌else◌, Some, None, sym, ◌∙◌, ap, refl, subst, arith, append_assoc, ⊎_elim, eq-eqb, ne_eqb, eqb-true}
-use Rattle.std.specs.Prelude.{replicate}
+use Rattle.std.proofs.Common.{◌≡◌, ℕ, zero, suc, ◌+◌, ◌^◌, ◌<◌, ◌&&◌, Bool, true, false, List, [], ◌∷◌, ◌++◌, All, length, map, if◌then◌else◌, Some, None, sym, ◌∙◌, ap, refl, subst, arith, append_assoc, ⊎_elim, eq-eqb, ne_eqb, eqb-true}
+use Rattle.std.specs.Prelude.{nat_eq, replicate}
+use Rattle.std.specs.Cmp.Lexicographic.{pointwise, same_text}
 use Rattle.std.specs.List.{slice_get}
 use Rattle.sc_definitions.specs.declared.events.Event.TheVariants.{Draw}
 use Rattle.sc_definitions.specs.Events.{words}
@@ -22,17 +23,15 @@ use Rattle.sc_definitions.proofs.RootLaws.{same-from_minus}
 use Rattle.sc_definitions.proofs.RoundLaws.{true_claim-inner}
 use Rattle.sc_definitions.proofs.StatementLaws.{element-powers_sum}
 use Rattle.sc_definitions.proofs.BuiltLaws.{length-messages, length-challenges}
-use Rattle.sc_definitions.proofs.LuckyLaws.{AllSend, IsPair}
 use Rattle.sc_definitions.proofs.Identity.{atom, nought, ◌⊕◌, ◌⊗◌, Agree, identity}
 use Rattle.sc_verdicts.specs.Findings.{holds}
-use Rattle.sc_soundness.specs.Stages.{residual_in, true_residual_in, stage_luck, IsCertifiedIn}
-use Rattle.sc_soundness.specs.Pairs.{Weighted, merged_claim, honest_merged, merged_value, merged_course}
-use Rattle.sc_soundness.proofs.CourseLaws.{honest_along, minus-same}
-use Rattle.sc_soundness.proofs.StageLaws.{IsStage}
-use Rattle.sc_soundness.proofs.PairLaws.{merged-certifies, merged-keeps, merged-end}
+use Rattle.sc_soundness.specs.Stages.{stage_residual, true_stage_residual, stage_luck, IsCertifiedIn, IsStage}
+use Rattle.sc_soundness.specs.Merged.{WeightedTable, merged_claim, honest_merged, merged_value, merged_course}
+use Rattle.sc_soundness.proofs.CourseLaws.{honest-end_true, minus-same}
+use Rattle.sc_soundness.proofs.MergedLaws.{merged-sound, merged-keeps, merged-end}
 use Rattle.sc_soundness.proofs.PowerLaws.{excess-powers}
-use Rattle.sc_merge_definitions.specs.QuadraticPlays.{begun_behind}
-use Rattle.sc_merge_definitions.specs.Openings.{Opening, statements_of, table_at, OpeningCase, IsOpeningCase, true_opening, excess_of, IsOpeningTrue, AllOpeningsTrue, first_false_opening, merging_challenge, behind_merging, opening_claim, weight_on, opening_weights, weighted_from, weighted_tables, SentOpenings, opening_challenges, behind_openings, opening_events, values_at, weights_values_at, products_sum, is_same_list, opening_stage, openings_match, opening_figures, AreOpeningsBuilt, IsOpeningCertified, CertifiesOpenings}
+use Rattle.sc_merge_definitions.specs.QuadraticPlays.{seeded_history}
+use Rattle.sc_merge_definitions.specs.Openings.{TableClaim, statements_of, table_at, OpeningsCase, IsOpeningsCase, true_claim_value, claim_excess, IsTrueClaim, AllClaimsTrue, first_false_table_claim, merging_challenge, after_merging, merging_claim, weight_on, merging_weights, weighted_from, weighted_tables, SentOpenings, openings_challenges, after_openings, openings_events, values_at, weight_values_at, products_sum, openings_stage, openings_match, openings_figures, AreBuiltOpenings, IsCertifiedMerge, CertifiesOpenings}
 use Rattle.sc_merge_definitions.proofs.FindingLaws.{named-certified, one-named, holds_where}
 
 -- ---- lists
@@ -42,21 +41,13 @@ both-true true true e = (refl, refl)
 both-true true false e = cc
 both-true false b e = cc
 
-same-list : (xs ys : List ℕ) → is_same_list xs ys ≡ true → xs ≡ ys
-same-list [] [] e = refl
-same-list [] (y ∷ ys) e = cc
-same-list (x ∷ xs) [] e = cc
-same-list (x ∷ xs) (y ∷ ys) e =
-    let both = both-true (x == y) (is_same_list xs ys) e in
-    ap (λ v. v ∷ xs) (eqb-true _ _ both.0) ∙ ap (λ l. y ∷ l) (same-list xs ys both.1)
-
-list-same : (xs : List ℕ) → is_same_list xs xs ≡ true
+list-same : (xs : List ℕ) → pointwise nat_eq xs xs ≡ true
 list-same [] = refl
-list-same (x ∷ xs) = ap (λ b. b && is_same_list xs xs) (eq-eqb x x refl) ∙ list-same xs
+list-same (x ∷ xs) = ap (λ b. b && pointwise nat_eq xs xs) (eq-eqb x x refl) ∙ list-same xs
 
 module _ (o : Ops) (ring : IsRing o) where
   -- the sum of the products of the values is that of the pairs'
-  products-merged : (ps : List Weighted) (zs : List ℕ) → products_sum o (values_at o ps zs) (weights_values_at o ps zs) ≡ merged_value o ps zs
+  products-merged : (ps : List WeightedTable) (zs : List ℕ) → products_sum o (values_at o ps zs) (weight_values_at o ps zs) ≡ merged_value o ps zs
   unfolding products_sum merged_value
   products-merged [] zs = refl
   products-merged (p ∷ ps) zs = ap (plus o (times o (value o p.table zs) (value o p.weights zs))) (products-merged ps zs)
@@ -65,21 +56,21 @@ module _ (o : Ops) (ring : IsRing o) where
 
   module _ (n c : ℕ) where
     -- the tables' sums with their weights, where the first claim has the power p
-    inner_from : ℕ → List Opening → ℕ → List (ℕ → ℕ) → ℕ
+    inner_from : ℕ → List TableClaim → ℕ → List (ℕ → ℕ) → ℕ
     inner_from p claims j [] = 0
     inner_from p claims j (f ∷ fs) = plus o (inner o n f (λ b. powers_sum o c p (map (weight_on o j b) claims))) (inner_from p claims (suc j) fs)
 
     -- those of one claim
-    one_from : Opening → ℕ → List (ℕ → ℕ) → ℕ
+    one_from : TableClaim → ℕ → List (ℕ → ℕ) → ℕ
     one_from claim j [] = 0
     one_from claim j (f ∷ fs) = plus o (inner o n f (λ b. weight_on o j b claim)) (one_from claim (suc j) fs)
 
-    merged-inner : (claims : List Opening) (j : ℕ) (fs : List (ℕ → ℕ)) → merged_claim o (weighted_from o c claims j fs) [] n ≡ inner_from 0 claims j fs
-    unfolding merged_claim inner_from opening_weights bound_by
+    merged-inner : (claims : List TableClaim) (j : ℕ) (fs : List (ℕ → ℕ)) → merged_claim o (weighted_from o c claims j fs) [] n ≡ inner_from 0 claims j fs
+    unfolding merged_claim inner_from merging_weights bound_by
     merged-inner claims j [] = refl
     merged-inner claims j (f ∷ fs) =
-        ap (λ t. plus o t (merged_claim o (weighted_from o c claims (suc j) fs) [] n)) (true_claim-inner o ring evaluation prefix f (opening_weights o c claims j) [] n)
-        ∙ ap (plus o (inner o n f (opening_weights o c claims j))) (merged-inner claims (suc j) fs)
+        ap (λ t. plus o t (merged_claim o (weighted_from o c claims (suc j) fs) [] n)) (true_claim-inner o ring evaluation prefix f (merging_weights o c claims j) [] n)
+        ∙ ap (plus o (inner o n f (merging_weights o c claims j))) (merged-inner claims (suc j) fs)
 
     none-from : (p j : ℕ) (fs : List (ℕ → ℕ)) → inner_from p [] j fs ≡ 0
     unfolding inner_from powers_sum inner Agree
@@ -89,7 +80,7 @@ module _ (o : Ops) (ring : IsRing o) where
         ∙ ap (plus o 0) (none-from p (suc j) fs)
         ∙ identity o ring [] (nought ⊕ nought) nought tt tt refl
 
-    first-from : (p : ℕ) (claim : Opening) (claims : List Opening) (j : ℕ) (fs : List (ℕ → ℕ)) →
+    first-from : (p : ℕ) (claim : TableClaim) (claims : List TableClaim) (j : ℕ) (fs : List (ℕ → ℕ)) →
         inner_from p (claim ∷ claims) j fs ≡ plus o (times o (power o c p) (one_from claim j fs)) (inner_from (suc p) claims j fs)
     unfolding inner_from one_from powers_sum Agree
     first-from p claim claims j [] = identity o ring (power o c p ∷ []) nought (atom 0 ⊗ nought ⊕ nought) tt tt refl
@@ -103,13 +94,13 @@ module _ (o : Ops) (ring : IsRing o) where
         ((atom 0 ⊗ atom 1 ⊕ atom 2) ⊕ (atom 0 ⊗ atom 3 ⊕ atom 4)) (atom 0 ⊗ (atom 1 ⊕ atom 3) ⊕ (atom 2 ⊕ atom 4)) tt tt refl
 
     -- a claim adds nothing on another table
-    elsewhere : (claim : Opening) (j : ℕ) (f : ℕ → ℕ) → (claim.table ≡ j → ⊥) → inner o n f (λ b. weight_on o j b claim) ≡ 0
+    elsewhere : (claim : TableClaim) (j : ℕ) (f : ℕ → ℕ) → (claim.table ≡ j → ⊥) → inner o n f (λ b. weight_on o j b claim) ≡ 0
     unfolding inner weight_on
     elsewhere claim j f other =
         sum-same o (2 ^ n) _ _ (λ b _. ap (λ t. times o (f b) (if t then weight_of o claim.statement.kind b else 0)) (ne_eqb _ _ other) ∙ times-zero o ring (f b))
         ∙ sum-zeros o ring (2 ^ n)
 
-    none-before : (claim : Opening) (j : ℕ) (fs : List (ℕ → ℕ)) → claim.table < j → one_from claim j fs ≡ 0
+    none-before : (claim : TableClaim) (j : ℕ) (fs : List (ℕ → ℕ)) → claim.table < j → one_from claim j fs ≡ 0
     unfolding one_from Agree
     none-before claim j [] low = refl
     none-before claim j (f ∷ fs) low =
@@ -117,7 +108,7 @@ module _ (o : Ops) (ring : IsRing o) where
         ∙ ap (plus o 0) (none-before claim (suc j) fs (omega (arith, low)))
         ∙ identity o ring [] (nought ⊕ nought) nought tt tt refl
 
-    on-table : (claim : Opening) (j i : ℕ) (fs : List (ℕ → ℕ)) → claim.table ≡ j + i → i < length fs →
+    on-table : (claim : TableClaim) (j i : ℕ) (fs : List (ℕ → ℕ)) → claim.table ≡ j + i → i < length fs →
         one_from claim j fs ≡ true_value o n (table_at fs i) claim.statement.kind
     unfolding one_from true_value inner weight_on
     on-table claim j i [] is low = absurd (omega (arith, low))
@@ -134,11 +125,11 @@ module _ (o : Ops) (ring : IsRing o) where
         ∙ ap (plus o 0) (on-table claim (suc j) i fs (omega (arith, is)) (omega (arith, low)))
         ∙ plus_comm o ring 0 truth ∙ plus-zero o ring truth ∙ element-sum o ring (2 ^ n) _
 
-module _ (q : OpeningCase) (is : IsOpeningCase q) where
+module _ (q : OpeningsCase) (is : IsOpeningsCase q) where
   -- ---- the merged claim of true values
 
-  true-from : (p : ℕ) (claims : List Opening) → All (λ c. c.table < length q.tables) claims →
-      inner_from q.ops is.field.ring q.variables (merging_challenge q) p claims 0 q.tables ≡ powers_sum q.ops (merging_challenge q) p (map (true_opening q) claims)
+  true-from : (p : ℕ) (claims : List TableClaim) → All (λ c. c.table < length q.tables) claims →
+      inner_from q.ops is.field.ring q.variables (merging_challenge q) p claims 0 q.tables ≡ powers_sum q.ops (merging_challenge q) p (map (true_claim_value q) claims)
   unfolding powers_sum
   true-from p [] named = none-from q.ops is.field.ring q.variables (merging_challenge q) p 0 q.tables
   true-from p (c ∷ claims) named =
@@ -147,111 +138,113 @@ module _ (q : OpeningCase) (is : IsOpeningCase q) where
       first-from q.ops is.field.ring q.variables gamma p c claims 0 q.tables
       ∙ ap (λ t. plus q.ops (times q.ops (power q.ops gamma p) t) (inner_from q.ops is.field.ring q.variables gamma (suc p) claims 0 q.tables))
       (on-table q.ops is.field.ring q.variables gamma c 0 c.table q.tables (omega arith) low)
-      ∙ ap (plus q.ops (times q.ops (power q.ops gamma p) (true_opening q c))) (true-from (suc p) claims (λ k d less. named (suc k) d (omega (arith, less))))
+      ∙ ap (plus q.ops (times q.ops (power q.ops gamma p) (true_claim_value q c))) (true-from (suc p) claims (λ k d less. named (suc k) d (omega (arith, less))))
 
-  truth-is : powers_sum q.ops (merging_challenge q) 0 (map (true_opening q) q.claims) ≡ merged_claim q.ops (weighted_tables q) [] q.variables
-  truth-is =
+  pub claims-sum : powers_sum q.ops (merging_challenge q) 0 (map (true_claim_value q) q.claims) ≡ merged_claim q.ops (weighted_tables q) [] q.variables
+  claims-sum =
       sym (merged-inner q.ops is.field.ring q.variables (merging_challenge q) q.claims 0 q.tables ∙ true-from 0 q.claims is.named)
 
   -- ---- excesses
 
-  excesses-are : (claims : List Opening) → map (excess_of q) claims ≡ poly_minus q.ops (claimed_values (statements_of claims)) (map (true_opening q) claims)
+  excesses-are : (claims : List TableClaim) → map (claim_excess q) claims ≡ poly_minus q.ops (claimed_values (statements_of claims)) (map (true_claim_value q) claims)
   unfolding excess poly_minus
   excesses-are [] = refl
-  excesses-are (c ∷ claims) = ap (λ l. excess_of q c ∷ l) (excesses-are claims)
+  excesses-are (c ∷ claims) = ap (λ l. claim_excess q c ∷ l) (excesses-are claims)
 
-  claimed-count : (claims : List Opening) → length (claimed_values (statements_of claims)) ≡ length (map (true_opening q) claims)
+  claimed-count : (claims : List TableClaim) → length (claimed_values (statements_of claims)) ≡ length (map (true_claim_value q) claims)
   claimed-count [] = refl
   claimed-count (c ∷ claims) = ap suc (claimed-count claims)
 
   -- a claim exceeds its true value nowhere just where it is true
-  no_excess : (c : Opening) → c.statement.claimed < q.ops.size → element q.ops (excess_of q c) ≡ 0 → IsOpeningTrue q c
+  no_excess : (c : TableClaim) → c.statement.claimed < q.ops.size → element q.ops (claim_excess q c) ≡ 0 → IsTrueClaim q c
   unfolding excess IsTrueOf true_value inner
   no_excess c low none =
-      let v = true_opening q c in
+      let v = true_claim_value q c in
       let whole : element q.ops v ≡ v = element-sum q.ops is.field.ring (2 ^ q.variables) _ in
       let same = same-from_minus q.ops is.field.ring c.statement.claimed v (sym (element-plus q.ops is.field.ring c.statement.claimed (opposite q.ops v)) ∙ none) in
       sym whole ∙ sym same ∙ element-small q.ops is.field.ring c.statement.claimed low
 
-  zero_excess : (c : Opening) → IsOpeningTrue q c → excess_of q c ≡ 0
+  zero_excess : (c : TableClaim) → IsTrueClaim q c → claim_excess q c ≡ 0
   unfolding excess IsTrueOf
-  zero_excess c right = minus-same q.ops is.field.ring c.statement.claimed (true_opening q c) (sym right)
+  zero_excess c right = minus-same q.ops is.field.ring c.statement.claimed (true_claim_value q c) (sym right)
 
-  none-exceeds : (claims : List Opening) → All (λ c. c < q.ops.size) (claimed_values (statements_of claims)) → AllZero q.ops (map (excess_of q) claims) → AllOpeningsTrue q claims
+  none-exceeds : (claims : List TableClaim) → All (λ c. c < q.ops.size) (claimed_values (statements_of claims)) → AllZero q.ops (map (claim_excess q) claims) → AllClaimsTrue q claims
   none-exceeds [] low zeros = tt
   none-exceeds (c ∷ claims) low zeros = (no_excess c (low 0 0 (omega arith)) zeros.0, none-exceeds claims (λ k d less. low (suc k) d (omega (arith, less))) zeros.1)
 
-  none-false : (i : ℕ) (claims : List Opening) → AllOpeningsTrue q claims → first_false_opening q i claims ≡ None
-  unfolding first_false_opening is_true_of IsTrueOf
+  none-false : (i : ℕ) (claims : List TableClaim) → AllClaimsTrue q claims → first_false_table_claim q i claims ≡ None
+  unfolding first_false_table_claim is_true_of IsTrueOf
   none-false i [] all = refl
   none-false i (c ∷ claims) all =
-      ap (λ b. if b then first_false_opening q (suc i) claims else Some (record { statement = i; claimed = c.statement.claimed; actual = true_opening q c })) (eq-eqb _ _ all.0)
+      ap (λ b. if b then first_false_table_claim q (suc i) claims else Some (record { statement = i; claimed = c.statement.claimed; actual = true_claim_value q c })) (eq-eqb _ _ all.0)
       ∙ none-false (suc i) claims all.1
 
-  pub all-true : (i : ℕ) (claims : List Opening) → first_false_opening q i claims ≡ None → AllOpeningsTrue q claims
-  unfolding first_false_opening is_true_of IsTrueOf
+  pub all-true : (i : ℕ) (claims : List TableClaim) → first_false_table_claim q i claims ≡ None → AllClaimsTrue q claims
+  unfolding first_false_table_claim is_true_of IsTrueOf
   all-true i [] none = tt
   all-true i (c ∷ claims) none =
-      let rest = first_false_opening q (suc i) claims in
-      let here : FalseClaim = record { statement = i; claimed = c.statement.claimed; actual = true_opening q c } in
+      let rest = first_false_table_claim q (suc i) claims in
+      let here : FalseClaim = record { statement = i; claimed = c.statement.claimed; actual = true_claim_value q c } in
       ⊎_elim
       (λ same. (same, all-true (suc i) claims (sym (ap (λ b. if b then rest else Some here) (eq-eqb _ _ same)) ∙ none)))
       (λ other. let bad : Some here ≡ None = sym (ap (λ b. if b then rest else Some here) (ne_eqb _ _ other)) ∙ none in cc)
-      (cases_eq (true_opening q c) c.statement.claimed)
+      (cases_eq (true_claim_value q c) c.statement.claimed)
 
-  zero-where : (claims : List Opening) (i : ℕ) (c : Opening) → slice_get claims i ≡ Some c → IsOpeningTrue q c → slice_get (map (excess_of q) claims) i ≡ Some 0
+  zero-where : (claims : List TableClaim) (i : ℕ) (c : TableClaim) → slice_get claims i ≡ Some c → IsTrueClaim q c → slice_get (map (claim_excess q) claims) i ≡ Some 0
   zero-where [] i c e right = cc
-  zero-where (d ∷ claims) zero c e right = let same : d ≡ c = cc in ap (λ x. Some (excess_of q x)) same ∙ ap (λ x. Some x) (zero_excess c right)
+  zero-where (d ∷ claims) zero c e right = let same : d ≡ c = cc in ap (λ x. Some (claim_excess q x)) same ∙ ap (λ x. Some x) (zero_excess c right)
   zero-where (d ∷ claims) (suc i) c e right = zero-where claims i c e right
 
-  true-where : (claims : List Opening) → All (λ c. c < q.ops.size) (claimed_values (statements_of claims)) → (i : ℕ) (c : Opening) → slice_get claims i ≡ Some c →
-      slice_get (map (excess_of q) claims) i ≡ Some 0 → IsOpeningTrue q c
+  true-where : (claims : List TableClaim) → All (λ c. c < q.ops.size) (claimed_values (statements_of claims)) → (i : ℕ) (c : TableClaim) → slice_get claims i ≡ Some c →
+      slice_get (map (claim_excess q) claims) i ≡ Some 0 → IsTrueClaim q c
   true-where [] low i c e none = cc
   true-where (d ∷ claims) low zero c e none =
       let same : d ≡ c = cc in
-      let at : excess_of q d ≡ 0 = cc in
-      subst (IsOpeningTrue q) same (no_excess d (low 0 0 (omega arith)) (ap (element q.ops) at ∙ element-zero q.ops is.field.ring))
+      let at : claim_excess q d ≡ 0 = cc in
+      subst (IsTrueClaim q) same (no_excess d (low 0 0 (omega arith)) (ap (element q.ops) at ∙ element-zero q.ops is.field.ring))
   true-where (d ∷ claims) low (suc i) c e none = true-where claims (λ k n less. low (suc k) n (omega (arith, less))) i c e none
 
   -- ---- the stage
 
-  module _ (came : SentOpenings) (count : length came.rounds ≡ q.variables) (wide : AllSend IsPair (messages_of came.rounds)) where
+  module _ (came : SentOpenings) (count : length came.rounds ≡ q.variables) (wide : All (λ values. length values ≡ 2) (messages_of came.rounds)) where
     rs : List ℕ
-    rs = opening_challenges q came.rounds
+    rs = openings_challenges q came.rounds
 
     residual : ℕ
-    residual = claim_along (next_claim evaluation q.ops) (opening_claim q) (messages_of came.rounds) (opening_challenges q came.rounds)
+    residual = claim_along (next_claim evaluation q.ops) (merging_claim q) (messages_of came.rounds) (openings_challenges q came.rounds)
 
-    is-stage : IsStage q.ops IsPair (opening_stage q came.rounds)
+    is-stage : IsStage q.ops (openings_stage q came.rounds)
     is-stage = record {
-      certifies = merged-certifies q.ops is.field (weighted_tables q);
-      sends = wide;
+      sound = merged-sound q.ops is.field (weighted_tables q);
+      pairs = wide;
       count = length-messages came.rounds ∙ sym (length-challenges _ _ _ _ came.rounds);
       small = element-powers_sum q.ops is.field.ring (merging_challenge q) 0 (claimed_values (statements_of q.claims));
       true_is = ap (merged_claim q.ops (weighted_tables q) []) (sym (length-messages came.rounds ∙ count));
       at = ap (λ p. poly_at q.ops p (merging_challenge q)) (excesses-are q.claims)
-          ∙ excess-powers q.ops is.field.ring (merging_challenge q) (claimed_values (statements_of q.claims)) (map (true_opening q) q.claims) (claimed-count q.claims)
-          ∙ ap (minus q.ops (opening_claim q)) truth-is;
+          ∙ excess-powers q.ops is.field.ring (merging_challenge q) (claimed_values (statements_of q.claims)) (map (true_claim_value q) q.claims) (claimed-count q.claims)
+          ∙ ap (minus q.ops (merging_claim q)) claims-sum;
     }
 
     matches : Bool
-    matches = openings_match q (claim_along (next_claim evaluation q.ops) (opening_claim q) (messages_of came.rounds) (opening_challenges q came.rounds)) came.openings (opening_challenges q came.rounds)
+    matches =
+        openings_match q (claim_along (next_claim evaluation q.ops) (merging_claim q) (messages_of came.rounds) (openings_challenges q came.rounds)) came.openings
+        (openings_challenges q came.rounds)
 
-    right-is : matches ≡ true → residual_in (opening_stage q came.rounds) ≡ true_residual_in (opening_stage q came.rounds)
+    right-is : matches ≡ true → stage_residual (openings_stage q came.rounds) ≡ true_stage_residual (openings_stage q came.rounds)
     unfolding matches openings_match
     right-is matched =
-        let zs = opening_challenges q came.rounds in
+        let zs = openings_challenges q came.rounds in
         let ps = weighted_tables q in
         let both = both-true _ _ matched in
-        let openings : came.openings ≡ values_at q.ops ps zs = same-list came.openings (values_at q.ops ps zs) both.1 in
-        eqb-true _ _ both.0 ∙ ap (λ l. products_sum q.ops l (weights_values_at q.ops ps zs)) openings ∙ products-merged q.ops is.field.ring ps zs
+        let openings : came.openings ≡ values_at q.ops ps zs = same_text came.openings (values_at q.ops ps zs) (sym both.1) in
+        eqb-true _ _ both.0 ∙ ap (λ l. products_sum q.ops l (weight_values_at q.ops ps zs)) openings ∙ products-merged q.ops is.field.ring ps zs
         ∙ sym (merged-end q.ops is.field.ring ps zs)
 
-    some-is : (first_false_opening q 0 q.claims ≡ None → ⊥) → AllZero q.ops (opening_stage q came.rounds).excess → ⊥
+    some-is : (first_false_table_claim q 0 q.claims ≡ None → ⊥) → AllZero q.ops (openings_stage q came.rounds).excess → ⊥
     some-is wrong zeros = wrong (none-false 0 q.claims (none-exceeds q.claims is.below zeros))
 
-    certified-by : (l : Luck) → IsCertifiedIn q.ops (opening_stage q came.rounds) l → IsOpeningCertified q (opening_figures q came) l
-    unfolding opening_figures
+    certified-by : (l : Luck) → IsCertifiedIn q.ops (openings_stage q came.rounds) l → IsCertifiedMerge q (openings_figures q came) l
+    unfolding openings_figures
     certified-by (in_batch polynomial roots) c = record {
       certificate = c.0;
       are = c.1;
@@ -260,45 +253,45 @@ module _ (q : OpeningCase) (is : IsOpeningCase q) where
     }
     certified-by (in_round round polynomial roots) c = c
 
-    pub certified-openings : CertifiesOpenings q (opening_figures q came)
-    unfolding opening_figures matches
+    pub certified-openings : CertifiesOpenings q (openings_figures q came)
+    unfolding openings_figures matches
     certified-openings = record {
-      named = λ l e. certified-by l (named-certified q.ops is.field (opening_stage q came.rounds) is-stage matches (first_false_opening q 0 q.claims) right-is some-is l e);
+      named = λ l e. certified-by l (named-certified q.ops is.field (openings_stage q came.rounds) is-stage matches (first_false_table_claim q 0 q.claims) right-is some-is l e);
       no_other = λ right wrong.
-          one-named q.ops is.field (opening_stage q came.rounds) is-stage matches (first_false_opening q 0 q.claims) right-is some-is right
+          one-named q.ops is.field (openings_stage q came.rounds) is-stage matches (first_false_table_claim q 0 q.claims) right-is some-is right
           (λ none. wrong (all-true 0 q.claims none));
     }
 
   -- ---- what is built
 
-  true-values : (claims : List Opening) → AllOpeningsTrue q claims → map (true_opening q) claims ≡ claimed_values (statements_of claims)
+  true-values : (claims : List TableClaim) → AllClaimsTrue q claims → map (true_claim_value q) claims ≡ claimed_values (statements_of claims)
   unfolding IsTrueOf
   true-values [] all = refl
-  true-values (c ∷ claims) all = ap (λ v. v ∷ map (true_opening q) claims) all.0 ∙ ap (λ l. c.statement.claimed ∷ l) (true-values claims all.1)
+  true-values (c ∷ claims) all = ap (λ v. v ∷ map (true_claim_value q) claims) all.0 ∙ ap (λ l. c.statement.claimed ∷ l) (true-values claims all.1)
 
-  pub holds-openings : (came : SentOpenings) → AreOpeningsBuilt q came → AllOpeningsTrue q q.claims → (opening_figures q came).finding ≡ holds
-  unfolding opening_figures openings_match
+  pub holds-openings : (came : SentOpenings) → AreBuiltOpenings q came → AllClaimsTrue q q.claims → (openings_figures q came).finding ≡ holds
+  unfolding openings_figures openings_match
   holds-openings came built all =
-      let zs = opening_challenges q came.rounds in
+      let zs = openings_challenges q came.rounds in
       let ps = weighted_tables q in
       let gamma = merging_challenge q in
-      let residual = claim_along (next_claim evaluation q.ops) (opening_claim q) (messages_of came.rounds) zs in
-      let claim : opening_claim q ≡ merged_claim q.ops ps [] q.variables = ap (powers_sum q.ops gamma 0) (sym (true-values q.claims all)) ∙ truth-is in
-      let ends : residual ≡ products_sum q.ops came.openings (weights_values_at q.ops ps zs) =
+      let residual = claim_along (next_claim evaluation q.ops) (merging_claim q) (messages_of came.rounds) zs in
+      let claim : merging_claim q ≡ merged_claim q.ops ps [] q.variables = ap (powers_sum q.ops gamma 0) (sym (true-values q.claims all)) ∙ claims-sum in
+      let ends : residual ≡ products_sum q.ops came.openings (weight_values_at q.ops ps zs) =
       ap (λ c. claim_along (next_claim evaluation q.ops) c (messages_of came.rounds) zs) claim
-      ∙ honest_along (merged_course q.ops ps) (honest_merged q.ops ps) (merged-keeps q.ops is.field.ring ps)
-      q.channel (begun_behind q.channel (behind_merging q) q.variables) [] q.variables came.rounds built.count built.built
+      ∙ honest-end_true (merged_course q.ops ps) (honest_merged q.ops ps) (merged-keeps q.ops is.field.ring ps)
+      q.channel (seeded_history q.channel (after_merging q) q.variables) [] q.variables came.rounds built.count built.built
       ∙ merged-end q.ops is.field.ring ps zs ∙ sym (products-merged q.ops is.field.ring ps zs)
-      ∙ ap (λ l. products_sum q.ops l (weights_values_at q.ops ps zs)) (sym built.openings) in
-      let same : is_same_list came.openings (values_at q.ops ps zs) ≡ true =
-      ap (λ l. is_same_list l (values_at q.ops ps zs)) built.openings ∙ list-same (values_at q.ops ps zs) in
-      holds_where _ (first_false_opening q 0 q.claims) (stage_luck q.ops (opening_stage q came.rounds))
-      (ap (λ b. b && is_same_list came.openings (values_at q.ops ps zs)) (eq-eqb _ _ ends) ∙ same)
+      ∙ ap (λ l. products_sum q.ops l (weight_values_at q.ops ps zs)) (sym built.openings) in
+      let same : pointwise nat_eq came.openings (values_at q.ops ps zs) ≡ true =
+      ap (λ l. pointwise nat_eq l (values_at q.ops ps zs)) built.openings ∙ list-same (values_at q.ops ps zs) in
+      holds_where _ (first_false_table_claim q 0 q.claims) (stage_luck q.ops (openings_stage q came.rounds))
+      (ap (λ b. b && pointwise nat_eq came.openings (values_at q.ops ps zs)) (eq-eqb _ _ ends) ∙ same)
       (none-false 0 q.claims all)
 
 -- ---- the transcript
 
-pub history-openings : (q : OpeningCase) (came : SentOpenings) → behind_openings q came ≡ q.history ++ opening_events q came
+pub history-openings : (q : OpeningsCase) (came : SentOpenings) → after_openings q came ≡ q.history ++ openings_events q came
 history-openings q came =
     let E = q.channel.extension in
     let A = sent E (claimed_values (statements_of q.claims)) in

@@ -16,10 +16,10 @@ use Rattle.sc_definitions.specs.Seeds.{eight_bytes, length_prefixed, label_text,
 use Rattle.sc_definitions.specs.Lucky.{excess, in_batch, first_turn}
 use Rattle.sc_verdicts.specs.Findings.{holds, refuted, lucky}
 use Rattle.sc_soundness.specs.Stages.{stage_luck}
-use Rattle.sc_soundness.specs.Pairs.{merged_claim, merged_leading, honest_merged}
+use Rattle.sc_soundness.specs.Merged.{merged_claim, merged_leading, honest_merged}
 use Rattle.sc_soundness.specs.Differences.{first_difference}
 use Rattle.sc_merge_definitions.specs.Matrices.{side_variables, product_entry, product_values, MatmulCase, left_table, right_table, matmul_figures}
-use Rattle.sc_merge_definitions.specs.Openings.{opening_kind, OpeningCase, first_false_opening, weight_on, opening_weights, weighted_tables, products_sum, openings_match, opening_figures, SentOpenings}
+use Rattle.sc_merge_definitions.specs.Openings.{claim_kind, OpeningsCase, first_false_table_claim, weight_on, merging_weights, weighted_tables, products_sum, openings_match, openings_figures, SentOpenings}
 
 -- ---- the product of (1 2, 3 4) and (5 6, 7 8), under the draws 2 and 3
 
@@ -66,14 +66,14 @@ matmul_checked = refl
 
 -- ---- the table 1, 2 at 0 and the table 3, 4 at 1, under the same draws
 
-abbrev opened : ℕ → ℕ → OpeningCase
+abbrev opened : ℕ → ℕ → OpeningsCase
 opened one two = record {
   ops = residues 65537;
   variables = 1;
   tables = rows_of (1 ∷ 2 ∷ []) ∷ rows_of (3 ∷ 4 ∷ []) ∷ [];
   claims =
-      record { table = 0; statement = claims (opening_kind false (0 ∷ [])) one }
-      ∷ record { table = 1; statement = claims (opening_kind false (1 ∷ [])) two } ∷ [];
+      record { table = 0; statement = claims (claim_kind false (0 ∷ [])) one }
+      ∷ record { table = 1; statement = claims (claim_kind false (1 ∷ [])) two } ∷ [];
   channel = channel (scripted_rules (2 ∷ 3 ∷ []) []) own_extension 65537 0;
   history = [];
 }
@@ -83,15 +83,15 @@ came openings = record { rounds = round_of (1 ∷ 1 ∷ []) 0 ∷ []; openings =
 
 openings_built :
     (honest_merged (residues 65537) (weighted_tables (opened 1 4)) [] 0 ≡ 1 ∷ 1 ∷ [])
-    × (opening_figures (opened 1 4) (came (4 ∷ 6 ∷ []))
+    × (openings_figures (opened 1 4) (came (4 ∷ 6 ∷ []))
     ≡ record { claim = 9; messages = (1 ∷ 1 ∷ []) ∷ []; witnesses = []; openings = 4 ∷ 6 ∷ []; challenges = 3 ∷ []; residual = 28; weights = 65535 ∷ 6 ∷ []; finding = holds })
-unfolding opening_figures openings_match products_sum opening_weights weight_on weight_of first_false_opening is_true_of true_value merged_claim merged_leading honest_merged stage_luck first_turn claim_along next_claim sent_polynomial sent_pair true_claim placed_entry inner slope slow_leading poly_at value weight digits rows_of sum_below powers_sum power draws extension_draw sent before_draw round_events challenge quadratic_seed seed_words nibbles separator_bytes step_bytes length_bytes length_prefixed eight_bytes protocol_name label_text plus times opposite
+unfolding openings_figures openings_match products_sum merging_weights weight_on weight_of first_false_table_claim is_true_of true_value merged_claim merged_leading honest_merged stage_luck first_turn claim_along next_claim sent_polynomial sent_pair true_claim placed_entry inner slope slow_leading poly_at value weight digits rows_of sum_below powers_sum power draws extension_draw sent before_draw round_events challenge quadratic_seed seed_words nibbles separator_bytes step_bytes length_bytes length_prefixed eight_bytes protocol_name label_text plus times opposite
 openings_built = (refl, refl)
 
 -- two false values, 3 and 3; and openings that are not the tables' values, though 7 and 7 leave the same sum
 openings_checked :
-    ((opening_figures (opened 3 3) (came (4 ∷ 6 ∷ []))).finding ≡ lucky (in_batch (2 ∷ 65536 ∷ []) 1))
-    × ((opening_figures (opened 3 3) (came (4 ∷ 7 ∷ []))).finding ≡ refuted)
-    × ((opening_figures (opened 3 3) (came (7 ∷ 7 ∷ []))).finding ≡ refuted)
-unfolding opening_figures openings_match products_sum opening_weights weight_on weight_of first_false_opening is_true_of true_value excess merged_claim stage_luck first_turn claim_along next_claim sent_polynomial sent_pair true_claim placed_entry inner root_count count_below poly_at value weight digits rows_of sum_below powers_sum power draws extension_draw sent before_draw round_events challenge quadratic_seed seed_words nibbles separator_bytes step_bytes length_bytes length_prefixed eight_bytes protocol_name label_text plus times opposite
+    ((openings_figures (opened 3 3) (came (4 ∷ 6 ∷ []))).finding ≡ lucky (in_batch (2 ∷ 65536 ∷ []) 1))
+    × ((openings_figures (opened 3 3) (came (4 ∷ 7 ∷ []))).finding ≡ refuted)
+    × ((openings_figures (opened 3 3) (came (7 ∷ 7 ∷ []))).finding ≡ refuted)
+unfolding openings_figures openings_match products_sum merging_weights weight_on weight_of first_false_table_claim is_true_of true_value excess merged_claim stage_luck first_turn claim_along next_claim sent_polynomial sent_pair true_claim placed_entry inner root_count count_below poly_at value weight digits rows_of sum_below powers_sum power draws extension_draw sent before_draw round_events challenge quadratic_seed seed_words nibbles separator_bytes step_bytes length_bytes length_prefixed eight_bytes protocol_name label_text plus times opposite
 openings_checked = (refl, refl, refl)

@@ -5,26 +5,26 @@ use Rattle.sc_definitions.specs.declared.events.Event.{Event}
 use Rattle.sc_definitions.specs.declared.events.Event.TheVariants.{Draw}
 use Rattle.sc_definitions.specs.Ring.{Ops, IsField, IsRingMap, ◌*⟨◌⟩◌, power}
 use Rattle.sc_definitions.specs.Tables.{evaluation, prefix, sum_below, rows_of, value}
+use Rattle.sc_definitions.specs.TwoTables.{TwoTables, true_claim_on}
 use Rattle.sc_definitions.specs.Polynomials.{poly_minus}
-use Rattle.sc_definitions.specs.Rounds.{true_claim, next_claim, claim_along}
+use Rattle.sc_definitions.specs.Rounds.{honest_pair, next_claim, claim_along}
 use Rattle.sc_definitions.specs.Statements.{powers_sum}
 use Rattle.sc_definitions.specs.Interpolation.{first_below}
 use Rattle.sc_definitions.specs.Events.{words, extension_draw}
 use Rattle.sc_definitions.specs.Transcript.{Round, messages_of, rounds_events}
 use Rattle.sc_definitions.specs.Channels.{Channel, IsBuilt, witnesses_of}
 use Rattle.sc_definitions.specs.Seeds.{quadratic_seed}
-use Rattle.sc_definitions.specs.Lucky.{Luck}
-use Rattle.sc_verdicts.specs.Findings.{Finding, lucky}
+use Rattle.sc_definitions.specs.Lucky.{course_on, Luck}
+use Rattle.sc_verdicts.specs.Findings.{Finding, holds, lucky}
 use Rattle.sc_soundness.specs.Stages.{Stage, stage_luck}
-use Rattle.sc_soundness.specs.Pairs.{honest_of_pair, pair_course}
 use Rattle.sc_soundness.specs.Differences.{Difference, first_difference}
-use Rattle.sc_merge_definitions.specs.QuadraticPlays.{begun_behind, challenges_behind, finding_where, IsCertifiedBy}
+use Rattle.sc_merge_definitions.specs.QuadraticPlays.{seeded_history, challenges_after, finding_where, IsCertifiedBy}
 
 -- the most variables that a side has
 abbrev pub most_side_variables : ℕ
 most_side_variables = 7
 
--- the number k of variables of a side of 2^k; one more than the most where there is none
+-- the number k of variables of a side of 2^k; one more than the most where no such k is small enough
 unfoldable pub side_variables : ℕ → ℕ
 side_variables len = first_below (suc most_side_variables) (λ k. len == 2 ^ k)
 
@@ -46,7 +46,7 @@ product_values o left right = map (λ e. product_entry o left right (e / right.c
 -- ---- what is claimed
 
 -- Two matrices and their claimed product, over a base ring whose elements are embedded into the ring of the challenges; and rounds that go over a channel
--- behind a history.
+-- after a history.
 pub record MatmulCase : Type 0 where
   pub base : Ops
   pub ops : Ops
@@ -57,7 +57,8 @@ pub record MatmulCase : Type 0 where
   pub claimed : Matrix
   pub history : List Event
 
--- both rings are fields, and the embedding is a map of rings; the matrices have entries, which are elements of the base, and sides that fit
+-- Both rings are fields, and the embedding is a map of rings; the columns of left are as many as the rows of right, a power of two; the claimed entries are
+-- as many as the product has; and all entries are elements of the base.
 pub record IsMatmulCase (q : MatmulCase) : Type 0 where
   pub base_field : IsField q.base
   pub field : IsField q.ops
@@ -72,31 +73,35 @@ pub record IsMatmulCase (q : MatmulCase) : Type 0 where
 
 -- ---- the claim
 
--- the entries of all three, as they are observed
-abbrev pub observed : MatmulCase → List ℕ
-observed q = q.left.values ++ q.right.values ++ q.claimed.values
+-- the entries of all three matrices, row by row, as they are observed_entries
+abbrev pub observed_entries : MatmulCase → List ℕ
+observed_entries q = q.left.values ++ q.right.values ++ q.claimed.values
 
--- the point, drawn behind them
-abbrev pub point_of_case : MatmulCase → ℕ
-point_of_case q = extension_draw q.channel.rules q.channel.extension (q.history ++ words (observed q))
+-- the point, drawn after them
+abbrev pub drawn_point : MatmulCase → ℕ
+drawn_point q = extension_draw q.channel.rules q.channel.extension (q.history ++ words (observed_entries q))
 
--- the history behind it
-abbrev pub behind_point : MatmulCase → List Event
-behind_point q = q.history ++ words (observed q) ++ replicate q.channel.extension.degree Draw
+-- the history after it
+abbrev pub after_point : MatmulCase → List Event
+after_point q = q.history ++ words (observed_entries q) ++ replicate q.channel.extension.degree Draw
 
 -- the claim on the entries: the claimed ones, each times the point to the power of its place
 abbrev pub entries_claim : MatmulCase → ℕ
-entries_claim q = powers_sum q.ops (point_of_case q) 0 (map q.embedding q.claimed.values)
+entries_claim q = powers_sum q.ops (drawn_point q) 0 (map q.embedding q.claimed.values)
 
--- The left matrix with its rows added up, row i times the power of the place where that row begins in the product; and the right one with its columns
--- added up, column j times the power j.
+-- By the place x of the sides that both share: the left matrix with its rows added up, row i times the power of the place where row i of the product begins;
+-- and the right one with its columns added up, column j times the power j.
 unfoldable pub left_table : MatmulCase → ℕ → ℕ
 left_table q x =
-    sum_below q.ops q.left.rows (λ i. power q.ops (point_of_case q) (i * q.right.cols) *⟨ q.ops ⟩ q.embedding (rows_of q.left.values (i * q.left.cols + x)))
+    sum_below q.ops q.left.rows (λ i. power q.ops (drawn_point q) (i * q.right.cols) *⟨ q.ops ⟩ q.embedding (rows_of q.left.values (i * q.left.cols + x)))
 
 unfoldable pub right_table : MatmulCase → ℕ → ℕ
 right_table q x =
-    sum_below q.ops q.right.cols (λ j. power q.ops (point_of_case q) j *⟨ q.ops ⟩ q.embedding (rows_of q.right.values (x * q.right.cols + j)))
+    sum_below q.ops q.right.cols (λ j. power q.ops (drawn_point q) j *⟨ q.ops ⟩ q.embedding (rows_of q.right.values (x * q.right.cols + j)))
+
+-- both tables, of evaluations, where rounds bind the first variable that is left
+abbrev pub matmul_tables : MatmulCase → TwoTables
+matmul_tables q = record { basis = evaluation; order = prefix; table = left_table q; weights = right_table q }
 
 -- how many rounds there are
 abbrev pub inner_variables : MatmulCase → ℕ
@@ -106,26 +111,27 @@ inner_variables q = side_variables q.left.cols
 
 -- their challenges
 abbrev pub matmul_challenges : MatmulCase → List Round → List ℕ
-matmul_challenges q rounds = challenges_behind q.channel (behind_point q) (inner_variables q) rounds
+matmul_challenges q rounds = challenges_after q.channel (after_point q) (inner_variables q) rounds
 
--- the history behind rounds
-abbrev pub behind_rounds : MatmulCase → List Round → List Event
-behind_rounds q rounds = begun_behind q.channel (behind_point q) (inner_variables q) ++ rounds_events q.channel.extension q.channel.bits rounds
+-- the history after rounds
+abbrev pub after_rounds : MatmulCase → List Round → List Event
+after_rounds q rounds = seeded_history q.channel (after_point q) (inner_variables q) ++ rounds_events q.channel.extension q.channel.bits rounds
 
 -- the transcript: the entries and the point's draw, and then the seed, where there are rounds, and the rounds
 abbrev pub matmul_events : MatmulCase → List Round → List Event
 matmul_events q rounds =
-    words (observed q) ++ replicate q.channel.extension.degree Draw ++ words (quadratic_seed q.channel.extension.degree evaluation q.channel.bits (inner_variables q))
+    words (observed_entries q) ++ replicate q.channel.extension.degree Draw
+    ++ words (quadratic_seed q.channel.extension.degree evaluation q.channel.bits (inner_variables q))
     ++ rounds_events q.channel.extension q.channel.bits rounds
 
 -- the claim as a stage, with rounds on it
 abbrev pub matmul_stage : MatmulCase → List Round → Stage
 matmul_stage q rounds = record {
-  drawn = point_of_case q;
+  drawn = drawn_point q;
   excess = poly_minus q.ops (map q.embedding q.claimed.values) (map q.embedding (product_values q.base q.left q.right));
   claim = entries_claim q;
-  truth = true_claim evaluation prefix q.ops (left_table q) (right_table q) [] (inner_variables q);
-  course = pair_course q.ops (left_table q) (right_table q);
+  truth = true_claim_on q.ops (matmul_tables q) [] (inner_variables q);
+  course = course_on q.ops (matmul_tables q);
   messages = messages_of rounds;
   challenges = matmul_challenges q rounds;
 }
@@ -155,7 +161,7 @@ matmul_figures q rounds =
     let left = value q.ops (left_table q) rs in
     let right = value q.ops (right_table q) rs in
     record {
-      point = point_of_case q;
+      point = drawn_point q;
       claim = entries_claim q;
       messages = messages_of rounds;
       witnesses = witnesses_of q.channel.bits rounds;
@@ -167,12 +173,30 @@ matmul_figures q rounds =
     }
 
 -- the rounds that are built
-abbrev pub AreMatmulBuilt : MatmulCase → List Round → Type 0
-AreMatmulBuilt q rounds =
-    IsBuilt (honest_of_pair q.ops (left_table q) (right_table q)) q.channel (begun_behind q.channel (behind_point q) (inner_variables q)) [] (inner_variables q) rounds
+abbrev pub AreBuiltRounds : MatmulCase → List Round → Type 0
+AreBuiltRounds q rounds =
+    IsBuilt (honest_pair evaluation prefix q.ops (left_table q) (right_table q)) q.channel (seeded_history q.channel (after_point q) (inner_variables q)) []
+    (inner_variables q) rounds
 
 -- A challenge that is named lucky is certified, the point by a coefficient for each entry; and where the residual is the product of the two values although
 -- an entry is false, one is named.
 pub record CertifiesMatmul (q : MatmulCase) (f : MatmulFigures) : Type 0 where
   pub named : (l : Luck) → f.finding ≡ lucky l → IsCertifiedBy q.ops f.point (length q.claimed.values) f.challenges l
   pub no_other : f.residual ≡ f.left *⟨ q.ops ⟩ f.right → (q.claimed.values ≡ product_values q.base q.left q.right → ⊥) → (l : Luck) × (f.finding ≡ lucky l)
+
+-- ---- the laws
+
+-- The claim on the true entries is the sum over the two tables.
+abbrev pub EntriesSumTables : Type 0
+EntriesSumTables = (q : MatmulCase) → IsMatmulCase q →
+    powers_sum q.ops (drawn_point q) 0 (map q.embedding (product_values q.base q.left q.right)) ≡ true_claim_on q.ops (matmul_tables q) [] (inner_variables q)
+
+-- The figures of whatever rounds came, as many as there should be, of two values each, certify themselves.
+abbrev pub MatmulsAreCertified : Type 0
+MatmulsAreCertified = (q : MatmulCase) → IsMatmulCase q → (rounds : List Round) → length rounds ≡ inner_variables q →
+    All (λ values. length values ≡ 2) (messages_of rounds) → CertifiesMatmul q (matmul_figures q rounds)
+
+-- Rounds that are built on true entries show that they hold.
+abbrev pub BuiltMatmulsHold : Type 0
+BuiltMatmulsHold = (q : MatmulCase) → IsMatmulCase q → (rounds : List Round) → length rounds ≡ inner_variables q → AreBuiltRounds q rounds →
+    q.claimed.values ≡ product_values q.base q.left q.right → (matmul_figures q rounds).finding ≡ holds
