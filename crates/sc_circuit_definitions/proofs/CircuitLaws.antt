@@ -32,7 +32,7 @@ use Rattle.sc_circuit_definitions.specs.declared.gate.Gate.{Gate}
 use Rattle.sc_circuit_definitions.specs.Circuits.{gate_value, top_values, layer_variables, IsWidth, top_width, PlacesBelow, IsCircuit, weighted_sum}
 use Rattle.sc_circuit_definitions.specs.LayerRounds.{layer_sum, left_at, right_at, layer_at, layer_claim, honest_layer, layer_course}
 use Rattle.sc_circuit_definitions.specs.CircuitPlays.{CircuitCase, IsCircuitCase, images_of, LayerStart, SentLayer, output_challenge, first_start, layer_prelude, rounds_over, before_rounds, play_of, merge_of, next_start, plays_from, end_from, merges_from, events_from, circuit_events, AreShaped, IsBuiltLayer, AreBuiltLayers}
-use Rattle.sc_circuit_definitions.specs.CircuitFindings.{agrees, inputs_agree, first_disagreement, stage_of, stage_of_inputs, stages_of, holds, refuted, lucky, named, finding_by, false_output, circuit_figures, drawn_for, coefficients_for, IsCertified, CertifiesCircuit}
+use Rattle.sc_circuit_definitions.specs.CircuitFindings.{agrees, inputs_agree, first_disagreement, layer_stage, inputs_stage, circuit_stages, holds, refuted, lucky, named, finding_by, false_output, circuit_figures, drawn_for, coefficients_for, IsCircuitCertified, CertifiesCircuit}
 use Rattle.sc_circuit_definitions.proofs.LayerRoundLaws.{claim-end, layer-sound, layer-keeps}
 use Rattle.sc_circuit_definitions.proofs.LayerTruthLaws.{layer-truth, powers-weighted, merged-weighted}
 
@@ -120,7 +120,7 @@ module _ (q : CircuitCase) (is : IsCircuitCase q) where
     drawn-count count = length-challenges _ _ _ _ c.rounds ∙ count
 
     is-stage : IsStart (gates ∷ ls) at → length c.rounds ≡ rounds_over q ls → All (λ values. length values ≡ 2) (messages_of c.rounds) →
-        IsStage q.ops (stage_of q.ops (play_of q gates ls at c))
+        IsStage q.ops (layer_stage q.ops (play_of q gates ls at c))
     is-stage start count wide = record {
       sound = layer-sound q.ops is.field (play_of q gates ls at c).tables;
       pairs = wide;
@@ -164,7 +164,7 @@ module _ (q : CircuitCase) (is : IsCircuitCase q) where
     same_value x y zero_is = same-from_minus q.ops is.field.ring x y (sym (element-plus q.ops is.field.ring x (opposite q.ops y)) ∙ zero_is)
 
     ends-true : agrees q.ops (play_of q gates ls at c) ≡ true → AllZero q.ops (next_start q ls (play_of q gates ls at c)).excess →
-        stage_residual (stage_of q.ops (play_of q gates ls at c)) ≡ true_stage_residual (stage_of q.ops (play_of q gates ls at c))
+        stage_residual (layer_stage q.ops (play_of q gates ls at c)) ≡ true_stage_residual (layer_stage q.ops (play_of q gates ls at c))
     unfolding agrees layer_sum layer_at
     ends-true agreed zeros =
         let p = play_of q gates ls at c in
@@ -202,7 +202,7 @@ module _ (q : CircuitCase) (is : IsCircuitCase q) where
   -- ---- all layers
 
   stages-from : (ls : List (List Gate)) (came : List SentLayer) (at : LayerStart) → List Stage
-  stages-from ls came at = stages_of q (plays_from q ls came at) (end_from q ls came at)
+  stages-from ls came at = circuit_stages q (plays_from q ls came at) (end_from q ls came at)
 
   -- the stages from a start on: the first of them, and the others, which are linked
   record AreStages (stages : List Stage) (at : LayerStart) : Type 0 where
@@ -220,7 +220,7 @@ module _ (q : CircuitCase) (is : IsCircuitCase q) where
       let truth = weighted_sum q.ops at.weights (images_of q []) in
       let right = if_none (at.claim == truth) None i agreed in
       record {
-        first = stage_of_inputs q at;
+        first = inputs_stage q at;
         others = [];
         are = refl;
         stage = record {
@@ -243,9 +243,9 @@ module _ (q : CircuitCase) (is : IsCircuitCase q) where
       let here = if_none (agrees q.ops p) rest i agreed in
       let later = chain (suc i) ls came next fits.2 shaped.2 (next-is gates ls fits at c shaped.0) here.1 in
       record {
-        first = stage_of q.ops p;
+        first = layer_stage q.ops p;
         others = later.first ∷ later.others;
-        are = ap (λ l. stage_of q.ops p ∷ l) later.are;
+        are = ap (λ l. layer_stage q.ops p ∷ l) later.are;
         stage = is-stage gates ls fits at c start shaped.0 shaped.1;
         excess = refl;
         linked = (later.stage, λ wrong zeros. wrong (ends-true gates ls fits at c here.0 (subst (AllZero q.ops) later.excess zeros)), later.linked);
@@ -304,7 +304,7 @@ module _ (q : CircuitCase) (is : IsCircuitCase q) where
       let start = first_start q in
       let plays = plays_from q q.layers came start in
       let end = end_from q q.layers came start in
-      let luck = stages_luck q.ops 0 (stages_of q plays end) in
+      let luck = stages_luck q.ops 0 (circuit_stages q plays end) in
       let true_claim : start.claim ≡ weighted_sum q.ops start.weights (images_of q q.layers) =
       ap (λ xs. powers_sum q.ops gamma 0 (map q.embedding xs)) right ∙ sym (powers-weighted q.ops is.field.ring gamma (images_of q q.layers)) in
       ap (λ d. finding_by d (false_output q) luck) (agreed-built 0 q.layers came start is.circuit true_claim built)
@@ -344,14 +344,14 @@ module _ (q : CircuitCase) where
       subst (IsLocated ls came at 0) (same_Some t s e) (record { drawn = ap (λ x. Some x) (sym drawn); coefficients = ap length excess; challenges = challenges })
 
   located : (ls : List (List Gate)) (came : List SentLayer) (at : LayerStart) (place : ℕ) (s : Stage) → AreShaped q ls came →
-      slice_get (stages_of q (plays_from q ls came at) (end_from q ls came at)) place ≡ Some s → IsLocated ls came at place s
+      slice_get (circuit_stages q (plays_from q ls came at) (end_from q ls came at)) place ≡ Some s → IsLocated ls came at place s
   unfolding challenge_lists
-  located [] [] at zero s shaped e = here_is [] [] at (stage_of_inputs q at) s e refl refl (inl refl)
+  located [] [] at zero s shaped e = here_is [] [] at (inputs_stage q at) s e refl refl (inl refl)
   located [] [] at (suc place) s shaped e = cc
   located [] (c ∷ came) at place s shaped e = absurd shaped
   located (gates ∷ ls) [] at place s shaped e = absurd shaped
   located (gates ∷ ls) (c ∷ came) at zero s shaped e =
-      here_is (gates ∷ ls) (c ∷ came) at (stage_of q.ops (play_of q gates ls at c)) s e refl refl (inr refl)
+      here_is (gates ∷ ls) (c ∷ came) at (layer_stage q.ops (play_of q gates ls at c)) s e refl refl (inr refl)
   located (gates ∷ ls) (c ∷ came) at (suc place) s shaped e =
       let next = next_start q ls (play_of q gates ls at c) in
       let later = located ls came next place s shaped.2 e in
@@ -393,7 +393,7 @@ module _ (q : CircuitCase) (is : IsCircuitCase q) where
   length-first (suc i) = refl
 
   certified_luck : (came : List SentLayer) (place : ℕ) (s : Stage) (l : Luck) → IsLocated q q.layers came (first_start q) place s → IsCertifiedIn q.ops s l →
-      IsCertified q (circuit_figures q came) place l
+      IsCircuitCertified q (circuit_figures q came) place l
   unfolding circuit_figures challenge_lists
   certified_luck came place s (in_batch polynomial roots) at certified = record {
     challenge = s.drawn;
@@ -416,7 +416,7 @@ module _ (q : CircuitCase) (is : IsCircuitCase q) where
       let end = end_from q q.layers came start in
       let d = first_disagreement q.ops 0 plays (inputs_agree q end) in
       let fault = false_output q in
-      let luck = stages_luck q.ops 0 (stages_of q plays end) in
+      let luck = stages_luck q.ops 0 (circuit_stages q plays end) in
       let long : length q.outputs ≡ length V = is.outputs_count ∙ sym (values-length q is q.layers) in
       record {
         named = λ l e.
@@ -426,8 +426,8 @@ module _ (q : CircuitCase) (is : IsCircuitCase q) where
             let same : found.0 ≡ l = same_Some _ _ (sym found.1 ∙ by.2) in
             let of = found.2 in
             let number : of.place ≡ found.0.stage = sym (of.number ∙ omega arith) in
-            subst (λ (m : StageLuck). IsCertified q (circuit_figures q came) m.stage m.luck) same
-            (subst (λ n. IsCertified q (circuit_figures q came) n found.0.luck) number
+            subst (λ (m : StageLuck). IsCircuitCertified q (circuit_figures q came) m.stage m.luck) same
+            (subst (λ n. IsCircuitCertified q (circuit_figures q came) n found.0.luck) number
             (certified_luck came of.place of.stage found.0.luck (located q q.layers came start of.place of.stage shaped of.is) of.certified));
         no_other = λ agreed wrong.
             let none = finds_none d fault luck agreed in

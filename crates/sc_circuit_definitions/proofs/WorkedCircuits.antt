@@ -49,7 +49,10 @@ built :
     × ((circuit_figures (over (residues 65537) (15 ∷ [])) (sends (15 ∷ 65502 ∷ []) (0 ∷ 65439 ∷ []))).challenges ≡ (2 ∷ 3 ∷ []) ∷ [])
     × ((circuit_figures (over (residues 65537) (15 ∷ [])) (sends (15 ∷ 65502 ∷ []) (0 ∷ 65439 ∷ []))).merges ≡ 4 ∷ [])
     × ((circuit_figures (over (residues 65537) (15 ∷ [])) (sends (15 ∷ 65502 ∷ []) (0 ∷ 65439 ∷ []))).last ≡ 43)
-unfolding circuit_figures honest_layer layer_round layer_line part_line layer_variables first_below is_gate_at gate_weights gate_value merged_weight node_values poly_at poly_plus poly_scaled poly_times poly_sum value weight digits rows_of sum_below powers_sum power draws extension_draw sent before_draw round_events challenge degree_seed seed_words nibbles separator_bytes step_bytes length_bytes length_prefixed eight_bytes protocol_name label_text plus times opposite
+unfolding circuit_figures honest_layer layer_round layer_line part_line layer_variables first_below is_gate_at gate_weights gate_value merged_weight
+    node_values poly_at poly_plus poly_scaled poly_times poly_sum value weight digits rows_of sum_below powers_sum power draws extension_draw sent
+    before_draw round_events challenge degree_seed seed_words nibbles separator_bytes step_bytes length_bytes length_prefixed eight_bytes protocol_name
+    label_text plus times opposite
 built = (refl, refl, refl, refl, refl, refl)
 
 -- Modulo 17 they hold of the output 15. Of the output 16, which they claim falsely, round 0 turns the claim true at the challenge 2, where 2 X - X^2 vanishes,
@@ -58,5 +61,9 @@ found :
     ((circuit_figures (over (residues 17) (15 ∷ [])) (sends (15 ∷ 16 ∷ []) (0 ∷ 4 ∷ []))).finding ≡ holds)
     × ((circuit_figures (over (residues 17) (16 ∷ [])) (sends (15 ∷ 16 ∷ []) (0 ∷ 4 ∷ []))).finding ≡ lucky (record { stage = 0; luck = in_round 0 (0 ∷ 2 ∷ 16 ∷ []) 2 }))
     × ((circuit_figures (over (residues 17) (16 ∷ [])) (record { rounds = round_of (15 ∷ 16 ∷ []) 0 ∷ round_of (0 ∷ 4 ∷ []) 0 ∷ []; left = 7; right = 8 } ∷ [])).finding ≡ refuted 0)
-unfolding circuit_figures first_disagreement agrees layer_sum first_difference stages_luck stage_luck first_turn claim_along next_through sent_through through lagrange others inverse root_count count_below poly_minus layer_excess layer_claim layer_at weighted_sum layer_round layer_line part_line layer_variables first_below is_gate_at gate_weights gate_value merged_weight poly_at poly_plus poly_scaled poly_times poly_sum value weight digits rows_of sum_below powers_sum power draws extension_draw sent before_draw round_events challenge degree_seed seed_words nibbles separator_bytes step_bytes length_bytes length_prefixed eight_bytes protocol_name label_text plus times opposite
+unfolding circuit_figures first_disagreement agrees layer_sum first_difference stages_luck stage_luck first_turn claim_along next_through sent_through
+    through lagrange others inverse root_count count_below poly_minus layer_excess layer_claim layer_at weighted_sum layer_round layer_line part_line
+    layer_variables first_below is_gate_at gate_weights gate_value merged_weight poly_at poly_plus poly_scaled poly_times poly_sum value weight digits
+    rows_of sum_below powers_sum power draws extension_draw sent before_draw round_events challenge degree_seed seed_words nibbles separator_bytes
+    step_bytes length_bytes length_prefixed eight_bytes protocol_name label_text plus times opposite
 found = (refl, refl, refl)

@@ -35,8 +35,8 @@ first_disagreement o i (p ∷ ps) inputs = if agrees o p then first_disagreement
 -- ---- lucky challenges
 
 -- a layer as a stage, and the inputs as the last one
-abbrev pub stage_of : Ops → LayerPlay → Stage
-stage_of o p = record {
+abbrev pub layer_stage : Ops → LayerPlay → Stage
+layer_stage o p = record {
   drawn = p.start.drawn;
   excess = p.start.excess;
   claim = p.start.claim;
@@ -46,8 +46,8 @@ stage_of o p = record {
   challenges = p.challenges;
 }
 
-abbrev pub stage_of_inputs : CircuitCase → LayerStart → Stage
-stage_of_inputs q end = record {
+abbrev pub inputs_stage : CircuitCase → LayerStart → Stage
+inputs_stage q end = record {
   drawn = end.drawn;
   excess = end.excess;
   claim = end.claim;
@@ -57,8 +57,8 @@ stage_of_inputs q end = record {
   challenges = [];
 }
 
-abbrev pub stages_of : CircuitCase → List LayerPlay → LayerStart → List Stage
-stages_of q plays end = map (stage_of q.ops) plays ++ stage_of_inputs q end ∷ []
+abbrev pub circuit_stages : CircuitCase → List LayerPlay → LayerStart → List Stage
+circuit_stages q plays end = map (layer_stage q.ops) plays ++ inputs_stage q end ∷ []
 
 -- ---- what is found
 
@@ -105,7 +105,7 @@ circuit_figures q came =
       challenges = map (λ p. p.challenges) plays;
       merges = merges_from q q.layers came start;
       last = end.claim;
-      finding = finding_by (first_disagreement q.ops 0 plays (inputs_agree q end)) (false_output q) (stages_luck q.ops 0 (stages_of q plays end));
+      finding = finding_by (first_disagreement q.ops 0 plays (inputs_agree q end)) (false_output q) (stages_luck q.ops 0 (circuit_stages q plays end));
     }
 
 -- ---- what certifies a lucky challenge
@@ -134,13 +134,13 @@ pub record IsLayerLuck (q : CircuitCase) (f : CircuitFigures) (layer round : ℕ
   pub luck : IsRoundLuck q.ops challenges round polynomial roots
 
 -- a lucky challenge of a layer is certified
-abbrev pub IsCertified : CircuitCase → CircuitFigures → ℕ → Luck → Type 0
-IsCertified q f layer (in_batch polynomial roots) = IsMergeLuck q f layer polynomial roots
-IsCertified q f layer (in_round round polynomial roots) = IsLayerLuck q f layer round polynomial roots
+abbrev pub IsCircuitCertified : CircuitCase → CircuitFigures → ℕ → Luck → Type 0
+IsCircuitCertified q f layer (in_batch polynomial roots) = IsMergeLuck q f layer polynomial roots
+IsCircuitCertified q f layer (in_round round polynomial roots) = IsLayerLuck q f layer round polynomial roots
 
 -- A challenge that is named lucky is certified; and where all layers agree although an output is false, one is named.
 pub record CertifiesCircuit (q : CircuitCase) (f : CircuitFigures) : Type 0 where
-  pub named : (l : StageLuck) → f.finding ≡ lucky l → IsCertified q f l.stage l.luck
+  pub named : (l : StageLuck) → f.finding ≡ lucky l → IsCircuitCertified q f l.stage l.luck
   pub no_other : ((i : ℕ) → f.finding ≡ refuted i → ⊥) → (q.outputs ≡ top_values q.base q.layers q.inputs → ⊥) → (l : StageLuck) × (f.finding ≡ lucky l)
 
 -- ---- the laws

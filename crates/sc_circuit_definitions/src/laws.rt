@@ -3,9 +3,11 @@ ghost use Rattle.std.specs.Prelude.{List, ℕ, ◌^◌};
 ghost use Rattle.sc_definitions.specs.Ring.{Ops, IsRing, IsField};
 ghost use Rattle.sc_circuit_definitions.specs.declared.gate.Gate.{Gate};
 ghost use Rattle.sc_circuit_definitions.specs.Circuits.{PlacesBelow};
-ghost use Rattle.sc_circuit_definitions.specs.LayerRounds.{LayerTables, LayersSumGates, LayerRoundsAre};
+ghost use Rattle.sc_circuit_definitions.specs.LayerRounds.{LayerTables, LayersSumGates};
+ghost use Rattle.sc_circuit_definitions.specs.LayerRounds.{LayerRoundsAre};
 ghost use Rattle.sc_circuit_definitions.specs.LayerPhases.{PhasesMakeRounds, WalksMakePhases};
-ghost use Rattle.sc_circuit_definitions.specs.CircuitFindings.{CircuitsAreCertified, BuiltCircuitsHold};
+ghost use Rattle.sc_circuit_definitions.specs.CircuitFindings.{CircuitsAreCertified};
+ghost use Rattle.sc_circuit_definitions.specs.CircuitFindings.{BuiltCircuitsHold};
 
 /// Laws of the rounds over one layer.
 ///

@@ -69,11 +69,11 @@ module _ (q : MatmulCase) (is : IsMatmulCase q) where
       let g : ℕ → ℕ = λ x. rows_of q.right.values (x * q.right.cols + j) in
       let k = side_variables q.left.cols in
       let pos = size_pos q.base is.base_field.ring in
-      ap (λ n. q.embedding (sum_below q.base n (λ x. times q.base (f x) (g x)))) is.inner_power
+      ap (λ n. q.embedding (sum_below q.base n (λ x. times q.base (f x) (g x)))) is.inner
       ∙ image_inner q.base q.ops is.base_field.ring is.field.ring q.embedding is.embeds k f g
       (λ x. rows-below q.base.size pos q.left.values is.left_below (i * q.left.cols + x))
       (λ x. rows-below q.base.size pos q.right.values is.right_below (x * q.right.cols + j))
-      ∙ ap (λ n. sum_below q.ops n (λ x. times q.ops (q.embedding (f x)) (q.embedding (g x)))) (sym is.inner_power)
+      ∙ ap (λ n. sum_below q.ops n (λ x. times q.ops (q.embedding (f x)) (q.embedding (g x)))) (sym is.inner)
 
   entry-at : (i j : ℕ) → i < q.left.rows → j < q.right.cols → i * q.right.cols + j < q.left.rows * q.right.cols →
       rows_of (map q.embedding (product_values q.base q.left q.right)) (i * q.right.cols + j) ≡ q.embedding (product_entry q.base q.left q.right i j)
@@ -127,7 +127,7 @@ module _ (q : MatmulCase) (is : IsMatmulCase q) where
   unfolding inner bound_by
   entries-sum =
       true-entries
-      ∙ ap (λ n. sum_below q.ops n (λ x. times q.ops (left_table q x) (right_table q x))) is.inner_power
+      ∙ ap (λ n. sum_below q.ops n (λ x. times q.ops (left_table q x) (right_table q x))) is.inner
       ∙ sym (true_claim-inner q.ops is.field.ring evaluation prefix (left_table q) (right_table q) [] (inner_variables q))
 
   -- ---- the stage

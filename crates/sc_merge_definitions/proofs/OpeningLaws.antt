@@ -31,7 +31,7 @@ use Rattle.sc_soundness.proofs.CourseLaws.{honest-end_true, minus-same}
 use Rattle.sc_soundness.proofs.MergedLaws.{merged-sound, merged-keeps, merged-end}
 use Rattle.sc_soundness.proofs.PowerLaws.{excess-powers}
 use Rattle.sc_merge_definitions.specs.QuadraticPlays.{seeded_history}
-use Rattle.sc_merge_definitions.specs.Openings.{TableClaim, statements_of, table_at, OpeningsCase, IsOpeningsCase, true_claim_value, claim_excess, IsTrueClaim, AllClaimsTrue, first_false_table_claim, merging_challenge, after_merging, merging_claim, weight_on, merging_weights, weighted_from, weighted_tables, SentOpenings, openings_challenges, after_openings, openings_events, values_at, weight_values_at, products_sum, openings_stage, openings_match, openings_figures, AreBuiltOpenings, IsCertifiedMerge, CertifiesOpenings}
+use Rattle.sc_merge_definitions.specs.Openings.{TableClaim, statements_of, table_at, OpeningsCase, IsOpeningsCase, true_claim_value, claim_excess, IsTrueClaim, AllClaimsTrue, first_false_table_claim, merging_challenge, after_merging, merging_claim, weight_on, merging_weights, weighted_from, weighted_tables, SentOpenings, openings_challenges, after_openings, openings_events, values_at, weight_values_at, products_sum, openings_stage, openings_match, openings_figures, AreBuiltOpenings, IsOpeningsCertified, CertifiesOpenings}
 use Rattle.sc_merge_definitions.proofs.FindingLaws.{named-certified, one-named, holds_where}
 
 -- ---- lists
@@ -243,7 +243,7 @@ module _ (q : OpeningsCase) (is : IsOpeningsCase q) where
     some-is : (first_false_table_claim q 0 q.claims ≡ None → ⊥) → AllZero q.ops (openings_stage q came.rounds).excess → ⊥
     some-is wrong zeros = wrong (none-false 0 q.claims (none-exceeds q.claims is.below zeros))
 
-    certified-by : (l : Luck) → IsCertifiedIn q.ops (openings_stage q came.rounds) l → IsCertifiedMerge q (openings_figures q came) l
+    certified-by : (l : Luck) → IsCertifiedIn q.ops (openings_stage q came.rounds) l → IsOpeningsCertified q (openings_figures q came) l
     unfolding openings_figures
     certified-by (in_batch polynomial roots) c = record {
       certificate = c.0;

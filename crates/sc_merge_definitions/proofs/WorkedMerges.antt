@@ -44,7 +44,10 @@ matmul_built :
     × (honest_pair evaluation prefix (residues 65537) (left_table (product (19 ∷ 22 ∷ 43 ∷ 50 ∷ []))) (right_table (product (19 ∷ 22 ∷ 43 ∷ 50 ∷ []))) [] 0 ≡ 221 ∷ 30 ∷ [])
     × (matmul_figures (product (19 ∷ 22 ∷ 43 ∷ 50 ∷ [])) sent_once
     ≡ record { point = 2; claim = 635; messages = (221 ∷ 30 ∷ []) ∷ []; witnesses = []; challenges = 3 ∷ []; residual = 980; left = 28; right = 35; finding = holds })
-unfolding matmul_figures honest_pair side_variables first_below product_entry product_values left_table right_table first_difference stage_luck first_turn claim_along next_claim sent_polynomial sent_pair true_claim placed_entry inner slope slow_leading poly_at poly_minus value weight digits rows_of sum_below powers_sum power draws extension_draw sent before_draw round_events challenge quadratic_seed seed_words nibbles separator_bytes step_bytes length_bytes length_prefixed eight_bytes protocol_name label_text plus times opposite
+unfolding matmul_figures honest_pair side_variables first_below product_entry product_values left_table right_table first_difference stage_luck
+    first_turn claim_along next_claim sent_polynomial sent_pair true_claim placed_entry inner slope slow_leading poly_at poly_minus value weight digits
+    rows_of sum_below powers_sum power draws extension_draw sent before_draw round_events challenge quadratic_seed seed_words nibbles separator_bytes
+    step_bytes length_bytes length_prefixed eight_bytes protocol_name label_text plus times opposite
 matmul_built = (refl, refl, refl)
 
 -- two false entries whose weights make up for each other: the point was lucky, where 2 - X vanishes
@@ -61,7 +64,10 @@ matmul_checked :
       right = 35;
       finding = lucky (in_batch (2 ∷ 65536 ∷ 0 ∷ 0 ∷ []) 1);
     }
-unfolding matmul_figures side_variables first_below product_entry product_values left_table right_table first_difference stage_luck first_turn claim_along next_claim sent_polynomial sent_pair true_claim placed_entry inner slope slow_leading root_count count_below poly_at poly_minus value weight digits rows_of sum_below powers_sum power draws extension_draw sent before_draw round_events challenge quadratic_seed seed_words nibbles separator_bytes step_bytes length_bytes length_prefixed eight_bytes protocol_name label_text plus times opposite
+unfolding matmul_figures side_variables first_below product_entry product_values left_table right_table first_difference stage_luck first_turn
+    claim_along next_claim sent_polynomial sent_pair true_claim placed_entry inner slope slow_leading root_count count_below poly_at poly_minus value
+    weight digits rows_of sum_below powers_sum power draws extension_draw sent before_draw round_events challenge quadratic_seed seed_words nibbles
+    separator_bytes step_bytes length_bytes length_prefixed eight_bytes protocol_name label_text plus times opposite
 matmul_checked = refl
 
 -- ---- the table 1, 2 at 0 and the table 3, 4 at 1, under the same draws
@@ -85,7 +91,10 @@ openings_built :
     (honest_merged (residues 65537) (weighted_tables (opened 1 4)) [] 0 ≡ 1 ∷ 1 ∷ [])
     × (openings_figures (opened 1 4) (came (4 ∷ 6 ∷ []))
     ≡ record { claim = 9; messages = (1 ∷ 1 ∷ []) ∷ []; witnesses = []; openings = 4 ∷ 6 ∷ []; challenges = 3 ∷ []; residual = 28; weights = 65535 ∷ 6 ∷ []; finding = holds })
-unfolding openings_figures openings_match products_sum merging_weights weight_on weight_of first_false_table_claim is_true_of true_value merged_claim merged_leading honest_merged stage_luck first_turn claim_along next_claim sent_polynomial sent_pair true_claim placed_entry inner slope slow_leading poly_at value weight digits rows_of sum_below powers_sum power draws extension_draw sent before_draw round_events challenge quadratic_seed seed_words nibbles separator_bytes step_bytes length_bytes length_prefixed eight_bytes protocol_name label_text plus times opposite
+unfolding openings_figures openings_match products_sum merging_weights weight_on weight_of first_false_table_claim is_true_of true_value merged_claim
+    merged_leading honest_merged stage_luck first_turn claim_along next_claim sent_polynomial sent_pair true_claim placed_entry inner slope slow_leading
+    poly_at value weight digits rows_of sum_below powers_sum power draws extension_draw sent before_draw round_events challenge quadratic_seed seed_words
+    nibbles separator_bytes step_bytes length_bytes length_prefixed eight_bytes protocol_name label_text plus times opposite
 openings_built = (refl, refl)
 
 -- two false values, 3 and 3; and openings that are not the tables' values, though 7 and 7 leave the same sum
@@ -93,5 +102,8 @@ openings_checked :
     ((openings_figures (opened 3 3) (came (4 ∷ 6 ∷ []))).finding ≡ lucky (in_batch (2 ∷ 65536 ∷ []) 1))
     × ((openings_figures (opened 3 3) (came (4 ∷ 7 ∷ []))).finding ≡ refuted)
     × ((openings_figures (opened 3 3) (came (7 ∷ 7 ∷ []))).finding ≡ refuted)
-unfolding openings_figures openings_match products_sum merging_weights weight_on weight_of first_false_table_claim is_true_of true_value excess merged_claim stage_luck first_turn claim_along next_claim sent_polynomial sent_pair true_claim placed_entry inner root_count count_below poly_at value weight digits rows_of sum_below powers_sum power draws extension_draw sent before_draw round_events challenge quadratic_seed seed_words nibbles separator_bytes step_bytes length_bytes length_prefixed eight_bytes protocol_name label_text plus times opposite
+unfolding openings_figures openings_match products_sum merging_weights weight_on weight_of first_false_table_claim is_true_of true_value excess
+    merged_claim stage_luck first_turn claim_along next_claim sent_polynomial sent_pair true_claim placed_entry inner root_count count_below poly_at value
+    weight digits rows_of sum_below powers_sum power draws extension_draw sent before_draw round_events challenge quadratic_seed seed_words nibbles
+    separator_bytes step_bytes length_bytes length_prefixed eight_bytes protocol_name label_text plus times opposite
 openings_checked = (refl, refl, refl)

@@ -57,15 +57,13 @@ pub record MatmulCase : Type 0 where
   pub claimed : Matrix
   pub history : List Event
 
--- Both rings are fields, and the embedding is a map of rings; the columns of left are as many as the rows of right, a power of two; the claimed entries are
--- as many as the product has; and all entries are elements of the base.
+-- Both rings are fields, and the embedding is a map of rings; the left matrix has a small enough power of two of columns; the claimed entries are as many as
+-- the product has; and all entries are elements of the base.
 pub record IsMatmulCase (q : MatmulCase) : Type 0 where
   pub base_field : IsField q.base
   pub field : IsField q.ops
   pub embeds : IsRingMap q.base q.ops q.embedding
-  pub inner_power : q.left.cols ≡ 2 ^ side_variables q.left.cols
-  pub inner : q.left.cols ≡ q.right.rows
-  pub some : 0 < q.right.cols
+  pub inner : q.left.cols ≡ 2 ^ side_variables q.left.cols
   pub claimed_count : length q.claimed.values ≡ q.left.rows * q.right.cols
   pub left_below : All (λ x. x < q.base.size) q.left.values
   pub right_below : All (λ x. x < q.base.size) q.right.values
@@ -73,7 +71,7 @@ pub record IsMatmulCase (q : MatmulCase) : Type 0 where
 
 -- ---- the claim
 
--- the entries of all three matrices, row by row, as they are observed_entries
+-- the entries of all three matrices, row by row, as they are observed
 abbrev pub observed_entries : MatmulCase → List ℕ
 observed_entries q = q.left.values ++ q.right.values ++ q.claimed.values
 

@@ -106,6 +106,7 @@ abbrev pub weighted_from : Ops → ℕ → List TableClaim → ℕ → List (ℕ
 weighted_from o c claims j [] = []
 weighted_from o c claims j (f ∷ fs) = record { table = f; weights = merging_weights o c claims j } ∷ weighted_from o c claims (suc j) fs
 
+-- all tables, with their weights
 abbrev pub weighted_tables : OpeningsCase → List WeightedTable
 weighted_tables q = weighted_from q.ops (merging_challenge q) q.claims 0 q.tables
 
@@ -206,13 +207,14 @@ pub record IsMergingLuck (q : OpeningsCase) (polynomial : List ℕ) (roots : ℕ
   pub zero_where_true : (i : ℕ) (c : TableClaim) → slice_get q.claims i ≡ Some c → IsTrueClaim q c → slice_get polynomial i ≡ Some 0
   pub true_where_zero : (i : ℕ) (c : TableClaim) → slice_get q.claims i ≡ Some c → slice_get polynomial i ≡ Some 0 → IsTrueClaim q c
 
-abbrev pub IsCertifiedMerge : OpeningsCase → OpeningsFigures → Luck → Type 0
-IsCertifiedMerge q f (in_batch polynomial roots) = IsMergingLuck q polynomial roots
-IsCertifiedMerge q f (in_round round polynomial roots) = IsRoundLuck q.ops f.challenges round polynomial roots
+-- a lucky challenge is certified: the merging one so, or that of a round by three coefficients
+abbrev pub IsOpeningsCertified : OpeningsCase → OpeningsFigures → Luck → Type 0
+IsOpeningsCertified q f (in_batch polynomial roots) = IsMergingLuck q polynomial roots
+IsOpeningsCertified q f (in_round round polynomial roots) = IsRoundLuck q.ops f.challenges round polynomial roots
 
 -- A challenge that is named lucky is certified; and where the residual and the openings match although a claim is false, one is named.
 pub record CertifiesOpenings (q : OpeningsCase) (f : OpeningsFigures) : Type 0 where
-  pub named : (l : Luck) → f.finding ≡ lucky l → IsCertifiedMerge q f l
+  pub named : (l : Luck) → f.finding ≡ lucky l → IsOpeningsCertified q f l
   pub no_other : openings_match q f.residual f.openings f.challenges ≡ true → (AllClaimsTrue q q.claims → ⊥) → (l : Luck) × (f.finding ≡ lucky l)
 
 -- ---- the laws

@@ -1,7 +1,9 @@
 //! Laws of products of matrices and of merged openings, as contracts: a caller calls the function
 //! and has them.
-ghost use Rattle.sc_merge_definitions.specs.Matrices.{EntriesSumTables, MatmulsAreCertified, BuiltMatmulsHold};
-ghost use Rattle.sc_merge_definitions.specs.Openings.{ClaimsSumTables, OpeningsAreCertified, BuiltOpeningsHold};
+ghost use Rattle.sc_merge_definitions.specs.Matrices.{EntriesSumTables, MatmulsAreCertified};
+ghost use Rattle.sc_merge_definitions.specs.Matrices.{BuiltMatmulsHold};
+ghost use Rattle.sc_merge_definitions.specs.Openings.{ClaimsSumTables, OpeningsAreCertified};
+ghost use Rattle.sc_merge_definitions.specs.Openings.{BuiltOpeningsHold};
 
 /// Laws of products of matrices, over every field of challenges that the matrices' field is
 /// embedded into.
