@@ -22,6 +22,7 @@ use Rattle.sc_transcript.specs.Steps.{rounds_on}
 use Rattle.sc_transcript.specs.Replayed.{IsCounted}
 use Rattle.sc_transcript.proofs.GivenRounds.{given_played, count_witnesses}
 use Rattle.sc_transcript.proofs.InStep.{none_failing}
+use Rattle.sc_zk_definitions.specs.declared.prelude.ZkPrelude.{ZkPrelude}
 use Rattle.sc_zk_definitions.specs.Masks.{Piece, two_power, masks_at, masks_total, masked_round, wire_of, next_target, first_target, aux_after}
 use Rattle.sc_zk_definitions.specs.Explained.{half_of}
 use Rattle.sc_zk_definitions.specs.MaskedTranscripts.{Shape, Head, rounds_from, wire_length}
@@ -32,7 +33,7 @@ use Rattle.sc_zk_definitions.proofs.ToldLaws.{wire-parts}
 use Rattle.sc_zk_transcript.specs.declared.shape.ZkSumcheckShape.{ZkSumcheckShape}
 use Rattle.sc_zk_transcript.specs.Shapes.{fixed_by, IsFit, IsUnfit}
 use Rattle.sc_zk_rounds.specs.Values.{AreOfLength}
-use Rattle.sc_zk_rounds.specs.Handoffs.{AskedMasks, batch_asked, batch_over, batch_by, Handed, EndsMasked}
+use Rattle.sc_zk_rounds.specs.Handoffs.{AskedMasks, batch_from, batch_over, batch_by, Handed, EndsMaskedBy}
 use Rattle.sc_zk_rounds.specs.Data.{Sent}
 use Rattle.sc_zk_rounds.specs.Verified.{MaskedReplay, claim_asked, begins_at, rounds_of, Told, LeavesMaskedReplay}
 use Rattle.sc_zk_rounds.specs.InStep.{EndsInRounds, MaskedFigures, StepsThrough, StaysInStep}
@@ -103,10 +104,10 @@ pub record IsAccepted (b : MaskedBatch) (after : Standing) (rs : List ℕ) (told
   pub residual : told.residual ≡ residual_of b.setting.ops (masking_of b) after.claim rs
   pub history : h ≡ after.history
 
-module _ (s : Setting) (t : Standing) (m : AskedMasks) (base : Ops) (shape : ZkSumcheckShape) (after : Standing) (rs : List ℕ)
-    (none_sent : t.wire ≡ empty_wire) (is : fixed_by shape ≡ (batch_asked s t m).shape) (played : PlaysMasked (batch_asked s t m) after rs) where
+module _ (q : ZkPrelude) (s : Setting) (t : Standing) (m : AskedMasks) (base : Ops) (shape : ZkSumcheckShape) (after : Standing) (rs : List ℕ)
+    (none_sent : t.wire ≡ empty_wire) (is : fixed_by shape ≡ (batch_from q s t m).shape) (played : PlaysMasked (batch_from q s t m) after rs) where
   abbrev b : MaskedBatch
-  b = batch_asked s t m
+  b = batch_from q s t m
 
   -- the replay of what was sent
   abbrev asked : MaskedReplay
@@ -211,10 +212,10 @@ all-below number size below (x ∷ xs) zero d low = below x
 all-below number size below (x ∷ xs) (suc i) d low = all-below number size below xs i d (omega arith)
 
 -- the prover's refusal: the verifier has not begun
-pub falls-out : {X Y F : Type 0} (base : F → ℕ) (view : Y → MaskedFigures) (handed : X → Handed) (b : MaskedBatch) (h : List Event) (sent : Sent) (ws : List F) (result : Result Y SumcheckError) (e : SumcheckError) →
-    ((x : F) → base x < b.setting.channel.base_size) → sent.wire.witnesses ≡ map base ws → result ≡ Err e → EndsMasked handed b h sent (Err e) → StaysInStep view b result b.taken.history
-falls-out {X} {Y} base view handed b h sent ws result e below witnesses is ends = subst (λ r. StaysInStep view b r b.taken.history) (sym is) (cases e ends) where
-  cases : (e : SumcheckError) → EndsMasked {X = X} handed b h sent (Err e) → StaysInStep {X = Y} view b (Err e) b.taken.history
+pub falls-out : {X Y F : Type 0} (scaled : Ops → Shown → ℕ → Shown) (base : F → ℕ) (view : Y → MaskedFigures) (handed : X → Handed) (b : MaskedBatch) (h : List Event) (sent : Sent) (ws : List F) (result : Result Y SumcheckError) (e : SumcheckError) →
+    ((x : F) → base x < b.setting.channel.base_size) → sent.wire.witnesses ≡ map base ws → result ≡ Err e → EndsMaskedBy scaled handed b h sent (Err e) → StaysInStep view b result b.taken.history
+falls-out {X} {Y} scaled base view handed b h sent ws result e below witnesses is ends = subst (λ r. StaysInStep view b r b.taken.history) (sym is) (cases e ends) where
+  cases : (e : SumcheckError) → EndsMaskedBy {X = X} scaled handed b h sent (Err e) → StaysInStep {X = Y} view b (Err e) b.taken.history
   cases errors.NoMemory ends = inl (inl refl)
   cases (errors.NoWitness i) ends = (
     record {
@@ -229,22 +230,22 @@ falls-out {X} {Y} base view handed b h sent ws result e below witnesses is ends 
   cases e ends = absurd ends.left
 
 -- the verifier's: memory ran out
-pub verifier-stops : {X Y EF Z : Type 0} (told : X → Told) (view : Y → MaskedFigures) (number : EF → ℕ) (vs : List (Vec EF Z)) (s : Setting) (t : Standing) (m : AskedMasks) (base : Ops) (shape : ZkSumcheckShape)
-    (after : Standing) (rs : List ℕ) (H : Head) (w : Wire) (h : List Event) (result : Result Y SumcheckError) (e : SumcheckError) → t.wire ≡ empty_wire → fixed_by shape ≡ (batch_asked s t m).shape →
-    PlaysMasked (batch_asked s t m) after rs → H ≡ head_of (batch_asked s t m) → w ≡ after.wire → IsRing s.ops → IsFit base shape → m.masks ≡ lists_in number vs → AreOfLength m.mask_length vs →
-    result ≡ Err e → LeavesMaskedReplay told (claim_asked base s.ops s.channel shape H t.history w) (Err e) h → StaysInStep view (batch_asked s t m) result h
-verifier-stops {X} {Y} told view number vs s t m base shape after rs H w h result e none is played heads wires ring fit are lengths failed left =
+pub verifier-stops : {X Y EF Z : Type 0} (told : X → Told) (view : Y → MaskedFigures) (number : EF → ℕ) (vs : List (Vec EF Z)) (q : ZkPrelude) (s : Setting) (t : Standing) (m : AskedMasks) (base : Ops) (shape : ZkSumcheckShape)
+    (after : Standing) (rs : List ℕ) (H : Head) (w : Wire) (h : List Event) (result : Result Y SumcheckError) (e : SumcheckError) → t.wire ≡ empty_wire → fixed_by shape ≡ (batch_from q s t m).shape →
+    PlaysMasked (batch_from q s t m) after rs → H ≡ head_of (batch_from q s t m) → w ≡ after.wire → IsRing s.ops → IsFit base shape → m.masks ≡ lists_in number vs → AreOfLength m.mask_length vs →
+    result ≡ Err e → LeavesMaskedReplay told (claim_asked base s.ops s.channel shape H t.history w) (Err e) h → StaysInStep view (batch_from q s t m) result h
+verifier-stops {X} {Y} told view number vs q s t m base shape after rs H w h result e none is played heads wires ring fit are lengths failed left =
     let left' = subst (λ x. LeavesMaskedReplay told (claim_asked base s.ops s.channel shape x t.history after.wire) (Err e) h) heads
     (subst (λ x. LeavesMaskedReplay told (claim_asked base s.ops s.channel shape H t.history x) (Err e) h) wires left) in
-    let why = refused s t m base shape after rs none is played told number vs e h ring fit are lengths left' in
-    subst (λ r. StaysInStep view (batch_asked s t m) r h) (sym (failed ∙ ap Err why.0)) why.1
+    let why = refused q s t m base shape after rs none is played told number vs e h ring fit are lengths left' in
+    subst (λ r. StaysInStep view (batch_from q s t m) r h) (sym (failed ∙ ap Err why.0)) why.1
 
 -- or it accepts
-pub verifier-accepts : {X : Type 0} (told : X → Told) (s : Setting) (t : Standing) (m : AskedMasks) (base : Ops) (shape : ZkSumcheckShape) (after : Standing) (rs : List ℕ) (H : Head) (w : Wire)
-    (h : List Event) (x : X) → t.wire ≡ empty_wire → fixed_by shape ≡ (batch_asked s t m).shape → PlaysMasked (batch_asked s t m) after rs → H ≡ head_of (batch_asked s t m) → w ≡ after.wire →
-    IsRing s.ops → IsHalf s.ops (half_of s.ops) → LeavesMaskedReplay told (claim_asked base s.ops s.channel shape H t.history w) (Ok x) h → IsAccepted (batch_asked s t m) after rs (told x) h
-verifier-accepts told s t m base shape after rs H w h x none is played heads wires ring half left =
-    accepted s t m base shape after rs none is played told x h ring half
+pub verifier-accepts : {X : Type 0} (told : X → Told) (q : ZkPrelude) (s : Setting) (t : Standing) (m : AskedMasks) (base : Ops) (shape : ZkSumcheckShape) (after : Standing) (rs : List ℕ) (H : Head) (w : Wire)
+    (h : List Event) (x : X) → t.wire ≡ empty_wire → fixed_by shape ≡ (batch_from q s t m).shape → PlaysMasked (batch_from q s t m) after rs → H ≡ head_of (batch_from q s t m) → w ≡ after.wire →
+    IsRing s.ops → IsHalf s.ops (half_of s.ops) → LeavesMaskedReplay told (claim_asked base s.ops s.channel shape H t.history w) (Ok x) h → IsAccepted (batch_from q s t m) after rs (told x) h
+verifier-accepts told q s t m base shape after rs H w h x none is played heads wires ring half left =
+    accepted q s t m base shape after rs none is played told x h ring half
     (subst (λ y. LeavesMaskedReplay told (claim_asked base s.ops s.channel shape y t.history after.wire) (Ok x) h) heads
     (subst (λ y. LeavesMaskedReplay told (claim_asked base s.ops s.channel shape H t.history y) (Ok x) h) wires left))
 

@@ -10,11 +10,13 @@ use Rattle.sc_challenger.specs.Parties.{Party, channel_by}
 use Rattle.sc_zk_definitions.specs.declared.prelude.ZkPrelude.{ZkPrelude}
 use Rattle.sc_zk_definitions.specs.declared.prelude.ZkPrelude.TheVariants.{InheritedClaim}
 use Rattle.sc_zk_definitions.specs.Explained.{half_of}
+use Rattle.sc_zk_definitions.specs.MaskedTranscripts.{Shape}
 use Rattle.sc_zk_definitions.specs.MaskedRuns.{IsMaskedInPart, IsMaskedWithoutWitness}
 use Rattle.sc_zk_definitions.specs.MaskedBatches.{MaskedBatch, PlaysMasked, IsHeadPart, head_of, eps_of, masking_of, start_of}
 use Rattle.sc_transcript.specs.declared.error.SumcheckError.{SumcheckError}
 use Rattle.sc_transcript.specs.declared.error.SumcheckError.TheVariants.{NoWitness, NoMemory}
 use Rattle.sc_zk_rounds.specs.Data.{Sent}
+use Rattle.sc_zk_rounds.specs.Heads.{begun_at}
 
 -- ---- what is asked
 
@@ -77,6 +79,11 @@ BreaksOff b after e = ⊥
 abbrev pub PlaysBatch : {X : Type 0} → (X → ℕ) → MaskedBatch → Standing → List ℕ → Result X SumcheckError → Type 0
 PlaysBatch number b after rs (Ok x) = PlaysMasked b after rs × (number x ≡ eps_of b)
 PlaysBatch number b after rs (Err e) = BreaksOff b after e
+
+-- The same of a batch of a shape whose seed and first step stand in the history already: from wherever it began.
+abbrev pub PlaysBegun : {X : Type 0} → (X → ℕ) → Shape → MaskedBatch → Standing → List ℕ → Result X SumcheckError → Type 0
+PlaysBegun number s b after rs result = (h : List Event) → b.taken.history ≡ begun_at b.setting.channel.extension h s (head_of b).claim →
+    PlaysBatch number (record b { taken = record b.taken { history = h } }) after rs result
 
 -- ---- what it hands on
 

@@ -4,10 +4,19 @@ use Rattle.sc_definitions.specs.declared.events.Event.{Event}
 use Rattle.sc_definitions.specs.Events.{Extension}
 use Rattle.sc_definitions.specs.Channels.{Channel}
 use Rattle.sc_challenger.specs.Parties.{Party, channel_by}
+use Rattle.sc_zk_definitions.specs.declared.prelude.ZkPrelude.TheVariants.{InheritedClaim, RecordedClaims}
 use Rattle.sc_zk_definitions.specs.MaskedTranscripts.{Shape, Head, begun_events}
 use Rattle.sc_zk_definitions.specs.MaskedBatches.{IsHeadPart, HeadedBatch, after_head, combination_of}
 use Rattle.sc_zk_transcript.specs.declared.shape.ZkSumcheckShape.{ZkSumcheckShape}
-use Rattle.sc_zk_transcript.specs.Shapes.{fixed_by}
+use Rattle.sc_zk_transcript.specs.Shapes.{shape_made, fixed_by}
+
+-- the shape of so many rounds under masks of a length, at a difficulty, of a claim that is handed on
+abbrev pub inherited_shape : ℕ → ℕ → ℕ → ZkSumcheckShape
+inherited_shape rounds mask_length bits = shape_made InheritedClaim rounds mask_length bits
+
+-- the same of recorded claims
+abbrev pub recorded_shape : ℕ → ℕ → ℕ → ZkSumcheckShape
+recorded_shape rounds mask_length bits = shape_made RecordedClaims rounds mask_length bits
 
 -- the batch of a shape over a challenger's channel, with what stands before its rounds, and the history where it begins
 abbrev pub headed_by : Party → Extension → ℕ → ZkSumcheckShape → Head → List Event → HeadedBatch

@@ -1,9 +1,10 @@
 -- What contracts of masked rounds see of a prover, of its data, and of a code with a scheme of commitments.
-use Rattle.std.specs.Prelude.{◌≡◌, ℕ, List, length, map, Option}
+use Rattle.std.specs.Prelude.{◌≡◌, ℕ, List, length, map, Option, Result}
 use Rattle.std.specs.declared.vec.Vec.{Vec}
 use Rattle.std.specs.declared.cmp.PartialEq.{Ghosts as PartialEqOf}
 use Rattle.sc_definitions.specs.Ring.{Ops}
 use Rattle.sc_definitions.specs.Events.{Extension}
+use Rattle.sc_definitions.specs.Channels.{Wire}
 use Rattle.sc_definitions.specs.Standings.{Setting, Standing}
 use Rattle.sc_definitions.specs.Shown.{Shown, setting_at, standing_at}
 use Rattle.sc_field.specs.declared.field.Field.{Ghosts as FieldOf}
@@ -21,20 +22,63 @@ use Rattle.sc_commitments.specs.Draws.{masks_from}
 use Rattle.sc_commitments.specs.Matrices.{lists_in}
 use Rattle.sc_zk_rounds.specs.Values.{AreOfLength}
 use Rattle.sc_zk_rounds.specs.Data.{masked_wire_in}
-use Rattle.sc_zk_rounds.specs.Handoffs.{AskedMasks, asked_masks, Handed}
+use Rattle.sc_transcript.specs.declared.error.SumcheckError.{SumcheckError}
+use Rattle.sc_zk_definitions.specs.MaskedRuns.{Masking}
+use Rattle.sc_zk_definitions.specs.MaskedBatches.{MaskedBatch}
+use Rattle.sc_zk_rounds.specs.Rounds.{MovesMasked, PlaysMasks}
+use Rattle.sc_zk_transcript.specs.declared.shape.ZkSumcheckShape.{ZkSumcheckShape}
+use Rattle.sc_zk_rounds.specs.Handoffs.{AskedMasks, asked_masks, batch_from, Handed}
 
 -- what a residual prover tells: what it shows, and the challenge that it holds, if it holds one
 pub record Residual : Type 0 where
   pub shown : Shown
   pub held : Option ℕ
 
--- what stays while masked rounds on what is shown go over a challenger's channel at a difficulty
-abbrev pub setting_by : Party → Extension → ℕ → ℕ → Ops → Shown → Setting
-setting_by p E size bits o s = setting_at (channel_by p E size bits) o s
+-- A prover that plays: its challenger, what it shows, and what is on the wire.
+pub record Player : Type 0 where
+  pub party : Party
+  pub shown : Shown
+  pub wire : Wire
 
--- where they stand, by data that is on the wire
-abbrev pub standing_by : {F EF : Type 0} → (F → ℕ) → (EF → ℕ) → Shown → ZkSumcheckData F EF → Party → Standing
-standing_by base number s d p = standing_at s p.history (masked_wire_in base number d)
+-- the record of these, by data that is on the wire
+abbrev pub player : {F EF : Type 0} → (F → ℕ) → (EF → ℕ) → Party → Shown → ZkSumcheckData F EF → Player
+player base number p s d = record { party = p; shown = s; wire = masked_wire_in base number d }
+
+-- where it stands
+abbrev pub stands_at : Player → Standing
+stands_at p = standing_at p.shown p.party.history p.wire
+
+-- Over which fields rounds go, and at which difficulty: the operations of the base field and of its extension, how elements of the latter go over a
+-- channel, and the bits.
+pub record Terms : Type 0 where
+  pub base : Ops
+  pub ops : Ops
+  pub extension : Extension
+  pub bits : ℕ
+
+-- the record of these
+abbrev pub terms : Ops → Ops → Extension → ℕ → Terms
+terms base o E bits = record { base = base; ops = o; extension = E; bits = bits }
+
+-- what stays while a player's rounds go on
+abbrev pub setting_of : Terms → Player → Setting
+setting_of t p = setting_at (channel_by p.party t.extension t.base.size t.bits) t.ops p.shown
+
+-- what a player's masked round after the challenges rs leaves, by its answer
+abbrev pub MovesPlayer : {X : Type 0} → (X → ℕ) → Terms → Masking → List ℕ → Player → Player → Result X SumcheckError → Type 0
+MovesPlayer number t k rs before after result = MovesMasked number (setting_of t before) k rs (stands_at before) (stands_at after) result
+
+-- what its rounds under n masks leave, by their answer, with the challenges rs
+abbrev pub PlaysRounds : {X : Type 0} → Terms → Masking → ℕ → Player → Player → List ℕ → Result X SumcheckError → Type 0
+PlaysRounds t k n before after rs result = PlaysMasks (setting_of t before) k n (stands_at before) (stands_at after) rs result
+
+-- masks, with the words of their commitment and aux, as a shape has them
+abbrev pub masks_for : {EF Z : Type 0} → (EF → ℕ) → ZkSumcheckShape → List (Vec EF Z) → List ℕ → EF → AskedMasks
+masks_for number s masks words aux = asked_masks s.ell_zk (lists_in number masks) words (number aux)
+
+-- the batch of a shape that a player plays under these masks
+abbrev pub batch_of : Ops → Ops → Extension → ZkSumcheckShape → Player → AskedMasks → MaskedBatch
+batch_of base o E s p m = batch_from s.prelude (setting_of (terms base o E s.pow_bits) p) (stands_at p) m
 
 module _ {F EF : Type 0} {f : FieldOf F} {p : PartialEqOf F} {x : ExtensionOf EF F} {a : AlgebraOf EF F} {e : FieldOf EF} {q : PartialEqOf EF} where
   -- what it tells where it is handed on

@@ -2,7 +2,8 @@
 ghost use Rattle.std.specs.Prelude.{◌≡◌, ◌≤◌, length};
 ghost use Rattle.sc_definitions.specs.Tables.{evaluation};
 ghost use Rattle.sc_rounds.specs.ProverViews.{shown_by};
-ghost use Rattle.sc_zk_transcript.specs.Shapes.{shape_made, IsFit};
+ghost use Rattle.sc_zk_transcript.specs.Shapes.{IsFit};
+ghost use Rattle.sc_zk_rounds.specs.Heads.{inherited_shape};
 ghost use Rattle.sc_zk_rounds.specs.Handoffs.{batch_by};
 ghost use Rattle.sc_zk_rounds.specs.InStep.{StaysInStep, run_in};
 ghost use Rattle.sc_zk_rounds.specs.Views.{AreCoded, coded_in, masks_under};
@@ -18,7 +19,6 @@ use sc_field::{ExtensionField, Field};
 use sc_rounds::SumcheckProver;
 use sc_table::Point;
 use sc_transcript::SumcheckError;
-use sc_zk_definitions::ZkPrelude;
 use std::alloc::Global;
 
 /// What a batch under masks, and its replay, tell.
@@ -75,7 +75,7 @@ pub fn masked_in_step<
     requires variables { length masks.items ≤ (shown_by prover).variables }
     requires basis { (shown_by prover).basis ≡ evaluation }
     requires difficulty { pow_bits ≤ (C.party challenger.old).rules.max_bits }
-    requires fit { IsFit F.ops (shape_made ZkPrelude.InheritedClaim (length masks.items)
+    requires fit { IsFit F.ops (inherited_shape (length masks.items)
         (Enc.message_length encoding.now) pow_bits) }
     requires coded { AreCoded (Enc.message_length encoding.now)
         (Enc.randomness_length encoding.now) masks.items randomness.items }

@@ -4,8 +4,9 @@ ghost use Rattle.sc_definitions.specs.Tables.{evaluation};
 ghost use Rattle.sc_definitions.specs.Shown.{Shown};
 ghost use Rattle.sc_commitments.specs.Draws.{drawn, masks_from};
 ghost use Rattle.sc_commitments.specs.Matrices.{lists_in};
-ghost use Rattle.sc_zk_transcript.specs.Shapes.{shape_made, IsFit};
+ghost use Rattle.sc_zk_transcript.specs.Shapes.{IsFit};
 ghost use Rattle.sc_rounds.specs.ProverViews.{shown_by};
+ghost use Rattle.sc_zk_rounds.specs.Heads.{inherited_shape};
 ghost use Rattle.sc_zk_rounds.specs.Data.{IsNewData, sent_in};
 ghost use Rattle.sc_zk_rounds.specs.Handoffs.{batch_by, EndsMasked};
 ghost use Rattle.sc_zk_rounds.specs.Views.{Residual, residual_in, AreCoded, coded_in};
@@ -21,7 +22,6 @@ use sc_field::{ExtensionField, Field, with_room};
 use sc_rounds::SumcheckProver;
 use sc_table::Point;
 use sc_transcript::SumcheckError;
-use sc_zk_definitions::ZkPrelude;
 use sc_zk_transcript::ZkSumcheckShape;
 use std::alloc::Global;
 
@@ -69,7 +69,7 @@ pub trait IntoZk<F: Field, EF: ExtensionField<F>>: Sized + Drop {
         requires variables { length masks.items ≤ (shown self).variables }
         requires basis { (shown self).basis ≡ evaluation }
         requires difficulty { pow_bits ≤ (C.party challenger.old).rules.max_bits }
-        requires fit { IsFit F.ops (shape_made ZkPrelude.InheritedClaim (length masks.items)
+        requires fit { IsFit F.ops (inherited_shape (length masks.items)
             (Enc.message_length encoding.now) pow_bits) }
         requires fresh { IsNewData F.number EF.number zk_data.old }
         requires coded { AreCoded (Enc.message_length encoding.now)
@@ -106,7 +106,7 @@ pub trait IntoZk<F: Field, EF: ExtensionField<F>>: Sized + Drop {
         requires variables { folding_factor ≤ (shown self).variables }
         requires basis { (shown self).basis ≡ evaluation }
         requires difficulty { pow_bits ≤ (C.party challenger.old).rules.max_bits }
-        requires fit { IsFit F.ops (shape_made ZkPrelude.InheritedClaim folding_factor
+        requires fit { IsFit F.ops (inherited_shape folding_factor
             (Enc.message_length encoding.now) pow_bits) }
         requires fresh { IsNewData F.number EF.number zk_data.old }
         ensures rules { (C.party challenger.new).rules ≡ (C.party challenger.old).rules }
@@ -151,7 +151,7 @@ impl<F: Field, EF: ExtensionField<F>> IntoZk<F, EF> for SumcheckProver<F, EF> {
         requires variables { length masks.items ≤ (shown_by self).variables }
         requires basis { (shown_by self).basis ≡ evaluation }
         requires difficulty { pow_bits ≤ (C.party challenger.old).rules.max_bits }
-        requires fit { IsFit F.ops (shape_made ZkPrelude.InheritedClaim (length masks.items)
+        requires fit { IsFit F.ops (inherited_shape (length masks.items)
             (Enc.message_length encoding.now) pow_bits) }
         requires fresh { IsNewData F.number EF.number zk_data.old }
         requires coded { AreCoded (Enc.message_length encoding.now)

@@ -7,15 +7,11 @@ ghost use Rattle.sc_zk_definitions.specs.MaskedRuns.{Masking};
 ghost use Rattle.sc_commitments.specs.Matrices.{lists_in};
 ghost use Rattle.sc_transcript.specs.Drivers.{driver_at, Continues};
 ghost use Rattle.sc_zk_rounds.specs.Data.{AreWords, HasRoomFor};
-ghost use Rattle.sc_zk_rounds.specs.Handoffs.{asked_masks, batch_from, PlaysBatch};
+ghost use Rattle.sc_zk_rounds.specs.Handoffs.{PlaysBatch, PlaysBegun};
 ghost use Rattle.sc_zk_rounds.specs.Rounds.{IsForMasks, IsOfMask, IsShapeOf, AreMasks};
-ghost use Rattle.sc_zk_rounds.specs.Rounds.{MovesMasked, PlaysMasks};
-ghost use Rattle.sc_zk_rounds.specs.Views.{setting_by, standing_by};
-ghost use Rattle.sc_zk_rounds.specs.Heads.{begun_at};
-ghost use Rattle.sc_zk_rounds.specs.Verified.{at_history};
+ghost use Rattle.sc_zk_rounds.specs.Views.{terms, player, stands_at, MovesPlayer, PlaysRounds};
+ghost use Rattle.sc_zk_rounds.specs.Views.{masks_for, batch_of};
 ghost use Rattle.sc_zk_transcript.specs.Shapes.{fixed_by};
-ghost use Rattle.sc_definitions.specs.declared.events.Event.{Event};
-ghost use Rattle.sc_definitions.specs.Ring.{◌+⟨◌⟩◌};
 
 use crate::data::ZkSumcheckData;
 use crate::head::{begin_inherited, combine_begun};
@@ -35,7 +31,7 @@ use std::alloc::Global;
 fn play_masked<F: Field, EF: ExtensionField<F>, C: Challenger<F>, P: PlainRounds<F, EF>, K: Copy>(
     alloc: Global,
     prover: &mut P,
-    zk_data: &mut ZkSumcheckData<F, EF>,
+    sent: &mut ZkSumcheckData<F, EF>,
     rounds: &mut Rounds<K>,
     challenger: &mut C,
     mixing: &Mixing<EF>,
@@ -53,19 +49,17 @@ fn play_masked<F: Field, EF: ExtensionField<F>, C: Challenger<F>, P: PlainRounds
     ensures form { KeepsForm (P.shown prover.old) (P.shown prover.new) }
     ensures counts { OnOk result (rounds.new.played ≡ rounds.old.played + 1) }
     ensures fewer { OnOk result (P.left prover.old ≡ P.left prover.new + 1) }
-    ensures total { zk_data.new.mu_tilde ≡ zk_data.old.mu_tilde }
+    ensures total { sent.new.mu_tilde ≡ sent.old.mu_tilde }
     ensures round { (k : Masking) (rs : List ℕ) → length rs ≡ rounds.old.played
         → IsOfMask EF.ops EF.number k rs mask.now eps mixing.now
-        → MovesMasked EF.number
-        (setting_by (C.party challenger.old) EF.extension F.ops.size rounds.old.shape.pow_bits
-        EF.ops (P.shown prover.old)) k rs
-        (standing_by F.number EF.number (P.shown prover.old) zk_data.old (C.party challenger.old))
-        (standing_by F.number EF.number (P.shown prover.new) zk_data.new (C.party challenger.new))
+        → MovesPlayer EF.number (terms F.ops EF.ops EF.extension rounds.old.shape.pow_bits) k rs
+        (player F.number EF.number (C.party challenger.old) (P.shown prover.old) sent.old)
+        (player F.number EF.number (C.party challenger.new) (P.shown prover.new) sent.new)
         result }
 {
     let message = prover.measure(alloc)?;
     let wire = mixing.wire(alloc, mask, eps, message)?;
-    let r = zk_data.put_round(rounds, challenger, wire)?;
+    let r = sent.put_round(rounds, challenger, wire)?;
     prover.bind(message, r);
     Ok(r)
 }
@@ -93,10 +87,9 @@ fn play_masks<F: Field, EF: ExtensionField<F>, C: Challenger<F>, P: PlainRounds<
     ensures total { zk_data.new.mu_tilde ≡ zk_data.old.mu_tilde }
     ensures fewer { OnOk result (P.left prover.old ≡ P.left prover.new + length masks.now) }
     ensures rounds { (k : Masking) → AreMasks EF.ops EF.number k masks.now eps mixing
-        → PlaysMasks (setting_by (C.party challenger.old) EF.extension F.ops.size shape.pow_bits
-        EF.ops (P.shown prover.old)) k (length masks.now)
-        (standing_by F.number EF.number (P.shown prover.old) zk_data.old (C.party challenger.old))
-        (standing_by F.number EF.number (P.shown prover.new) zk_data.new (C.party challenger.new))
+        → PlaysRounds (terms F.ops EF.ops EF.extension shape.pow_bits) k (length masks.now)
+        (player F.number EF.number (C.party challenger.old) (P.shown prover.old) zk_data.old)
+        (player F.number EF.number (C.party challenger.new) (P.shown prover.new) zk_data.new)
         (map EF.number challenges.new.items) result }
 {
     let mut rounds = Rounds::new(shape, ());
@@ -160,14 +153,11 @@ pub fn play_begun<F: Field, EF: ExtensionField<F>, C: Challenger<F>, P: PlainRou
     ensures fewer { OnOk result (P.left prover.old ≡ P.left prover.new + length masks.now) }
     ensures total { IfOk result (λ _. EF.number zk_data.new.mu_tilde
         ≡ masks_total EF.ops (lists_in EF.number masks.now)) }
-    ensures plays { (h : List Event) → (C.party challenger.old).history ≡ begun_at EF.extension h
-        (fixed_by shape) ((P.shown prover.old).claim +⟨ EF.ops ⟩ EF.number aux) → PlaysBatch
-        EF.number (batch_from shape.prelude (setting_by (C.party challenger.old) EF.extension
-        F.ops.size shape.pow_bits EF.ops (P.shown prover.old)) (standing_by F.number EF.number
-        (P.shown prover.old) zk_data.old (at_history h (C.party challenger.old)))
-        (asked_masks shape.ell_zk (lists_in EF.number masks.now) words.now (EF.number aux)))
-        (standing_by F.number EF.number (P.shown prover.new) zk_data.new (C.party challenger.new))
-        (map EF.number challenges.new.items) result }
+    ensures plays { PlaysBegun EF.number (fixed_by shape) (batch_of F.ops EF.ops EF.extension shape
+        (player F.number EF.number (C.party challenger.old) (P.shown prover.old) zk_data.old)
+        (masks_for EF.number shape masks.now words.now aux))
+        (stands_at (player F.number EF.number (C.party challenger.new) (P.shown prover.new)
+        zk_data.new)) (map EF.number challenges.new.items) result }
 {
     let mixing = Mixing::new(masks, one_half::<F, EF>(), aux);
     zk_data.mu_tilde = mixing.total();
@@ -210,13 +200,11 @@ pub(crate) fn play_batch<F: Field, EF: ExtensionField<F>, C: Challenger<F>, P: P
     ensures form { KeepsForm (P.shown prover.old) (P.shown prover.new) }
     ensures total { IfOk result (λ _. EF.number zk_data.new.mu_tilde
         ≡ masks_total EF.ops (lists_in EF.number masks.now)) }
-    ensures plays { PlaysBatch EF.number (batch_from shape.prelude
-        (setting_by (C.party challenger.old) EF.extension F.ops.size shape.pow_bits EF.ops
-        (P.shown prover.old)) (standing_by F.number EF.number (P.shown prover.old) zk_data.old
-        (C.party challenger.old)) (asked_masks shape.ell_zk (lists_in EF.number masks.now)
-        words.now (EF.number aux)))
-        (standing_by F.number EF.number (P.shown prover.new) zk_data.new (C.party challenger.new))
-        (map EF.number challenges.new.items) result }
+    ensures plays { PlaysBatch EF.number (batch_of F.ops EF.ops EF.extension shape
+        (player F.number EF.number (C.party challenger.old) (P.shown prover.old) zk_data.old)
+        (masks_for EF.number shape masks.now words.now aux))
+        (stands_at (player F.number EF.number (C.party challenger.new) (P.shown prover.new)
+        zk_data.new)) (map EF.number challenges.new.items) result }
 {
     let claim = prover.claim().add(aux);
     begin_inherited::<F, EF, C>(alloc, challenger, shape, claim)?;

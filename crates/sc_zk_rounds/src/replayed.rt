@@ -4,8 +4,8 @@ ghost use Rattle.sc_definitions.specs.declared.events.Event.{Event};
 ghost use Rattle.sc_zk_definitions.specs.Masks.{next_target};
 ghost use Rattle.sc_zk_definitions.specs.MaskedTranscripts.{head};
 ghost use Rattle.sc_zk_transcript.specs.Shapes.{fixed_by};
-ghost use Rattle.sc_zk_rounds.specs.Data.{masked_wire_in, AreWords, HasRoomFor};
 ghost use Rattle.sc_zk_rounds.specs.Heads.{begun_at};
+ghost use Rattle.sc_zk_rounds.specs.Data.{masked_wire_in, AreWords, HasRoomFor};
 ghost use Rattle.sc_zk_rounds.specs.Verified.{at_history, claim_by, told_by, LeavesMaskedReplay};
 ghost use Rattle.sc_zk_rounds.specs.Verified.{CanReplay, CannotReplay};
 
@@ -76,12 +76,11 @@ pub fn replay_begun<F: Field, EF: ExtensionField<F>, C: Challenger<F>>(
     requires challenges { HasRoomFor shape.num_rounds challenges }
     requires difficulty { shape.pow_bits ≤ (C.party challenger.old).rules.max_bits }
     ensures rules { (C.party challenger.new).rules ≡ (C.party challenger.old).rules }
-    ensures left { (h : List Event) → (C.party challenger.old).history
+    ensures left { let p = C.party challenger.old in (h : List Event) → p.history
         ≡ begun_at EF.extension h (fixed_by shape) (EF.number claim)
-        → LeavesMaskedReplay (told_by EF.number) (claim_by (at_history h (C.party challenger.old))
-        F.ops EF.ops EF.extension shape (head (EF.number claim) words.now
-        (EF.number zk_data.now.mu_tilde)) (masked_wire_in F.number EF.number zk_data.now))
-        result (C.party challenger.new).history }
+        → LeavesMaskedReplay (told_by EF.number) (claim_by (at_history h p) F.ops EF.ops
+        EF.extension shape (head (EF.number claim) words.now (EF.number zk_data.now.mu_tilde))
+        (masked_wire_in F.number EF.number zk_data.now)) result (C.party challenger.new).history }
 {
     let eps = combine_begun::<F, EF, C>(challenger, shape, words, zk_data.mu_tilde)?;
     let came = CameWires {

@@ -1,7 +1,7 @@
 //! The replay of a claim under masks.
 ghost use Rattle.std.specs.Prelude.{◌≡◌, ◌≤◌};
 ghost use Rattle.sc_zk_definitions.specs.MaskedTranscripts.{head};
-ghost use Rattle.sc_zk_transcript.specs.Shapes.{shape_made};
+ghost use Rattle.sc_zk_rounds.specs.Heads.{inherited_shape};
 ghost use Rattle.sc_zk_rounds.specs.Data.{masked_wire_in};
 ghost use Rattle.sc_zk_rounds.specs.Verified.{claim_by, told_by, LeavesMaskedReplay};
 
@@ -12,7 +12,6 @@ use sc_challenger::Challenger;
 use sc_commitments::Mmcs;
 use sc_field::{ExtensionField, Field, with_room};
 use sc_transcript::SumcheckError;
-use sc_zk_definitions::ZkPrelude;
 use sc_zk_transcript::ZkSumcheckShape;
 use std::alloc::Global;
 
@@ -48,7 +47,7 @@ pub fn verify_claim<F: Field, EF: ExtensionField<F>, M: Mmcs<EF>, C: Challenger<
     ensures rules { (C.party challenger.new).rules ≡ (C.party challenger.old).rules }
     ensures left { LeavesMaskedReplay (told_by EF.number)
         (claim_by (C.party challenger.old) F.ops EF.ops EF.extension
-        (shape_made ZkPrelude.InheritedClaim folding_factor ell_zk pow_bits)
+        (inherited_shape folding_factor ell_zk pow_bits)
         (head (EF.number claimed_sum) (M.words_of mmcs.now mask_commitment.now)
         (EF.number zk_data.now.mu_tilde)) (masked_wire_in F.number EF.number zk_data.now))
         result (C.party challenger.new).history }

@@ -1,9 +1,10 @@
 //! A simulator and a verifier of masked rounds, in step.
 ghost use Rattle.std.specs.Prelude.{◌≡◌, ◌≤◌};
-ghost use Rattle.sc_zk_transcript.specs.Shapes.{shape_made, IsFit};
+ghost use Rattle.sc_zk_transcript.specs.Shapes.{IsFit};
 ghost use Rattle.sc_zk_simulators.specs.Drafts.{draft_from};
 ghost use Rattle.sc_zk_simulators.specs.Simulations.{simulation_by};
 ghost use Rattle.sc_zk_simulators.specs.InStep.{run_in, SimulatesInStep};
+ghost use Rattle.sc_zk_rounds.specs.Heads.{inherited_shape};
 
 use crate::simulators::simulate_classic_unpacked_claim;
 use rand_core::Rng;
@@ -12,7 +13,6 @@ use sc_commitments::{Mmcs, ZkEncoding};
 use sc_field::{ExtensionField, Field};
 use sc_table::Point;
 use sc_transcript::SumcheckError;
-use sc_zk_definitions::ZkPrelude;
 use sc_zk_rounds::{ZkSumcheckData, verify_claim};
 use std::alloc::Global;
 
@@ -63,12 +63,12 @@ pub fn simulation_in_step<
     rng: &mut G,
 ) -> Result<SimulatedRun<F, EF, M::Commitment>, SumcheckError>
     requires difficulty { pow_bits ≤ (C.party challenger.old).rules.max_bits }
-    requires fit { IsFit F.ops (shape_made ZkPrelude.InheritedClaim folding_factor
+    requires fit { IsFit F.ops (inherited_shape folding_factor
         (Enc.message_length encoding.now) pow_bits) }
     ensures rules { (C.party challenger.new).rules ≡ (C.party challenger.old).rules }
     ensures steps { SimulatesInStep (run_in F.number EF.number) EF.ops
         (simulation_by (C.party challenger.old) EF.extension F.ops.size
-        (shape_made ZkPrelude.InheritedClaim folding_factor (Enc.message_length encoding.now)
+        (inherited_shape folding_factor (Enc.message_length encoding.now)
         pow_bits) (EF.number claimed_sum) (draft_from ⟦<Enc as ZkEncoding<EF>>⟧
         ⟦<M as Mmcs<EF>>⟧ EF.ops encoding.now mmcs.now folding_factor (G.stream rng.old)))
         result (C.party challenger.new).history }

@@ -1,6 +1,7 @@
 //! The simulators.
 ghost use Rattle.std.specs.Prelude.{◌≡◌, ◌≤◌, ℕ, IfOk};
-ghost use Rattle.sc_zk_transcript.specs.Shapes.{shape_made, IsFit};
+ghost use Rattle.sc_zk_transcript.specs.Shapes.{IsFit};
+ghost use Rattle.sc_zk_rounds.specs.Heads.{inherited_shape, recorded_shape};
 ghost use Rattle.sc_zk_rounds.specs.Data.{sent_in};
 ghost use Rattle.sc_zk_simulators.specs.Drafts.{draft_from, IsDrawn};
 ghost use Rattle.sc_zk_simulators.specs.Simulations.{simulation_by, answer_in, LeavesSimulated};
@@ -13,7 +14,6 @@ use sc_field::{ExtensionField, Field, with_room};
 use sc_table::Point;
 use sc_transcript::SumcheckError;
 use sc_transcript::driver::RoundShape;
-use sc_zk_definitions::ZkPrelude;
 use sc_zk_rounds::ZkSumcheckData;
 use sc_zk_rounds::head::observe_head;
 use sc_zk_rounds::mixing::masks_total;
@@ -58,7 +58,7 @@ pub fn simulate_classic_unpacked_claim<
     rng: &mut G,
 ) -> Result<(ZkSumcheckData<F, EF>, M::Commitment, Point<EF>), SumcheckError>
     requires difficulty { pow_bits ≤ (C.party challenger.old).rules.max_bits }
-    requires fit { IsFit F.ops (shape_made ZkPrelude.InheritedClaim folding_factor
+    requires fit { IsFit F.ops (inherited_shape folding_factor
         (Enc.message_length encoding.now) pow_bits) }
     ensures rules { (C.party challenger.new).rules ≡ (C.party challenger.old).rules }
     ensures drawn { IfOk result (λ r. IsDrawn (draft_from ⟦<Enc as ZkEncoding<EF>>⟧
@@ -66,7 +66,7 @@ pub fn simulate_classic_unpacked_claim<
         (sent_in F.number EF.number r.0) (G.stream rng.new)) }
     ensures leaves { LeavesSimulated (answer_in F.number EF.number)
         (simulation_by (C.party challenger.old) EF.extension F.ops.size
-        (shape_made ZkPrelude.InheritedClaim folding_factor (Enc.message_length encoding.now)
+        (inherited_shape folding_factor (Enc.message_length encoding.now)
         pow_bits) (EF.number claimed_sum) (draft_from ⟦<Enc as ZkEncoding<EF>>⟧
         ⟦<M as Mmcs<EF>>⟧ EF.ops encoding.now mmcs.now folding_factor (G.stream rng.old)))
         result (C.party challenger.new).history }
@@ -102,7 +102,7 @@ pub fn simulate_recorded<
     rng: &mut G,
 ) -> Result<(ZkSumcheckData<F, EF>, M::Commitment, Point<EF>), SumcheckError>
     requires difficulty { pow_bits ≤ (C.party challenger.old).rules.max_bits }
-    requires fit { IsFit F.ops (shape_made ZkPrelude.RecordedClaims folding_factor
+    requires fit { IsFit F.ops (recorded_shape folding_factor
         (Enc.message_length encoding.now) pow_bits) }
     ensures rules { (C.party challenger.new).rules ≡ (C.party challenger.old).rules }
     ensures drawn { IfOk result (λ r. IsDrawn (draft_from ⟦<Enc as ZkEncoding<EF>>⟧
@@ -110,7 +110,7 @@ pub fn simulate_recorded<
         (sent_in F.number EF.number r.0) (G.stream rng.new)) }
     ensures leaves { (claim : ℕ) → LeavesSimulated (answer_in F.number EF.number)
         (simulation_by (C.party challenger.old) EF.extension F.ops.size
-        (shape_made ZkPrelude.RecordedClaims folding_factor (Enc.message_length encoding.now)
+        (recorded_shape folding_factor (Enc.message_length encoding.now)
         pow_bits) claim (draft_from ⟦<Enc as ZkEncoding<EF>>⟧ ⟦<M as Mmcs<EF>>⟧ EF.ops encoding.now
         mmcs.now folding_factor (G.stream rng.old))) result (C.party challenger.new).history }
 {

@@ -2,7 +2,7 @@ use Rattle.std.proofs.Common.{rules, ◌≡◌, length, map, Vec, Global, Ok, Er
 use Rattle.std.proofs.lemmas.List.{length-map}
 use Rattle.sc_definitions.specs.Ring.{plus, times}
 use Rattle.sc_definitions.specs.Channels.{empty_wire}
-use Rattle.sc_definitions.specs.Shown.{Shown, setting_at, standing_at}
+use Rattle.sc_definitions.specs.Shown.{Shown, with_scaled, setting_at, standing_at}
 use Rattle.sc_challenger.specs.Parties.{channel_by}
 use Rattle.sc_commitments.specs.Matrices.{lists_in}
 use Rattle.sc_rounds.specs.ProverViews.{shown_by}
@@ -37,7 +37,7 @@ returns-in_err-handoff-clause-steps g c =
     let handed = handed_in residual_in N in
     let h = (P c.into_zk_sumcheck_with.new.challenger).history in
     let sent = sent_in g.F.Field.number N c.into_zk_sumcheck_with.new.zk_data in
-    falls-out g.F.Field.number (run_in g.F.Field.number N) handed b h sent c.into_zk_sumcheck_with.new.zk_data.pow_witnesses.items c.from_residual-in_err-handoff.result c.in_err-handoff.field-0.0
+    falls-out with_scaled g.F.Field.number (run_in g.F.Field.number N) handed b h sent c.into_zk_sumcheck_with.new.zk_data.pow_witnesses.items c.from_residual-in_err-handoff.result c.in_err-handoff.field-0.0
     (λ x. g.met.F.Field.number_below x) refl (search rules) (subst (λ (x : MaskedBatch). EndsMasked handed x h sent (Err c.in_err-handoff.field-0.0)) same c.in_err-handoff.ensures.batch)
 
 -- the verifier's refusal: memory ran out
@@ -76,7 +76,7 @@ returns-in_err-replayed-clause-steps g c =
     let s = setting_at (channel_by p E size c.args.pow_bits) o shown in
     let t = standing_at shown p.history empty_wire in
     let ring = g.met.EF.Field.is_field.ring in
-    verifier-stops (told_by N) (run_in g.F.Field.number N) N c.args.masks.items s t m g.F.Field.ops shape ends.after rs H sent.wire (P c.verify_claim.new.challenger).history
+    verifier-stops (told_by N) (run_in g.F.Field.number N) N c.args.masks.items InheritedClaim s t m g.F.Field.ops shape ends.after rs H sent.wire (P c.verify_claim.new.challenger).history
     c.from_residual-in_err-replayed.result c.in_err-replayed.field-0.0 refl is ends.left.played heads ends.wire ring (subst (IsFit g.F.Field.ops) (sym made) c.requires.fit) refl c.requires.coded.masks
     (search rules) c.in_err-replayed.ensures.left
 
@@ -127,7 +127,7 @@ returns-clause-steps g c =
       mask_residual = c.mask_residual.result;
     } in
     let half = half-twice g.F.Field.ops o g.EF.Algebra.embedding g.met.F.Field.is_field g.met.EF.Field.is_field g.met.EF.Algebra.embeds c.requires.fit.odd in
-    let taken = verifier-accepts (told_by N) s t m g.F.Field.ops shape after rs H sent.wire (P c.verify_claim.new.challenger).history c.in_ok-replayed.replayed refl is ends.left.played heads ends.wire ring half
+    let taken = verifier-accepts (told_by N) InheritedClaim s t m g.F.Field.ops shape after rs H sent.wire (P c.verify_claim.new.challenger).history c.in_ok-replayed.replayed refl is ends.left.played heads ends.wire ring half
     c.in_ok-replayed.ensures.left in
     steps-through b after rs (told_by N c.in_ok-replayed.replayed) (P c.verify_claim.new.challenger).history (run_in g.F.Field.number N run) ring ends.left.played taken refl refl refl ends.total ends.wire
     (c.claimed_sum-2.ensures.number ∙ ap (λ (x : Shown). x.claim) ends.left.shown)

@@ -6,9 +6,8 @@ use Rattle.sc_transcript.proofs.ReplayedLaws.{same_channel}
 use Rattle.sc_transcript.proofs.BatchLaws.{same_setting}
 use Rattle.sc_zk_definitions.specs.MaskedRuns.{Masking}
 use Rattle.sc_zk_definitions.specs.MaskedBatches.{MaskedBatch}
-use Rattle.sc_zk_rounds.specs.Handoffs.{asked_masks, batch_from}
-use Rattle.sc_zk_rounds.specs.Verified.{at_history}
-use Rattle.sc_zk_rounds.specs.Views.{setting_by, standing_by}
+use Rattle.sc_challenger.specs.Parties.{Party}
+use Rattle.sc_zk_rounds.specs.Views.{player, terms, setting_of, stands_at, masks_for, batch_of}
 use Rattle.sc_zk_rounds.proofs.MaskedBatchLaws.{combination-is, history-is, masks-are, head-stops, batch-rounds, whole-batch, broken-batch, stops-batch}
 use Rattle.sc_zk_rounds.proofs.player.play_begun.Goals as goal
 
@@ -21,16 +20,17 @@ returns-in_err-eps-clause-plays g c h begins =
     let E = g.EF.ExtensionField.extension in
     let shown = g.P.PlainRounds.shown in
     let p = shown c.args.prover.now in
-    let party = at_history h (P c.args.challenger.now) in
-    let s = setting_by party E g.F.Field.ops.size c.args.shape.pow_bits o p in
-    let t = standing_by g.F.Field.number N p c.args.zk_data.now party in
+    let party : Party = record (P c.args.challenger.now) { history = h } in
+    let x = player g.F.Field.number N party p c.args.zk_data.now in
+    let s = setting_of (terms g.F.Field.ops o E c.args.shape.pow_bits) x in
+    let t = stands_at x in
     let vs = c.args.masks.now in
     let ws = c.args.words.now in
     let mu = c.total-zk_data.result in
     let claim = plus o p.claim (N c.args.aux) in
     let k : Masking = record { masks = lists_in N vs; eps = 0; half = N c.one_half.result; aux = N c.args.aux } in
     let total = c.total-zk_data.ensures k c.one_half.ensures.half (c.new-mixing.ensures k refl refl refl) in
-    let b : MaskedBatch = batch_from c.args.shape.prelude s t (asked_masks c.args.shape.ell_zk (lists_in N vs) ws (N c.args.aux)) in
+    let b : MaskedBatch = batch_of g.F.Field.ops o E c.args.shape x (masks_for N c.args.shape vs ws c.args.aux) in
     stops-batch N b (P c.combine_begun.new.challenger).history _ c.from_residual.result (search rules)
     (head-stops N s t vs ws c.args.shape c.args.aux mu claim c.requires.shape.is refl refl total _ (c.in_err-eps.ensures.combines h claim begins))
 
@@ -43,22 +43,23 @@ returns-in_err-play_masks-clause-plays g c h begins =
     let E = g.EF.ExtensionField.extension in
     let shown = g.P.PlainRounds.shown in
     let p = shown c.args.prover.now in
-    let party = at_history h (P c.args.challenger.now) in
-    let s = setting_by party E g.F.Field.ops.size c.args.shape.pow_bits o p in
-    let t = standing_by g.F.Field.number N p c.args.zk_data.now party in
+    let party : Party = record (P c.args.challenger.now) { history = h } in
+    let x = player g.F.Field.number N party p c.args.zk_data.now in
+    let s = setting_of (terms g.F.Field.ops o E c.args.shape.pow_bits) x in
+    let t = stands_at x in
     let vs = c.args.masks.now in
     let ws = c.args.words.now in
     let mu = c.total-zk_data.result in
     let claim = plus o p.claim (N c.args.aux) in
     let k : Masking = record { masks = lists_in N vs; eps = 0; half = N c.one_half.result; aux = N c.args.aux } in
     let total = c.total-zk_data.ensures k c.one_half.ensures.half (c.new-mixing.ensures k refl refl refl) in
-    let b : MaskedBatch = batch_from c.args.shape.prelude s t (asked_masks c.args.shape.ell_zk (lists_in N vs) ws (N c.args.aux)) in
+    let b : MaskedBatch = batch_of g.F.Field.ops o E c.args.shape x (masks_for N c.args.shape vs ws c.args.aux) in
     let combined = c.in_ok-eps.ensures.combines h claim begins in
     let eps = combination-is N s t vs ws c.args.shape c.args.aux mu claim c.requires.shape.is refl refl total c.in_ok-eps.eps combined.0 in
     let begun = history-is N s t vs ws c.args.shape c.args.aux mu claim c.requires.shape.is refl refl total (P c.combine_begun.new.challenger).history combined.1 in
     let are = masks-are N s t vs ws c.args.shape c.args.aux mu claim c.requires.shape.is refl refl total c.one_half.result c.in_ok-eps.eps c.new-mixing.result c.one_half.ensures.number
     c.one_half.ensures.half c.new-mixing.ensures eps in
-    let after = standing_by g.F.Field.number N (shown c.play_masks.new.prover) c.play_masks.new.zk_data (P c.play_masks.new.challenger) in
+    let after = stands_at (player g.F.Field.number N (P c.play_masks.new.challenger) (shown c.play_masks.new.prover) c.play_masks.new.zk_data) in
     let rs = map N c.play_masks.new.challenges.items in
     broken-batch (Unit {0}) N b after rs rs c.in_err-play_masks.field-0.0 c.from_residual-in_err-play_masks.result (search rules)
     (batch-rounds {X = Unit {0}} o N b vs c.in_ok-eps.eps c.new-mixing.result after rs (Err c.in_err-play_masks.field-0.0)
@@ -79,22 +80,23 @@ returns-clause-plays g c h begins =
     let E = g.EF.ExtensionField.extension in
     let shown = g.P.PlainRounds.shown in
     let p = shown c.args.prover.now in
-    let party = at_history h (P c.args.challenger.now) in
-    let s = setting_by party E g.F.Field.ops.size c.args.shape.pow_bits o p in
-    let t = standing_by g.F.Field.number N p c.args.zk_data.now party in
+    let party : Party = record (P c.args.challenger.now) { history = h } in
+    let x = player g.F.Field.number N party p c.args.zk_data.now in
+    let s = setting_of (terms g.F.Field.ops o E c.args.shape.pow_bits) x in
+    let t = stands_at x in
     let vs = c.args.masks.now in
     let ws = c.args.words.now in
     let mu = c.total-zk_data.result in
     let claim = plus o p.claim (N c.args.aux) in
     let k : Masking = record { masks = lists_in N vs; eps = 0; half = N c.one_half.result; aux = N c.args.aux } in
     let total = c.total-zk_data.ensures k c.one_half.ensures.half (c.new-mixing.ensures k refl refl refl) in
-    let b : MaskedBatch = batch_from c.args.shape.prelude s t (asked_masks c.args.shape.ell_zk (lists_in N vs) ws (N c.args.aux)) in
+    let b : MaskedBatch = batch_of g.F.Field.ops o E c.args.shape x (masks_for N c.args.shape vs ws c.args.aux) in
     let combined = c.in_ok-eps.ensures.combines h claim begins in
     let eps = combination-is N s t vs ws c.args.shape c.args.aux mu claim c.requires.shape.is refl refl total c.in_ok-eps.eps combined.0 in
     let begun = history-is N s t vs ws c.args.shape c.args.aux mu claim c.requires.shape.is refl refl total (P c.combine_begun.new.challenger).history combined.1 in
     let are = masks-are N s t vs ws c.args.shape c.args.aux mu claim c.requires.shape.is refl refl total c.one_half.result c.in_ok-eps.eps c.new-mixing.result c.one_half.ensures.number
     c.one_half.ensures.half c.new-mixing.ensures eps in
-    let after = standing_by g.F.Field.number N (shown c.play_masks.new.prover) c.play_masks.new.zk_data (P c.play_masks.new.challenger) in
+    let after = stands_at (player g.F.Field.number N (P c.play_masks.new.challenger) (shown c.play_masks.new.prover) c.play_masks.new.zk_data) in
     let rs = map N c.play_masks.new.challenges.items in (
       whole-batch b after rs c.in_ok-play_masks.field-0
           (batch-rounds o N b vs c.in_ok-eps.eps c.new-mixing.result after rs (Ok c.in_ok-play_masks.field-0)

@@ -17,7 +17,7 @@ returns-in_err-r-clause-round g c = λ k rs size of.
     (N c.in_ok-message.message.c_a) (N c.in_ok-message.message.c_inf) c.in_ok-message.ensures.message N
     (channel_by (g.C.Challenger.party c.args.challenger.now) g.EF.ExtensionField.extension g.F.Field.ops.size c.args.rounds.now.shape.pow_bits) k rs c.args.rounds.now.played
     (shown c.measure.new.self) (g.C.Challenger.party c.args.challenger.now).history (g.C.Challenger.party c.put_round.new.challenger).history
-    (masked_wire_in g.F.Field.number N c.args.zk_data.now) (masked_wire_in g.F.Field.number N c.put_round.new.self) (numbers_in N c.in_ok-wire.wire) c.in_err-r.field-0.0
+    (masked_wire_in g.F.Field.number N c.args.sent.now) (masked_wire_in g.F.Field.number N c.put_round.new.self) (numbers_in N c.in_ok-wire.wire) c.in_err-r.field-0.0
     c.from_residual-in_err-r.result c.measure.ensures.kept c.in_err-r.ensures.kept size made c.in_err-r.ensures.refused.why (search rules)
 
 -- the round is played
@@ -34,5 +34,5 @@ returns-clause-round g c = λ k rs size of.
     (N c.in_ok-message.message.c_a) (N c.in_ok-message.message.c_inf) c.in_ok-message.ensures.message
     (channel_by (g.C.Challenger.party c.args.challenger.now) g.EF.ExtensionField.extension g.F.Field.ops.size c.args.rounds.now.shape.pow_bits) k rs
     (shown c.bind.new.self) (g.C.Challenger.party c.args.challenger.now).history (g.C.Challenger.party c.put_round.new.challenger).history
-    (masked_wire_in g.F.Field.number N c.args.zk_data.now) (masked_wire_in g.F.Field.number N c.put_round.new.self) (numbers_in N c.in_ok-wire.wire) puts.witness r
+    (masked_wire_in g.F.Field.number N c.args.sent.now) (masked_wire_in g.F.Field.number N c.put_round.new.self) (numbers_in N c.in_ok-wire.wire) puts.witness r
     bound made puts.plays.sent puts.wire

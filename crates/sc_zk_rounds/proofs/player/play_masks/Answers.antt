@@ -7,7 +7,7 @@ use Rattle.sc_transcript.proofs.ReplayedLaws.{same_channel}
 use Rattle.sc_transcript.proofs.BatchLaws.{same_setting}
 use Rattle.sc_definitions.proofs.StandingLaws.{IsSized}
 use Rattle.sc_zk_definitions.specs.MaskedRuns.{Masking, IsMasked}
-use Rattle.sc_zk_rounds.specs.Views.{setting_by, standing_by}
+use Rattle.sc_zk_rounds.specs.Views.{player, terms, setting_of, stands_at}
 use Rattle.sc_zk_rounds.specs.Data.{masked_wire_in}
 use Rattle.sc_zk_rounds.specs.Mixings.{IsMixing}
 use Rattle.sc_zk_rounds.specs.Rounds.{AreMasks}
@@ -21,8 +21,9 @@ loop-i-init g c =
     let N = g.EF.Field.number in
     let p = c.args.prover.now in
     let party = g.C.Challenger.party c.args.challenger.now in
-    let s = setting_by party g.EF.ExtensionField.extension g.F.Field.ops.size c.args.shape.pow_bits o (g.P.PlainRounds.shown p) in
-    let t = standing_by g.F.Field.number N (g.P.PlainRounds.shown p) c.args.zk_data.now party in
+    let x = player g.F.Field.number N party (g.P.PlainRounds.shown p) c.args.zk_data.now in
+    let s = setting_of (terms g.F.Field.ops o g.EF.ExtensionField.extension c.args.shape.pow_bits) x in
+    let t = stands_at x in
     let tables = g.met.P.PlainRounds.tables p in
     let size : IsSized t = record { evals = tables.evals; weights = tables.weights } in
     let empty = c.requires.challenges.empty in
@@ -52,7 +53,7 @@ returns-in-Err-clause-rounds g c = λ k are.
     let of = of-mask o N k c.args.masks.now c.args.eps c.args.mixing c.loop-i.mixing i rs c.index-masks-i.result c.as_slice-mask.result.now low c.index-masks-i.is
     c.as_slice-mask.ensures.value size are (inv.mixed k are) in
     stops-masks {X = Unit {0}} N
-    (standing_at (g.P.PlainRounds.shown c.play_masked.new.prover) (g.C.Challenger.party c.play_masked.new.challenger).history (masked_wire_in g.F.Field.number N c.play_masked.new.zk_data)) rs
+    (standing_at (g.P.PlainRounds.shown c.play_masked.new.prover) (g.C.Challenger.party c.play_masked.new.challenger).history (masked_wire_in g.F.Field.number N c.play_masked.new.sent)) rs
     (length c.args.masks.now) c.in-Err.error (Err c.in-Err.error)
     (same_setting (same_channel g.F.Field.ops.size inv.rules (ap (λ (s : BatchShape). s.pow_bits) inv.shape)) inv.form.basis inv.form.order)
     g.met.EF.Field.is_field.ring (subst (λ b. IsOffered b (g.P.PlainRounds.shown c.args.prover.now).order) (sym c.requires.basis) tt) (omega (arith, size, low)) (omega (arith, inv.left, low, c.requires.plays, g.met.P.PlainRounds.within c.loop-i.prover))

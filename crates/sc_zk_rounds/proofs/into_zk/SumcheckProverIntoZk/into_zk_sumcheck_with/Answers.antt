@@ -5,8 +5,8 @@ use Rattle.sc_rounds.specs.ProverViews.{shown_by, stored_by}
 use Rattle.sc_zk_definitions.specs.MaskedBatches.{MaskedBatch}
 use Rattle.sc_zk_transcript.specs.declared.shape.ZkSumcheckShape.{ZkSumcheckShape}
 use Rattle.sc_zk_rounds.specs.Data.{masked_wire_in, sent_in}
-use Rattle.sc_zk_rounds.specs.Handoffs.{asked_masks, batch_from, EndsMasked}
-use Rattle.sc_zk_rounds.specs.Views.{residual_in, Coded, coded_in, handed_in, masks_under, setting_by, standing_by}
+use Rattle.sc_zk_rounds.specs.Handoffs.{EndsMasked}
+use Rattle.sc_zk_rounds.specs.Views.{residual_in, Coded, coded_in, handed_in, masks_under, player, stands_at, masks_for, batch_of}
 use Rattle.sc_zk_rounds.proofs.MaskedBatchLaws.{same-batch, hands-on, ends-before, ends-broken, shape-of}
 use Rattle.sc_zk_rounds.proofs.into_zk.SumcheckProverIntoZk.into_zk_sumcheck_with.Goals as goal
 
@@ -41,8 +41,8 @@ returns-in_err-eps-clause-batch g c =
     ∙ ap (g.M.Mmcs.words_of c.args.mmcs.now) (committed.oracle.commitment ∙ ap (λ vs. commitment (coded_in N vs c.deref-2.result.now)) c.deref.ensures.value
     ∙ ap (λ vs. commitment (coded_in N c.args.masks.items vs)) c.deref-2.ensures.value)) in
     let shape = c.new_inherited-shape.result in
-    let b : MaskedBatch = batch_from shape.prelude (setting_by party g.EF.ExtensionField.extension g.F.Field.ops.size shape.pow_bits o (shown_by p)) (standing_by g.F.Field.number N (shown_by p) c.args.zk_data.now party) (asked_masks shape.ell_zk (lists_in N c.deref-3.result.now) c.deref-4.result.now (N c.args.aux_claim)) in
-    let after = standing_by g.F.Field.number N (shown_by c.play_batch.new.prover) c.play_batch.new.zk_data (g.C.Challenger.party c.play_batch.new.challenger) in
+    let b : MaskedBatch = batch_of g.F.Field.ops o g.EF.ExtensionField.extension shape (player g.F.Field.number N party (shown_by p) c.args.zk_data.now) (masks_for N shape c.deref-3.result.now c.deref-4.result.now c.args.aux_claim) in
+    let after = stands_at (player g.F.Field.number N (g.C.Challenger.party c.play_batch.new.challenger) (shown_by c.play_batch.new.prover) c.play_batch.new.zk_data) in
     let rs = map N c.play_batch.new.challenges.items in
     let sent = sent_in g.F.Field.number N c.play_batch.new.zk_data in
     let handed = handed_in residual_in N in
@@ -67,8 +67,8 @@ returns-clause-batch g c =
     ∙ ap (g.M.Mmcs.words_of c.args.mmcs.now) (committed.oracle.commitment ∙ ap (λ vs. commitment (coded_in N vs c.deref-2.result.now)) c.deref.ensures.value
     ∙ ap (λ vs. commitment (coded_in N c.args.masks.items vs)) c.deref-2.ensures.value)) in
     let shape = c.new_inherited-shape.result in
-    let b : MaskedBatch = batch_from shape.prelude (setting_by party g.EF.ExtensionField.extension g.F.Field.ops.size shape.pow_bits o (shown_by p)) (standing_by g.F.Field.number N (shown_by p) c.args.zk_data.now party) (asked_masks shape.ell_zk (lists_in N c.deref-3.result.now) c.deref-4.result.now (N c.args.aux_claim)) in
-    let after = standing_by g.F.Field.number N (shown_by c.play_batch.new.prover) c.play_batch.new.zk_data (g.C.Challenger.party c.play_batch.new.challenger) in
+    let b : MaskedBatch = batch_of g.F.Field.ops o g.EF.ExtensionField.extension shape (player g.F.Field.number N party (shown_by p) c.args.zk_data.now) (masks_for N shape c.deref-3.result.now c.deref-4.result.now c.args.aux_claim) in
+    let after = stands_at (player g.F.Field.number N (g.C.Challenger.party c.play_batch.new.challenger) (shown_by c.play_batch.new.prover) c.play_batch.new.zk_data) in
     let rs = map N c.play_batch.new.challenges.items in
     let sent = sent_in g.F.Field.number N c.play_batch.new.zk_data in
     let handed = handed_in residual_in N in
