@@ -1,7 +1,7 @@
 -- Plain rounds on two tables whose first variables are bound, without the tables.
 use Rattle.std.proofs.Common.{pow-suc, ◌≡◌, ℕ, suc, ◌+◌, ◌-◌, ◌^◌, ◌<◌, List, [], ◌∷◌, ◌++◌, length, sym, ◌∙◌, ap, subst, refl, arith, length-append}
 use Rattle.sc_definitions.specs.Ring.{Ops, IsRing}
-use Rattle.sc_definitions.specs.Tables.{evaluation, Order, rows_of, inner, bound_in, bound_by}
+use Rattle.sc_definitions.specs.Tables.{evaluation, Order, prefix, suffix, rows_of, inner, bound_in, bound_by}
 use Rattle.sc_definitions.specs.Messages.{message_of}
 use Rattle.sc_definitions.specs.Rounds.{honest_pair, next_claim}
 use Rattle.sc_definitions.specs.Standings.{entries_of, half_rows}
@@ -12,12 +12,12 @@ use Rattle.sc_definitions.proofs.PlacedLaws.{bound_by-append}
 use Rattle.sc_definitions.proofs.PlayedLaws.{message-same, bound_in-same}
 use Rattle.sc_definitions.proofs.RoundLaws.{honest_pair-message}
 use Rattle.sc_definitions.proofs.StandingLaws.{length-entries_of, rows-entries_of, entries-is}
-use Rattle.sc_rounds.proofs.HeldLaws.{honest_message, true_bound}
+use Rattle.sc_rounds.proofs.HeldLaws.{honest_message, true_bound, true_scaled}
 use Rattle.sc_svo.specs.Batches.{GridBatch}
 use Rattle.sc_definitions.specs.Ring.{times}
 use Rattle.sc_definitions.proofs.Identity.{atom, ◌⊗◌, Agree, identity}
 use Rattle.sc_definitions.proofs.Sums.{sum-same, times-sum}
-use Rattle.sc_definitions.specs.Shown.{sum_with}
+use Rattle.sc_definitions.specs.Shown.{sum_with, with_scaled}
 use Rattle.std.proofs.lemmas.List.{length-map}
 use Rattle.sc_table.specs.declared.poly.Poly.{Poly}
 use Rattle.sc_table.specs.Polys.{variables_of, table_of}
@@ -26,7 +26,7 @@ use Rattle.sc_rounds.specs.Products.{numbers_of, variables_in, basis_in, order_i
 use Rattle.sc_rounds.specs.Provers.{shown_of}
 use Rattle.sc_rounds.proofs.ShownLaws.{rows-numbers, same_numbers}
 use Rattle.sc_svo.specs.Batches.{IsBoundBy}
-use Rattle.sc_zk_layout.specs.Grids.{bound_entries, shown_after, grid_claim, pair_shown, with_scaled_evals}
+use Rattle.sc_zk_layout.specs.Grids.{bound_entries, shown_after, grid_claim, pair_shown, with_scaled_evals, side_scaled, with_side_scaled}
 
 module _ (o : Ops) (order : Order) (f w : ℕ → ℕ) (rs : List ℕ) where
   -- the entries of a table with one variable more bound
@@ -113,6 +113,13 @@ module _ (o : Ops) (ring : IsRing o) where
       ∙ sum-same o n _ _ (λ b low. identity o ring (f b ∷ w b ∷ k ∷ []) (K ⊗ (F ⊗ W)) ((F ⊗ K) ⊗ W) tt tt refl
       ∙ ap (λ x. times o x (w b)) (sym (rows-entries_of s.variables (λ i. times o (f i) k) b low)))
 
+  -- and with either side multiplied
+  pub true-side : (s : Shown) (k : ℕ) → IsTrueClaim o s → IsTrueClaim o (with_side_scaled o s k)
+  true-side s k true_claim = cases s.order where
+    cases : (d : Order) → IsTrueClaim o (side_scaled d o s k)
+    cases prefix = true_scaled o ring s k true_claim
+    cases suffix = true-evals s k true_claim
+
 module _ {EF : Type 0} (o : Ops) (number : EF → ℕ) where
   -- a table that is bound has these entries
   numbers-bound : (s : GridBatch) (f : ℕ → ℕ) (rs : List ℕ) (p : Poly EF) → IsBoundBy o number s f rs p → numbers_of number p ≡ bound_entries o s.order rs (variables_of p) f
@@ -156,3 +163,14 @@ module _ {EF : Type 0} (o : Ops) (number : EF → ℕ) where
       entries-is (variables_of p) (numbers_of number p') _ size
       (λ b low. ap (λ t. t b) (rows-numbers number p'.evals.items) ∙ rows b low ∙ ap (λ t. times o (t b) k) (sym (rows-numbers number p.evals.items))) in
       λ i. record { basis = evaluation; order = order; variables = same i; evals = evals i; weights = numbers_of number q; claim = times o claim k }
+
+  -- the same of the weights
+  pub weighted-pair : (order : Order) (p q q' : Poly EF) (claim k : ℕ) → variables_of p ≡ variables_of q → variables_of q' ≡ variables_of q →
+      ((b : ℕ) → b < 2 ^ variables_of q → table_of number q' b ≡ times o (table_of number q b) k) →
+      pair_shown number order p q' (times o claim k) ≡ with_scaled o (pair_shown number order p q claim) k
+  weighted-pair order p q q' claim k same kept rows =
+      let size : length (numbers_of number q') ≡ 2 ^ variables_of p = length-map q'.evals.items number ∙ sym q'.evals.ok.0 ∙ q'.sized ∙ ap (λ n. 2 ^ n) (kept ∙ sym same) in
+      let weights : numbers_of number q' ≡ entries_of (variables_of p) (λ b. times o (rows_of (numbers_of number q) b) k) =
+      entries-is (variables_of p) (numbers_of number q') _ size
+      (λ b low. ap (λ t. t b) (rows-numbers number q'.evals.items) ∙ rows b (subst (λ n. b < 2 ^ n) same low) ∙ ap (λ t. times o (t b) k) (sym (rows-numbers number q.evals.items))) in
+      λ i. record { basis = evaluation; order = order; variables = variables_of p; evals = numbers_of number p; weights = weights i; claim = times o claim k }

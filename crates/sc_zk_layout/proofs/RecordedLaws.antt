@@ -1,6 +1,6 @@
 -- The rounds of all that a layout has recorded, and how they end.
 use mathlib.Core.Path.{fun_ext}
-use Rattle.std.proofs.Common.{◌≡◌, ℕ, suc, ◌-◌, List, [], ◌∷◌, length, Vec, Result, Err, None, Option, inl, inr, sym, ◌∙◌, ap, subst, refl, arith}
+use Rattle.std.proofs.Common.{◌≡◌, ℕ, suc, ◌-◌, List, [], ◌∷◌, length, Vec, Result, Ok, Err, IfOk, None, Option, inl, inr, sym, ◌∙◌, ap, subst, refl, arith}
 use Rattle.std.proofs.lemmas.List.{length-map}
 use Rattle.std.proofs.lemmas.List.Elements.{All-head, All-tail}
 use Rattle.sc_definitions.specs.declared.events.Event.{Event}
@@ -27,9 +27,9 @@ use Rattle.sc_zk_transcript.specs.Shapes.{shape_made, fixed_by}
 use Rattle.sc_zk_rounds.specs.Data.{Sent}
 use Rattle.sc_zk_rounds.specs.Handoffs.{asked_masks, batch_from, Handed, HandsOnBy, EndsMaskedBy, PlaysBatch, shown_from}
 use Rattle.sc_zk_rounds.proofs.MaskedBatchLaws.{shown-after}
-use Rattle.sc_zk_layout.specs.Grids.{shown_after, with_side_scaled}
+use Rattle.sc_zk_layout.specs.Grids.{bound_entries, shown_after, with_side_scaled}
 use Rattle.sc_challenger.specs.Parties.{Party}
-use Rattle.sc_zk_layout.specs.Recorded.{laid_shown, recorded_batch}
+use Rattle.sc_zk_layout.specs.Recorded.{laid_shown, laid_after, recorded_batch}
 
 -- ---- the batch of all that is recorded
 
@@ -64,6 +64,21 @@ module _ (o : Ops) where
       ap (λ n. entries_of n (combined_weight o s.claims)) all ∙ ap (λ cs. entries_of l.variables (combined_weight o cs)) claims
       ∙ ap (entries_of l.variables) (fun_ext (combined-batched alpha 0 (statements_of l.recorded))) in
       λ i. record { basis = evaluation; order = order i; variables = all i; evals = evals i; weights = weights i; claim = is i }
+
+  -- what its rounds leave
+  pub laid-left : (s : GridBatch) (f : ℕ → ℕ) (l : Laid) (alpha claim : ℕ) (rs : List ℕ) → s.order ≡ l.order → s.variables ≡ l.variables → s.claims ≡ scaled_from o alpha 0 (statements_of l.recorded) → f ≡ l.rows →
+      shown_after o s f rs claim ≡ laid_after o l alpha rs claim
+  laid-left s f l alpha claim rs order variables claims rows =
+      let w = batched_weight o alpha 0 (statements_of l.recorded) in
+      let weights : combined_weight o s.claims ≡ w = ap (combined_weight o) claims ∙ fun_ext (combined-batched alpha 0 (statements_of l.recorded)) in
+      λ i. record {
+        basis = evaluation;
+        order = order i;
+        variables = variables i - length rs;
+        evals = bound_entries o (order i) rs (variables i - length rs) (rows i);
+        weights = bound_entries o (order i) rs (variables i - length rs) (weights i);
+        claim = claim;
+      }
 
 -- ---- one batch under other names
 
@@ -129,6 +144,11 @@ ends-as scaled handed handed' b b' h sent e result same is ends =
     (rw is (record { after = ends.after; left = ends.left; history = ends.history; wire = ends.wire; total = tt }))
 
 -- one batch of a layout under other names
-pub same-laid : (p : Party) (E : Extension) (size : ℕ) (o : Ops) (l : Laid) (s s' : ZkSumcheckShape) (n n' : ℕ) (masks masks' : List (List ℕ)) (ws ws' : List ℕ) → s ≡ s' → n ≡ n' → masks ≡ masks' → ws ≡ ws' →
-    recorded_batch p E size o s l (asked_masks n masks ws 0) ≡ recorded_batch p E size o s' l (asked_masks n' masks' ws' 0)
-same-laid p E size o l s s' n n' masks masks' ws ws' es en em ew = rw (es, en, em, ew) refl
+pub same-laid : (p : Party) (E : Extension) (base o : Ops) (l : Laid) (s s' : ZkSumcheckShape) (n n' : ℕ) (masks masks' : List (List ℕ)) (ws ws' : List ℕ) → s ≡ s' → n ≡ n' → masks ≡ masks' → ws ≡ ws' →
+    recorded_batch base o E s p l (asked_masks n masks ws 0) ≡ recorded_batch base o E s' p l (asked_masks n' masks' ws' 0)
+same-laid p E base o l s s' n n' masks masks' ws ws' es en em ew = rw (es, en, em, ew) refl
+
+-- what holds of an answer by two clauses
+pub ok-both : {X E : Type 0} {A B C : X → Type 0} (r : Result X E) → ((x : X) → A x → B x → C x) → IfOk r A → IfOk r B → IfOk r C
+ok-both (Ok x) f a b = f x a b
+ok-both (Err e) f a b = tt

@@ -1,5 +1,5 @@
 -- What plain rounds show of two tables whose first variables are bound, which need not be held.
-use Rattle.std.specs.Prelude.{ℕ, ◌-◌, List, length}
+use Rattle.std.specs.Prelude.{◌≡◌, ℕ, ◌-◌, List, length}
 use Rattle.sc_definitions.specs.Ring.{Ops, ◌*⟨◌⟩◌}
 use Rattle.sc_definitions.specs.Tables.{evaluation, Order, prefix, suffix, rows_of, inner, bound_by}
 use Rattle.sc_definitions.specs.Standings.{entries_of}
@@ -7,7 +7,9 @@ use Rattle.sc_definitions.specs.Shown.{Shown, with_scaled}
 use Rattle.sc_definitions.specs.Combined.{combined_weight}
 use Rattle.sc_table.specs.declared.poly.Poly.{Poly}
 use Rattle.sc_table.specs.Polys.{variables_of}
+use Rattle.sc_rounds.specs.declared.product_polynomial.ProductPolynomial.{ProductPolynomial}
 use Rattle.sc_rounds.specs.Products.{numbers_of}
+use Rattle.sc_rounds.specs.Provers.{shown_of}
 use Rattle.sc_svo.specs.Batches.{GridBatch}
 
 -- the entries of a table with m variables left, bound at these challenges
@@ -57,3 +59,8 @@ side_scaled suffix o s scale = with_scaled_evals o s scale
 -- One side and the claim times a number: the weights in prefix order, the evaluations in suffix order.
 abbrev pub with_side_scaled : Ops → Shown → ℕ → Shown
 with_side_scaled o s scale = side_scaled s.order o s scale
+
+-- A pair is what is shown with one side scaled, whatever the claim is that is scaled with it.
+abbrev pub IsScaledPair : {F EF : Type 0} → (EF → ℕ) → Ops → (ℕ → Shown) → ℕ → ProductPolynomial F EF → Type 0
+IsScaledPair {F} {EF} number o shown scale p =
+    (claim : ℕ) (scaled : EF) → number scaled ≡ claim *⟨ o ⟩ scale → shown_of number p scaled ≡ with_side_scaled o (shown claim) scale

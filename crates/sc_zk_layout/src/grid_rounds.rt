@@ -8,7 +8,7 @@ ghost use Rattle.sc_rounds.specs.ProverViews.{shown_by, stored_by};
 ghost use Rattle.sc_svo.specs.Batches.{batch_in, IsTableOf};
 ghost use Rattle.sc_zk_layout.specs.Grids.{shown_after, grid_claim, with_side_scaled};
 
-use crate::scaled::{with_evals_scaled, with_weights_scaled};
+use crate::scaled::scaled_prover;
 use sc_field::{ExtensionField, Field, NoMemory, with_room};
 use sc_rounds::SumcheckProver;
 use sc_svo::SvoBatch;
@@ -86,10 +86,7 @@ impl<'a, F: Field, EF: ExtensionField<F>> GridRounds<'a, F, EF> {
         ensures settled { IfOk result (λ p. (stored_by p).held ≡ None) }
     {
         let (evals, weights) = self.batch.residual(alloc, self.table, &self.challenges)?;
-        match self.order {
-            VariableOrder::Prefix => Ok(with_weights_scaled(evals, weights, self.claim, scale)),
-            VariableOrder::Suffix => Ok(with_evals_scaled(evals, weights, self.claim, scale)),
-        }
+        Ok(scaled_prover(self.order, evals, weights, self.claim, scale))
     }
 }
 

@@ -3,9 +3,11 @@
 #![tactic(auto)]
 
 mod grid_rounds;
+mod layout;
 mod played;
 mod prover;
 mod scaled;
 
 pub use grid_rounds::GridRounds;
+pub use layout::ZkLayout;
 pub use prover::{ZkPrefixProver, ZkProver, ZkSuffixProver};

@@ -61,7 +61,7 @@ pub(crate) fn play_recorded<F: Field, EF: ExtensionField<F>, L: Layout<F, EF>, C
     requires challenges { HasRoomFor (length masks.now) challenges.old }
     ensures rules { (C.party challenger.new).rules ≡ (C.party challenger.old).rules }
     ensures batch { EndsMaskedBy with_side_scaled (played_in challenges.new.items)
-        (recorded_batch (C.party challenger.old) EF.extension F.ops.size EF.ops shape
+        (recorded_batch F.ops EF.ops EF.extension shape (C.party challenger.old)
         (L.laid layout.now) (asked_masks shape.ell_zk (lists_in EF.number masks.now) words.now 0))
         (C.party challenger.new).history (sent_in F.number EF.number zk_data.new) result }
 {

@@ -5,14 +5,13 @@ ghost use Rattle.sc_commitments.specs.Matrices.{lists_in};
 ghost use Rattle.sc_layout.specs.Openings.{KeepsTable, laid_at};
 ghost use Rattle.sc_layout.specs.Openings.{Opens, OpensVirtual, OpensNothing};
 ghost use Rattle.sc_layout.specs.Requests.{asked_in, values_in};
-ghost use Rattle.sc_zk_transcript.specs.Shapes.{shape_made, IsFit};
-ghost use Rattle.sc_zk_rounds.specs.Data.{IsNewData, sent_in};
-ghost use Rattle.sc_zk_rounds.specs.Handoffs.{EndsMaskedBy};
-ghost use Rattle.sc_zk_rounds.specs.Views.{residual_in, AreCoded, coded_in};
-ghost use Rattle.sc_zk_rounds.specs.Views.{handed_in, masks_under, masks_drawn, HasOracle};
-ghost use Rattle.sc_zk_layout.specs.Grids.{with_side_scaled};
-ghost use Rattle.sc_zk_layout.specs.Recorded.{recorded_batch};
+ghost use Rattle.sc_zk_transcript.specs.Shapes.{IsFit};
+ghost use Rattle.sc_zk_rounds.specs.Data.{IsNewData};
+ghost use Rattle.sc_zk_rounds.specs.Views.{AreCoded, coded_in, masks_under, HasOracle};
+ghost use Rattle.sc_zk_rounds.specs.Heads.{recorded_shape};
+ghost use Rattle.sc_zk_layout.specs.Recorded.{recorded_batch, EndsRecorded};
 ghost use Rattle.sc_zk_layout.specs.Provers.{layout_in, encoding_in, scheme_in, KeepsMasks};
+ghost use Rattle.sc_zk_layout.specs.Provers.{masks_by};
 
 use crate::played::play_recorded;
 use rand_core::Rng;
@@ -24,7 +23,7 @@ use sc_table::Point;
 use sc_transcript::SumcheckError;
 use sc_zk_rounds::oracle::commit_masks;
 use sc_zk_rounds::{Handoff, ZkSumcheckData, ZkSumcheckHandoff};
-use sc_zk_transcript::{ZkPrelude, ZkSumcheckShape};
+use sc_zk_transcript::ZkSumcheckShape;
 use std::alloc::Global;
 use std::marker::PhantomData;
 
@@ -69,6 +68,13 @@ impl<F: Field, EF: ExtensionField<F>, Enc: ZkEncoding<EF>, M: Mmcs<EF>, L: Layou
         ensures { result ≡ (L.laid (layout_in self.now)).folding }
     {
         self.inner.folding()
+    }
+
+    /// How many coefficients each mask has: as many as the encoding's messages have elements.
+    pub fn mask_length(&self) -> usize
+        ensures { result ≡ Enc.message_length (encoding_in self.now) }
+    {
+        self.encoding.message_len()
     }
 
     /// How many variables the table has.
@@ -154,17 +160,23 @@ impl<F: Field, EF: ExtensionField<F>, Enc: ZkEncoding<EF>, M: Mmcs<EF>, L: Layou
         rng: &mut G,
     ) -> Result<ZkSumcheckHandoff<F, EF, M>, SumcheckError>
         requires difficulty { pow_bits ≤ (C.party challenger.old).rules.max_bits }
-        requires fit { IsFit F.ops (shape_made ZkPrelude.RecordedClaims
-            (L.laid (layout_in self)).folding (Enc.message_length (encoding_in self)) pow_bits) }
+        requires fit { IsFit F.ops (recorded_shape (L.laid (layout_in self)).folding
+            (Enc.message_length (encoding_in self)) pow_bits) }
         requires fresh { IsNewData F.number EF.number zk_data.old }
         ensures rules { (C.party challenger.new).rules ≡ (C.party challenger.old).rules }
         ensures batch { let l = L.laid (layout_in self) in
-            EndsMaskedBy with_side_scaled (handed_in residual_in EF.number)
-            (recorded_batch (C.party challenger.old) EF.extension F.ops.size EF.ops
-            (shape_made ZkPrelude.RecordedClaims l.folding (Enc.message_length (encoding_in self))
-            pow_bits) l (masks_drawn ⟦<Enc as ZkEncoding<EF>>⟧ ⟦<M as Mmcs<EF>>⟧ (encoding_in self)
-            (scheme_in self) l.folding (G.stream rng.old) 0))
-            (C.party challenger.new).history (sent_in F.number EF.number zk_data.new) result }
+            EndsRecorded (recorded_batch F.ops EF.ops EF.extension
+            (recorded_shape l.folding (Enc.message_length (encoding_in self)) pow_bits)
+            (C.party challenger.old) l (masks_by ⟦<Enc as ZkEncoding<EF>>⟧ ⟦<M as Mmcs<EF>>⟧ self
+            l.folding (G.stream rng.old)))
+            (C.party challenger.new).history zk_data.new result }
+        ensures masks { IfOk result (λ h. length h.mask_messages.items
+            ≡ (L.laid (layout_in self)).folding) }
+        ensures challenges { IfOk result (λ h. length h.randomness
+            ≡ (L.laid (layout_in self)).folding) }
+        ensures coded { IfOk result (λ h. AreCoded (Enc.message_length (encoding_in self))
+            (Enc.randomness_length (encoding_in self)) h.mask_messages.items
+            h.mask_randomness.items) }
         ensures drawn { IfOk result (λ h. drawn (lists_in EF.number h.mask_messages.items)
             (lists_in EF.number h.mask_randomness.items) (G.stream rng.new)
             ≡ masks_from (Enc.message_from (encoding_in self))
@@ -211,18 +223,19 @@ fn play_under<
 ) -> Result<ZkSumcheckHandoff<F, EF, M>, SumcheckError>
     requires count { length masks.items ≡ (L.laid layout.now).folding }
     requires difficulty { pow_bits ≤ (C.party challenger.old).rules.max_bits }
-    requires fit { IsFit F.ops (shape_made ZkPrelude.RecordedClaims (length masks.items)
+    requires fit { IsFit F.ops (recorded_shape (length masks.items)
         (Enc.message_length encoding.now) pow_bits) }
     requires fresh { IsNewData F.number EF.number zk_data.old }
     requires coded { AreCoded (Enc.message_length encoding.now)
         (Enc.randomness_length encoding.now) masks.items randomness.items }
     ensures rules { (C.party challenger.new).rules ≡ (C.party challenger.old).rules }
-    ensures batch { EndsMaskedBy with_side_scaled (handed_in residual_in EF.number)
-        (recorded_batch (C.party challenger.old) EF.extension F.ops.size EF.ops
-        (shape_made ZkPrelude.RecordedClaims (length masks.items) (Enc.message_length encoding.now)
-        pow_bits) (L.laid layout.now) (masks_under ⟦<Enc as ZkEncoding<EF>>⟧ ⟦<M as Mmcs<EF>>⟧
-        encoding.now mmcs.now (coded_in EF.number masks.items randomness.items) 0))
-        (C.party challenger.new).history (sent_in F.number EF.number zk_data.new) result }
+    ensures batch { EndsRecorded (recorded_batch F.ops EF.ops EF.extension
+        (recorded_shape (length masks.items) (Enc.message_length encoding.now) pow_bits)
+        (C.party challenger.old) (L.laid layout.now) (masks_under ⟦<Enc as ZkEncoding<EF>>⟧
+        ⟦<M as Mmcs<EF>>⟧ encoding.now mmcs.now
+        (coded_in EF.number masks.items randomness.items) 0))
+        (C.party challenger.new).history zk_data.new result }
+    ensures challenges { IfOk result (λ h. length h.randomness ≡ length masks.items) }
     ensures masks { IfOk result (λ h. h.mask_messages ≡ masks) }
     ensures randomness { IfOk result (λ h. h.mask_randomness ≡ randomness) }
     ensures oracle { IfOk result (HasOracle ⟦<Enc as ZkEncoding<EF>>⟧ ⟦<M as Mmcs<EF>>⟧

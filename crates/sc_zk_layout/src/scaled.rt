@@ -1,38 +1,42 @@
-//! Provers of two tables of which one side is scaled.
+//! Two tables of which one side is scaled.
 ghost use Rattle.std.specs.Prelude.{◌≡◌, ◌^◌, ◌<◌, ℕ, None, length};
 ghost use Rattle.sc_definitions.specs.Ring.{◌*⟨◌⟩◌};
-ghost use Rattle.sc_definitions.specs.Tables.{prefix, suffix, entries};
-ghost use Rattle.sc_definitions.specs.Shown.{IsTrueClaim, with_scaled};
+ghost use Rattle.sc_definitions.specs.Tables.{entries};
+ghost use Rattle.sc_definitions.specs.Shown.{IsTrueClaim};
 ghost use Rattle.sc_table.specs.Polys.{variables_of, table_of};
+ghost use Rattle.sc_table.specs.Strategy.{order_of};
 ghost use Rattle.sc_rounds.specs.ProverViews.{shown_by, stored_by};
-ghost use Rattle.sc_zk_layout.specs.Grids.{pair_shown, with_scaled_evals};
+ghost use Rattle.sc_zk_layout.specs.Grids.{pair_shown, with_side_scaled, IsScaledPair};
 
 use sc_field::{ExtensionField, Field};
 use sc_rounds::{ProductPolynomial, SumcheckProver};
 use sc_table::{Poly, VariableOrder};
 
-// A prover in prefix order, with the weights and the claim times a value.
-pub(crate) fn with_weights_scaled<F: Field, EF: ExtensionField<F>>(
+// The pair of two tables with one side times a value: the weights in prefix order, the evaluations
+// in suffix order.
+pub(crate) fn scaled_pair<F: Field, EF: ExtensionField<F>>(
+    order: VariableOrder,
     evals: Poly<EF>,
     weights: Poly<EF>,
-    claim: EF,
     scale: EF,
-) -> SumcheckProver<F, EF>
+) -> ProductPolynomial<F, EF>
     requires same { variables_of evals ≡ variables_of weights }
-    requires honest { IsTrueClaim EF.ops
-        (pair_shown EF.number prefix evals weights (EF.number claim)) }
-    ensures shown { shown_by result ≡ with_scaled EF.ops
-        (pair_shown EF.number prefix evals weights (EF.number claim)) (EF.number scale) }
-    ensures settled { (stored_by result).held ≡ None }
+    ensures { IsScaledPair EF.number EF.ops
+        (pair_shown EF.number (order_of order) evals weights) (EF.number scale) result }
 {
-    let pair = ProductPolynomial::new_unpacked(VariableOrder::Prefix, evals, weights);
-    let mut prover = SumcheckProver::new(pair, claim);
-    prover.scale_weights_and_claim(scale);
-    prover
+    match order {
+        VariableOrder::Prefix => {
+            ProductPolynomial::new_unpacked(order, evals, scaled_table(weights, scale))
+        }
+        VariableOrder::Suffix => {
+            ProductPolynomial::new_unpacked(order, scaled_table(evals, scale), weights)
+        }
+    }
 }
 
-// A prover in suffix order, with the evaluations and the claim times a value.
-pub(crate) fn with_evals_scaled<F: Field, EF: ExtensionField<F>>(
+// A prover of two tables with one side and a claim times a value.
+pub(crate) fn scaled_prover<F: Field, EF: ExtensionField<F>>(
+    order: VariableOrder,
     evals: Poly<EF>,
     weights: Poly<EF>,
     claim: EF,
@@ -40,14 +44,13 @@ pub(crate) fn with_evals_scaled<F: Field, EF: ExtensionField<F>>(
 ) -> SumcheckProver<F, EF>
     requires same { variables_of evals ≡ variables_of weights }
     requires honest { IsTrueClaim EF.ops
-        (pair_shown EF.number suffix evals weights (EF.number claim)) }
-    ensures shown { shown_by result ≡ with_scaled_evals EF.ops
-        (pair_shown EF.number suffix evals weights (EF.number claim)) (EF.number scale) }
+        (pair_shown EF.number (order_of order) evals weights (EF.number claim)) }
+    ensures shown { shown_by result ≡ with_side_scaled EF.ops
+        (pair_shown EF.number (order_of order) evals weights (EF.number claim))
+        (EF.number scale) }
     ensures settled { (stored_by result).held ≡ None }
 {
-    let evals = scaled_table(evals, scale);
-    let pair = ProductPolynomial::new_unpacked(VariableOrder::Suffix, evals, weights);
-    SumcheckProver::new(pair, claim.mul(scale))
+    SumcheckProver::new(scaled_pair(order, evals, weights, scale), claim.mul(scale))
 }
 
 // A table times a value, in the memory that it has.

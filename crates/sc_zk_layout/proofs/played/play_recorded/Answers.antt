@@ -8,7 +8,7 @@ use Rattle.sc_zk_definitions.specs.MaskedBatches.{MaskedBatch, head_of}
 use Rattle.sc_zk_transcript.specs.Shapes.{fixed_by}
 use Rattle.sc_zk_rounds.specs.Data.{masked_wire_in, sent_in}
 use Rattle.sc_zk_rounds.specs.Handoffs.{asked_masks, PlaysBatch}
-use Rattle.sc_zk_rounds.specs.Views.{standing_by}
+use Rattle.sc_zk_rounds.specs.Views.{player, stands_at}
 use Rattle.sc_zk_layout.specs.Grids.{with_side_scaled}
 use Rattle.sc_zk_layout.specs.Played.{rounds_show}
 use Rattle.sc_zk_layout.specs.Recorded.{laid_shown, laid_by_draw, recorded_batch, played_in}
@@ -29,7 +29,7 @@ returns-in_err-alpha-clause-batch g c =
     let shape = c.args.shape in
     let masks = lists_in N c.args.masks.now in
     let ws = c.args.words.now in
-    let b : MaskedBatch = recorded_batch p E size o shape l (asked_masks shape.ell_zk masks ws 0) in
+    let b : MaskedBatch = recorded_batch g.F.Field.ops o E shape p l (asked_masks shape.ell_zk masks ws 0) in
     let fixed = shape-fixed N shape c.args.masks.now b.shape c.requires.shape.is refl in
     let handed = played_in c.args.challenges.now.items in
     let sent = sent_in B N c.args.zk_data.now in
@@ -50,7 +50,7 @@ returns-in_err-rounds-clause-batch g c =
     let shape = c.args.shape in
     let masks = lists_in N c.args.masks.now in
     let ws = c.args.words.now in
-    let b : MaskedBatch = recorded_batch p E size o shape l (asked_masks shape.ell_zk masks ws 0) in
+    let b : MaskedBatch = recorded_batch g.F.Field.ops o E shape p l (asked_masks shape.ell_zk masks ws 0) in
     let fixed = shape-fixed N shape c.args.masks.now b.shape c.requires.shape.is refl in
     let handed = played_in c.args.challenges.now.items in
     let sent = sent_in B N c.args.zk_data.now in
@@ -72,7 +72,7 @@ returns-in_err-eps-clause-batch g c =
     let shape = c.args.shape in
     let masks = lists_in N c.args.masks.now in
     let ws = c.args.words.now in
-    let b : MaskedBatch = recorded_batch p E size o shape l (asked_masks shape.ell_zk masks ws 0) in
+    let b : MaskedBatch = recorded_batch g.F.Field.ops o E shape p l (asked_masks shape.ell_zk masks ws 0) in
     let S = rounds_show c.in_ok-rounds.rounds in
     let shows : S ≡ laid_by_draw p E o shape l = c.in_ok-rounds.ensures.shown ∙ ap (laid_shown o l) c.in_ok-alpha.ensures.drawn in
     let none : N c.ZERO.result ≡ 0 = ap N c.ZERO.ensures ∙ g.met.EF.Field.zero_is in
@@ -80,7 +80,7 @@ returns-in_err-eps-clause-batch g c =
     shape.ell_zk (N c.ZERO.result) masks ws c.in_ok-alpha.ensures.rules shows c.requires.fresh none in
     let begins = c.in_ok-alpha.ensures.begins (plus o S.claim (N c.ZERO.result)) in
     let now = rounds_show c.play_begun.new.prover in
-    let after = standing_by B N now c.play_begun.new.zk_data (P c.play_begun.new.challenger) in
+    let after = stands_at (player B N (P c.play_begun.new.challenger) now c.play_begun.new.zk_data) in
     let challenges = c.play_begun.new.challenges.items in
     let rs = map N challenges in
     let sent = sent_in B N c.play_begun.new.zk_data in
@@ -102,7 +102,7 @@ returns-in_err-prover-clause-batch g c =
     let shape = c.args.shape in
     let masks = lists_in N c.args.masks.now in
     let ws = c.args.words.now in
-    let b : MaskedBatch = recorded_batch p E size o shape l (asked_masks shape.ell_zk masks ws 0) in
+    let b : MaskedBatch = recorded_batch g.F.Field.ops o E shape p l (asked_masks shape.ell_zk masks ws 0) in
     let S = rounds_show c.in_ok-rounds.rounds in
     let shows : S ≡ laid_by_draw p E o shape l = c.in_ok-rounds.ensures.shown ∙ ap (laid_shown o l) c.in_ok-alpha.ensures.drawn in
     let none : N c.ZERO.result ≡ 0 = ap N c.ZERO.ensures ∙ g.met.EF.Field.zero_is in
@@ -110,7 +110,7 @@ returns-in_err-prover-clause-batch g c =
     shape.ell_zk (N c.ZERO.result) masks ws c.in_ok-alpha.ensures.rules shows c.requires.fresh none in
     let begins = c.in_ok-alpha.ensures.begins (plus o S.claim (N c.ZERO.result)) in
     let now = rounds_show c.play_begun.new.prover in
-    let after = standing_by B N now c.play_begun.new.zk_data (P c.play_begun.new.challenger) in
+    let after = stands_at (player B N (P c.play_begun.new.challenger) now c.play_begun.new.zk_data) in
     let challenges = c.play_begun.new.challenges.items in
     let rs = map N challenges in
     let sent = sent_in B N c.play_begun.new.zk_data in
@@ -132,7 +132,7 @@ returns-clause-batch g c =
     let shape = c.args.shape in
     let masks = lists_in N c.args.masks.now in
     let ws = c.args.words.now in
-    let b : MaskedBatch = recorded_batch p E size o shape l (asked_masks shape.ell_zk masks ws 0) in
+    let b : MaskedBatch = recorded_batch g.F.Field.ops o E shape p l (asked_masks shape.ell_zk masks ws 0) in
     let S = rounds_show c.in_ok-rounds.rounds in
     let shows : S ≡ laid_by_draw p E o shape l = c.in_ok-rounds.ensures.shown ∙ ap (laid_shown o l) c.in_ok-alpha.ensures.drawn in
     let none : N c.ZERO.result ≡ 0 = ap N c.ZERO.ensures ∙ g.met.EF.Field.zero_is in
@@ -140,7 +140,7 @@ returns-clause-batch g c =
     shape.ell_zk (N c.ZERO.result) masks ws c.in_ok-alpha.ensures.rules shows c.requires.fresh none in
     let begins = c.in_ok-alpha.ensures.begins (plus o S.claim (N c.ZERO.result)) in
     let now = rounds_show c.play_begun.new.prover in
-    let after = standing_by B N now c.play_begun.new.zk_data (P c.play_begun.new.challenger) in
+    let after = stands_at (player B N (P c.play_begun.new.challenger) now c.play_begun.new.zk_data) in
     let rs = map N c.play_begun.new.challenges.items in
     let plays = subst (λ x. PlaysBatch N x after rs (Ok c.in_ok-eps.eps)) same (c.in_ok-eps.ensures.plays p.history begins) in
     let form = subst (λ s. KeepsForm s now) shows c.in_ok-eps.ensures.form in

@@ -1,4 +1,5 @@
-use Rattle.std.proofs.Common.{rules, ◌≡◌, ℕ, refl, ap, ◌∙◌, subst}
+use Rattle.std.proofs.Common.{rules, ◌≡◌, ℕ, length, Vec, Global, refl, ap, sym, ◌∙◌, subst}
+use Rattle.std.proofs.lemmas.Result.{IfOk-weaker}
 use Rattle.sc_commitments.specs.Draws.{Drawn, masks_from}
 use Rattle.sc_commitments.specs.Matrices.{lists_in}
 use Rattle.sc_zk_definitions.specs.declared.prelude.ZkPrelude.TheVariants.{RecordedClaims}
@@ -6,10 +7,10 @@ use Rattle.sc_zk_transcript.specs.declared.shape.ZkSumcheckShape.{ZkSumcheckShap
 use Rattle.sc_zk_transcript.specs.Shapes.{shape_made}
 use Rattle.sc_zk_rounds.specs.Data.{sent_in}
 use Rattle.sc_zk_rounds.specs.Handoffs.{AskedMasks, EndsMaskedBy}
-use Rattle.sc_zk_rounds.specs.Views.{residual_in, handed_in, masks_under}
+use Rattle.sc_zk_rounds.specs.Views.{AreCoded, residual_in, handed_in, masks_under}
 use Rattle.sc_zk_layout.specs.Grids.{with_side_scaled}
 use Rattle.sc_zk_layout.specs.Recorded.{recorded_batch}
-use Rattle.sc_zk_layout.proofs.RecordedLaws.{ends-unbegun}
+use Rattle.sc_zk_layout.proofs.RecordedLaws.{ends-unbegun, ok-both}
 use Rattle.sc_zk_layout.proofs.prover.ZkProver.into_sumcheck.Goals as goal
 
 -- no masks are drawn
@@ -22,7 +23,6 @@ returns-clause-batch g c =
     let N = g.EF.Field.number in
     let o = g.EF.Field.ops in
     let E = g.EF.ExtensionField.extension in
-    let size = g.F.Field.ops.size in
     let p = g.C.Challenger.party c.args.challenger.now in
     let l = g.L.Layout.laid c.args.self.inner in
     let ell = g.Enc.ZkEncoding.message_length c.args.self.encoding in
@@ -31,9 +31,32 @@ returns-clause-batch g c =
     let made = c.in_ok-masks.ensures in
     let count = made.counts.0 ∙ c.folding-folding.ensures.is in
     let Ends : ℕ → AskedMasks → Type 0 = λ n m.
-    EndsMaskedBy with_side_scaled (handed_in residual_in N) (recorded_batch p E size o (shape n) l m)
+    EndsMaskedBy with_side_scaled (handed_in residual_in N) (recorded_batch g.F.Field.ops o E (shape n) p l m)
     (g.C.Challenger.party c.play_under.new.challenger).history (sent_in g.F.Field.number N c.play_under.new.zk_data) c.play_under.result in
     let draws : ℕ → Drawn = λ n. masks_from (g.Enc.ZkEncoding.message_from c.args.self.encoding) (g.Enc.ZkEncoding.randomness_from c.args.self.encoding) n (g.G.Rng.stream c.args.rng.now) in
     let before : Drawn = record { masks = lists_in N c.in_ok-masks.masks.items; randomness = lists_in N c.in_ok-masks.randomness.items; left = g.G.Rng.stream c.sample_masks.new.rng } in
     let drawn : before ≡ draws l.folding = made.drawn ∙ ap draws c.folding-folding.ensures.is in
     subst (λ m. Ends l.folding m) (ap under drawn) (subst (λ n. Ends n (under before)) count c.play_under.ensures.batch)
+
+-- as many masks as rounds
+pub returns-clause-masks : goal.returns-clause-masks
+returns-clause-masks g c =
+    IfOk-weaker c.play_under.result _ _ (λ h is. ap (λ (v : Vec (Vec _ Global) Global). length v.items) is ∙ c.in_ok-masks.ensures.counts.0 ∙ c.folding-folding.ensures.is) c.play_under.ensures.masks
+
+-- and as many challenges
+pub returns-clause-challenges : goal.returns-clause-challenges
+returns-clause-challenges g c =
+    IfOk-weaker c.play_under.result _ _ (λ h is. is ∙ c.in_ok-masks.ensures.counts.0 ∙ c.folding-folding.ensures.is) c.play_under.ensures.challenges
+
+-- each mask and its randomness have the encoding's lengths
+pub returns-clause-coded : goal.returns-clause-coded
+returns-clause-coded g c =
+    let l = g.Enc.ZkEncoding.message_length c.args.self.encoding in
+    let r = g.Enc.ZkEncoding.randomness_length c.args.self.encoding in
+    let made = c.in_ok-masks.ensures in
+    let coded : AreCoded l r c.in_ok-masks.masks.items c.in_ok-masks.randomness.items = record { same = made.counts.0 ∙ sym made.counts.1; masks = made.masks; randomness = made.randomness } in
+    ok-both c.play_under.result
+    (λ h masks randomness.
+    subst (λ (v : Vec (Vec _ Global) Global). AreCoded l r v.items h.mask_randomness.items) (sym masks)
+    (subst (λ (v : Vec (Vec _ Global) Global). AreCoded l r c.in_ok-masks.masks.items v.items) (sym randomness) coded))
+    c.play_under.ensures.masks c.play_under.ensures.randomness
