@@ -11,14 +11,16 @@
 //! [`simulate_classic_unpacked_claim`]), and the verifier accepts them.
 #![tactic(auto)]
 
+mod in_step;
 mod simulator;
 mod verifier;
 
+pub use in_step::{layout_in_step, recorded_simulation_in_step};
 pub use sc_commitments::{DrawElement, Mmcs, NodeCode, RowMajorMatrix, Sha2Mmcs, ZkEncoding};
 pub use sc_layout::{
     LayoutStrategy, OpeningEvals, OpeningRequest, PrefixProver, SuffixProver, TableShape, Verifier,
 };
-pub use sc_zk_layout::{ZkPrefixProver, ZkProver, ZkSuffixProver};
+pub use sc_zk_layout::{ZkLayout, ZkPrefixProver, ZkProver, ZkSuffixProver};
 pub use sc_zk_rounds::{
     Handoff, IntoZk, MaskOracle, MaskedRun, ZkSumcheckData, ZkSumcheckHandoff, ZkVerifierHandoff,
     covector_laws, mask_residual, mask_residual_covectors, mask_residual_covectors_from_shape,

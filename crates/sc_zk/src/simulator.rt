@@ -1,6 +1,7 @@
 //! The simulator of recorded claims, by a verifier that has recorded them.
 ghost use Rattle.std.specs.Prelude.{◌≡◌, ◌≤◌, ℕ, IfOk};
-ghost use Rattle.sc_zk_transcript.specs.Shapes.{shape_made, IsFit};
+ghost use Rattle.sc_zk_transcript.specs.Shapes.{IsFit};
+ghost use Rattle.sc_zk_rounds.specs.Heads.{recorded_shape};
 ghost use Rattle.sc_zk_rounds.specs.Data.{sent_in};
 ghost use Rattle.sc_zk_simulators.specs.Drafts.{draft_from, IsDrawn};
 ghost use Rattle.sc_zk_simulators.specs.Simulations.{simulation_by, answer_in, LeavesSimulated};
@@ -14,7 +15,6 @@ use sc_table::Point;
 use sc_transcript::SumcheckError;
 use sc_zk_rounds::ZkSumcheckData;
 use sc_zk_simulators::simulate_recorded;
-use sc_zk_transcript::ZkPrelude;
 use std::alloc::Global;
 
 /// Simulates masked rounds of the claims that a verifier has recorded, as many as the folding
@@ -38,7 +38,7 @@ pub fn simulate_classic_unpacked<
     rng: &mut G,
 ) -> Result<(ZkSumcheckData<F, EF>, M::Commitment, Point<EF>), SumcheckError>
     requires difficulty { pow_bits ≤ (C.party challenger.old).rules.max_bits }
-    requires fit { IsFit F.ops (shape_made ZkPrelude.RecordedClaims folding_factor
+    requires fit { IsFit F.ops (recorded_shape folding_factor
         (Enc.message_length encoding.now) pow_bits) }
     ensures rules { (C.party challenger.new).rules ≡ (C.party challenger.old).rules }
     ensures drawn { IfOk result (λ r. IsDrawn (draft_from ⟦<Enc as ZkEncoding<EF>>⟧
@@ -46,7 +46,7 @@ pub fn simulate_classic_unpacked<
         (sent_in F.number EF.number r.0) (G.stream rng.new)) }
     ensures leaves { (claim : ℕ) → LeavesSimulated (answer_in F.number EF.number)
         (simulation_by (C.party challenger.old) EF.extension F.ops.size
-        (shape_made ZkPrelude.RecordedClaims folding_factor (Enc.message_length encoding.now)
+        (recorded_shape folding_factor (Enc.message_length encoding.now)
         pow_bits) claim (draft_from ⟦<Enc as ZkEncoding<EF>>⟧ ⟦<M as Mmcs<EF>>⟧ EF.ops encoding.now
         mmcs.now folding_factor (G.stream rng.old))) result (C.party challenger.new).history }
 {

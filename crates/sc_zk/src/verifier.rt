@@ -7,7 +7,7 @@ ghost use Rattle.sc_layout.specs.Shapes.{shape_variables, strategy_order};
 ghost use Rattle.sc_layout.specs.Requests.{asked_in, values_in};
 ghost use Rattle.sc_layout.specs.Openings.{none_recorded, statements_of, AddsVirtual, AddsNothing};
 ghost use Rattle.sc_layout.specs.Verifiers.{LeavesClaim, KeepsShape, taking_by, place_at};
-ghost use Rattle.sc_zk_transcript.specs.Shapes.{shape_made, fixed_by};
+ghost use Rattle.sc_zk_rounds.specs.Heads.{inherited_shape, recorded_shape};
 ghost use Rattle.sc_zk_rounds.specs.Data.{masked_wire_in};
 ghost use Rattle.sc_zk_rounds.specs.Verified.{claim_by, told_by, LeavesMaskedReplay};
 
@@ -20,7 +20,7 @@ use sc_transcript::SumcheckError;
 use sc_zk_rounds::head::begin_recorded;
 use sc_zk_rounds::replayed::{check_came, replay_begun};
 use sc_zk_rounds::{ZkSumcheckData, ZkVerifierHandoff, verify_claim};
-use sc_zk_transcript::{ZkPrelude, ZkSumcheckShape};
+use sc_zk_transcript::ZkSumcheckShape;
 use std::alloc::Global;
 
 /// The verifier of masked rounds over a base field and an extension of it. It has no table: it
@@ -31,7 +31,7 @@ pub struct ZkVerifier<F, EF: Field> {
 }
 
 impl<F: Field, EF: ExtensionField<F>> ZkVerifier<F, EF> {
-    ghost use Rattle.sc_zk.specs.Recorded.{recorded_in, recorded_claim};
+    ghost use Rattle.sc_zk.specs.Recorded.{recorded_in, recorded_head};
 
     /// The verifier of one table of this shape, of at most 40 variables, whose rounds bind the
     /// first variable first. It has no claims yet.
@@ -144,11 +144,11 @@ impl<F: Field, EF: ExtensionField<F>> ZkVerifier<F, EF> {
     ) -> Result<ZkVerifierHandoff<EF>, SumcheckError>
         requires difficulty { pow_bits ≤ (C.party challenger.old).rules.max_bits }
         ensures rules { (C.party challenger.new).rules ≡ (C.party challenger.old).rules }
-        ensures left { let s = shape_made ZkPrelude.RecordedClaims folding_factor ell_zk pow_bits in
-            LeavesMaskedReplay (told_by EF.number) (claim_by (C.party challenger.old) F.ops EF.ops
-            EF.extension s (head (recorded_claim EF.ops (C.party challenger.old) EF.extension
-            (fixed_by s) (recorded_in self)) (M.words_of mmcs.now mask_commitment.now)
-            (EF.number zk_data.now.mu_tilde)) (masked_wire_in F.number EF.number zk_data.now))
+        ensures left { let p = C.party challenger.old in
+            let s = recorded_shape folding_factor ell_zk pow_bits in
+            LeavesMaskedReplay (told_by EF.number) (claim_by p F.ops EF.ops EF.extension s
+            (recorded_head EF.extension p s self (M.words_of mmcs.now mask_commitment.now)
+            zk_data.now.mu_tilde) (masked_wire_in F.number EF.number zk_data.now))
             result (C.party challenger.new).history }
     {
         let shape = ZkSumcheckShape::new_batching(folding_factor, ell_zk, pow_bits);
@@ -195,7 +195,7 @@ impl<F: Field, EF: ExtensionField<F>> ZkVerifier<F, EF> {
         ensures rules { (C.party challenger.new).rules ≡ (C.party challenger.old).rules }
         ensures left { LeavesMaskedReplay (told_by EF.number)
             (claim_by (C.party challenger.old) F.ops EF.ops EF.extension
-            (shape_made ZkPrelude.InheritedClaim folding_factor ell_zk pow_bits)
+            (inherited_shape folding_factor ell_zk pow_bits)
             (head (EF.number claimed_sum) (M.words_of mmcs.now mask_commitment.now)
             (EF.number zk_data.now.mu_tilde)) (masked_wire_in F.number EF.number zk_data.now))
             result (C.party challenger.new).history }

@@ -11,12 +11,12 @@ use sc_field::{Field, NoMemory};
 use sc_layout::Layout;
 use sc_rounds::SumcheckProver;
 use sc_small_fields::F65537;
-use sc_table::Poly;
+use sc_table::{Point, Poly};
 use sc_tests_common::{elements, have_numbers, of, scripted};
 use sc_zk::{
-    NodeCode, OpeningEvals, PrefixProver, Sha2Mmcs, SuffixProver, TableShape, ZkProver,
-    ZkSumcheckData, ZkSumcheckHandoff, ZkSumcheckShape, ZkVerifier, ZkVerifierHandoff,
-    mask_residual,
+    MaskedRun, NodeCode, OpeningEvals, PrefixProver, Sha2Mmcs, SuffixProver, TableShape, ZkLayout,
+    ZkProver, ZkSumcheckData, ZkSumcheckHandoff, ZkSumcheckShape, ZkVerifier, ZkVerifierHandoff,
+    layout_in_step, mask_residual,
 };
 use std::alloc::Global;
 use std::process::Abort;
@@ -70,6 +70,25 @@ fn played<A: Abort, L: Layout<F65537, F65537>>(
     (answer.expect(rt, "an answer"), data)
 }
 
+// Records these openings.
+fn record<A: Abort>(
+    rt: &A,
+    alloc: Global,
+    verifier: &mut ZkVerifier<F65537, F65537>,
+    challenger: &mut ScriptedChallenger<F65537>,
+) {
+    let asked = request(alloc).expect(rt, "a request");
+    let current = elements(alloc, &[23]).expect(rt, "a value");
+    let next = elements(alloc, &[3]).expect(rt, "a value");
+    let came = OpeningEvals::new(current, next);
+    verifier
+        .add_claim(0, &asked, &came, challenger)
+        .expect(rt, "a claim");
+    verifier
+        .add_virtual_eval(of(47), challenger)
+        .expect(rt, "a claim");
+}
+
 // What a verifier of these openings leaves of these rounds.
 fn replayed<A: Abort>(
     rt: &A,
@@ -81,16 +100,7 @@ fn replayed<A: Abort>(
     challenger: &mut ScriptedChallenger<F65537>,
 ) -> ZkVerifierHandoff<F65537> {
     let mut verifier = verifier;
-    let asked = request(alloc).expect(rt, "a request");
-    let current = elements(alloc, &[23]).expect(rt, "a value");
-    let next = elements(alloc, &[3]).expect(rt, "a value");
-    let came = OpeningEvals::new(current, next);
-    verifier
-        .add_claim(0, &asked, &came, challenger)
-        .expect(rt, "a claim");
-    verifier
-        .add_virtual_eval(of(47), challenger)
-        .expect(rt, "a claim");
+    record(rt, alloc, &mut verifier, challenger);
     let (mmcs, commitment) = (Sha2Mmcs::new(), &handed.mask_oracle.0);
     verifier
         .into_sumcheck(alloc, &mmcs, data, commitment, 4, folding, 0, challenger)
@@ -202,4 +212,79 @@ fn the_last_variable_is_bound_first(rt: HostRuntime) {
         claim: 57780,
     };
     assert_suffix(&rt, rt.alloc(), 2, &both);
+}
+
+// Both sides of a layout's rounds, after the same openings.
+fn stepped<A: Abort, L: Layout<F65537, F65537>>(
+    rt: &A,
+    alloc: Global,
+    layout: L,
+    verifier: ZkVerifier<F65537, F65537>,
+) -> MaskedRun<F65537, F65537> {
+    let mut ours = challenger(rt, alloc);
+    let mut prover = ZkProver::new(layout, NodeCode::new(4, 2, 12), Sha2Mmcs::new());
+    let asked = request(alloc).expect(rt, "a request");
+    prover.eval(0, &asked, &mut ours).expect(rt, "values");
+    prover.add_virtual_eval(&mut ours).expect(rt, "a value");
+    let mut verifier = verifier;
+    record(rt, alloc, &mut verifier, &mut challenger(rt, alloc));
+    assert_eq!(rt; prover.mask_length(), 4);
+    ZkSumcheckShape::new_batching(prover.folding(), 4, 0)
+        .validate::<F65537>()
+        .expect(rt, "a shape");
+    let (mmcs, mut rng) = (Sha2Mmcs::new(), ChaCha8Rng::from_seed([7; 32]));
+    layout_in_step(alloc, prover, verifier, &mmcs, 0, &mut ours, &mut rng).expect(rt, "a run")
+}
+
+// The figures are those of the rounds apart.
+#[test]
+fn both_sides_stay_in_step(rt: HostRuntime) {
+    let alloc = rt.alloc();
+    let rows = table(alloc).expect(&rt, "a table");
+    let verifier = ZkVerifier::new_suffix(alloc, &[TableShape::new(2)][..]);
+    let run = stepped(&rt, alloc, SuffixProver::new(alloc, rows, 2), verifier);
+    assert!(&rt; have_numbers(run.randomness.as_slice(), &[2, 7]));
+    assert_eq!(&rt; run.eps.index(), 31);
+    assert_eq!(&rt; run.scaled.index(), 57780);
+    assert_eq!(&rt; run.carried.index(), 0);
+    let residual = run.scaled.add(run.mask_residual);
+    assert_eq!(&rt; run.claimed_residual.index(), residual.index());
+    assert_eq!(&rt; run.zk_data.round_coefficients.len(), 2);
+}
+
+// What a layout shows a masked prover, after the same openings: the batch of its values under 10,
+// which is 23 + 10 3 + 100 47, and what both rounds leave of its tables.
+fn assert_read<A: Abort, L: ZkLayout<F65537, F65537>>(
+    rt: &A,
+    alloc: Global,
+    layout: L,
+    evals: u64,
+    weight: u64,
+)
+    requires { (L.laid layout).folding ≡ 2 }
+{
+    let mut layout = layout;
+    let mut ours = challenger(rt, alloc);
+    let asked = request(alloc).expect(rt, "a request");
+    layout.eval(0, &asked, &mut ours).expect(rt, "values");
+    layout.add_virtual_eval(&mut ours).expect(rt, "a value");
+    assert_eq!(rt; layout.concrete_claims().len(), 1);
+    assert_eq!(rt; layout.virtual_claims().len(), 1);
+    assert_eq!(rt; layout.batched_sum(of(10)).index(), 4753);
+    let challenges = Point::new(elements(alloc, &[2, 7]).expect(rt, "challenges"));
+    assert_eq!(rt; challenges.num_variables(), layout.folding());
+    let left = layout.zk_residual_handoff(alloc, &challenges, of(10), of(31));
+    let left = left.expect(rt, "tables");
+    let weights = left.weights(alloc).expect(rt, "weights");
+    assert!(rt; have_numbers(left.evals_view(), &[evals]));
+    assert!(rt; have_numbers(weights.as_slice(), &[weight]));
+}
+
+#[test]
+fn a_masked_prover_reads_a_layout(rt: HostRuntime) {
+    let alloc = rt.alloc();
+    let rows = table(alloc).expect(&rt, "a table");
+    assert_read(&rt, alloc, PrefixProver::new(alloc, rows, 2), 26, 20192);
+    let rows = table(alloc).expect(&rt, "a table");
+    assert_read(&rt, alloc, SuffixProver::new(alloc, rows, 2), 961, 35386);
 }

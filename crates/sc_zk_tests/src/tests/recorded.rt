@@ -12,7 +12,7 @@ use sc_tests_common::{elements, have_numbers, of, scripted};
 use sc_transcript::SumcheckError;
 use sc_zk::{
     NodeCode, OpeningEvals, Sha2Mmcs, TableShape, ZkSumcheckData, ZkSumcheckShape, ZkVerifier,
-    ZkVerifierHandoff, simulate_classic_unpacked,
+    ZkVerifierHandoff, recorded_simulation_in_step, simulate_classic_unpacked,
 };
 use std::alloc::Global;
 use std::process::Abort;
@@ -92,6 +92,45 @@ fn what_is_simulated_is_accepted(rt: HostRuntime) {
     assert_accepted(&rt, alloc, prefix(alloc), prefix(alloc));
     assert!(&rt; suffix(alloc).strategy().order() == VariableOrder::Suffix);
     assert_accepted(&rt, alloc, suffix(alloc), suffix(alloc));
+}
+
+// A simulator and the verifier in step, after the openings of a verifier: the draws of the rounds
+// are the combination and one challenge, and the history has the wire's three words before it.
+#[test]
+fn a_simulator_stays_in_step(rt: HostRuntime) {
+    let alloc = rt.alloc();
+    let mut verifier = prefix(alloc);
+    let mut challenger = record(&rt, alloc, &mut verifier);
+    ZkSumcheckShape::new_batching(1, 4, 0)
+        .validate::<F65537>()
+        .expect(&rt, "a shape");
+    let code = NodeCode::<F65537>::new(4, 2, 12);
+    let run = recorded_simulation_in_step(
+        alloc,
+        &mut challenger,
+        verifier,
+        1,
+        0,
+        &code,
+        &Sha2Mmcs::new(),
+        &mut ChaCha8Rng::from_seed([7; 32]),
+    )
+    .expect(&rt, "a run");
+    assert_eq!(&rt; run.eps.index(), 31);
+    assert!(&rt; have_numbers(run.randomness.as_slice(), &[2]));
+    assert_eq!(&rt; run.zk_data.round_coefficients.len(), 1);
+    let wire = run.zk_data.round_coefficients[0].as_slice();
+    assert_eq!(&rt; wire.len(), 3);
+    let (c0, c2, c3) = (wire[0], wire[1], wire[2]);
+    // The first target is 31 times the claim 524 and the masks' total; its value at 2 is what is
+    // left, where the linear coefficient is the target less twice the constant and the others.
+    let target = of::<F65537>(16244).add(run.zk_data.mu_tilde);
+    let linear = target.sub(c0.double()).sub(c2).sub(c3);
+    let left = c0
+        .add(linear.double())
+        .add(of::<F65537>(4).mul(c2))
+        .add(of::<F65537>(8).mul(c3));
+    assert_eq!(&rt; run.claimed_residual.index(), left.index());
 }
 
 // The answer to these wires of masks of four coefficients, whose total is 12, in one round, and the
