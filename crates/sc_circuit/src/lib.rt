@@ -1,0 +1,15 @@
+//! Layered circuits: claimed outputs that are reduced, layer by layer, to a claim on the inputs.
+#![tactic(auto)]
+
+mod circuit;
+mod error;
+mod proof;
+mod report;
+mod shape;
+mod values;
+
+pub use circuit::Circuit;
+pub use error::CircuitError;
+pub use proof::{CircuitProof, LayerProof};
+pub use report::{CircuitReport, CircuitVerdict};
+pub use sc_circuit_definitions::Gate;
