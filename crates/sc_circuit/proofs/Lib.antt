@@ -1,2 +1,6 @@
 pub mod ShapeLaws
 pub mod EvaluationLaws
+pub mod ShareLaws
+pub mod RowLaws
+pub mod PhaseLaws
+pub mod ProverLaws

@@ -1,2 +1,6 @@
 pub mod Shapes
 pub mod Views
+pub mod Rows
+pub mod Phases
+pub mod Provers
+pub mod TiedLaws

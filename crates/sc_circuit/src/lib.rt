@@ -3,10 +3,13 @@
 
 mod circuit;
 mod error;
+mod layer;
+mod phase;
 mod proof;
 mod report;
 mod shape;
 mod values;
+mod walk;
 
 pub use circuit::Circuit;
 pub use error::CircuitError;
