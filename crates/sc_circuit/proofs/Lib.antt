@@ -4,3 +4,4 @@ pub mod ShareLaws
 pub mod RowLaws
 pub mod PhaseLaws
 pub mod ProverLaws
+pub mod WeightLaws

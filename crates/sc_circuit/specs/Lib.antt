@@ -4,3 +4,4 @@ pub mod Rows
 pub mod Phases
 pub mod Provers
 pub mod TiedLaws
+pub mod Weights

@@ -7,9 +7,11 @@ mod layer;
 mod phase;
 mod proof;
 mod report;
+mod rows;
 mod shape;
 mod values;
 mod walk;
+mod weights;
 
 pub use circuit::Circuit;
 pub use error::CircuitError;

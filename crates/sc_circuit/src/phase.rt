@@ -1,10 +1,12 @@
 //! The three tables of a half of a layer's rounds.
-ghost use Rattle.std.specs.Prelude.{◌≡◌, ℕ, ◌+◌, ◌-◌, ◌<◌, ◌≤◌, ◌^◌, All, IfOk, length, map, vec_len};
+ghost use Rattle.std.specs.Prelude.{◌≡◌, ℕ, ◌+◌, ◌-◌, ◌<◌, ◌≤◌, ◌^◌};
+ghost use Rattle.std.specs.Prelude.{All, IfOk, length, map, vec_len};
 ghost use Rattle.sc_definitions.specs.Ring.{◌+⟨◌⟩◌, ◌-⟨◌⟩◌, ◌*⟨◌⟩◌};
 ghost use Rattle.sc_definitions.specs.Tables.{sum_below, entries, bound};
 ghost use Rattle.sc_circuit_definitions.specs.LayerPhases.{row_sum};
 ghost use Rattle.sc_circuit.specs.Rows.{phase_of, phase_bound};
 
+use crate::rows::{clear, zeros};
 use crate::walk::{add_first_shares, add_second_shares};
 use sc_circuit_definitions::Gate;
 use sc_field::Field;
@@ -167,24 +169,6 @@ impl<EF: Field> PhaseTables<EF> {
             half,
             x,
         )
-    }
-}
-
-// So many zeros.
-fn zeros<EF: Field>(alloc: Global, len: usize) -> Result<Vec<EF>, NoMemory>
-    ensures { IfOk result (λ rows. vec_len rows ≡ len) }
-{
-    let mut rows = Vec::new(alloc);
-    rows.resize(len, EF::ZERO)?;
-    Ok(rows)
-}
-
-// Writes zero into each row.
-fn clear<EF: Field>(rows: &mut [EF])
-    ensures { (b : ℕ) → b < length rows.old → entries EF.number rows.new b ≡ 0 }
-{
-    for b in 0..rows.len() {
-        rows[b] = EF::ZERO;
     }
 }
 

@@ -1,6 +1,6 @@
 use Rattle.std.proofs.Common.{◌∙◌, ap, arith}
 use Rattle.sc_circuit.proofs.RowLaws.{written-next}
-use Rattle.sc_circuit.proofs.phase.clear.Goals as goal
+use Rattle.sc_circuit.proofs.rows.clear.Goals as goal
 
 pub loop-b-preserved : goal.loop-b-preserved
 loop-b-preserved g c =
