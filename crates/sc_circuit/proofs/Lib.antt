@@ -5,3 +5,4 @@ pub mod RowLaws
 pub mod PhaseLaws
 pub mod ProverLaws
 pub mod WeightLaws
+pub mod RunLaws

@@ -6,6 +6,7 @@ mod error;
 mod layer;
 mod phase;
 mod proof;
+mod replay;
 mod report;
 mod rows;
 mod shape;
