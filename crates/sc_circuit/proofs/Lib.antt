@@ -6,3 +6,5 @@ pub mod PhaseLaws
 pub mod ProverLaws
 pub mod WeightLaws
 pub mod RunLaws
+pub mod StepLaws
+pub mod LayersLaws

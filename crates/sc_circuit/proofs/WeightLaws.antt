@@ -138,3 +138,23 @@ module _ (o : Ops) (ring : IsRing o) where
         let q = kind-value true 0 gates places in
         ap (λ n. plus o (times o n (plus o left right)) (times o (kind_sum o true w p 0 gates) (times o left right))) (sym s)
         ∙ ap (λ n. plus o (times o (value o (gate_weights o false w k 0 gates) (us ++ vs)) (plus o left right)) (times o n (times o left right))) (sym q)
+
+  -- ---- weights that are the same of the gates
+
+  kind-weights : (product : Bool) (w u : ℕ → ℕ) (p : PlaceWeights) (g : ℕ) (gates : List Gate) → ((i : ℕ) → i < length gates → w (g + i) ≡ u (g + i)) →
+      kind_sum o product w p g gates ≡ kind_sum o product u p g gates
+  unfolding kind_sum
+  kind-weights product w u p g [] same = refl
+  kind-weights product w u p g (gate ∷ gates) same =
+      let here : w g ≡ u g = let e : g + 0 ≡ g = omega arith in sym (ap w e) ∙ same 0 (omega arith) ∙ ap u e in
+      ap (λ n. plus o (if is_same_kind gate.product product then placed_share o p n gate else 0) (kind_sum o product w p (suc g) gates)) here
+      ∙ ap (plus o (if is_same_kind gate.product product then placed_share o p (u g) gate else 0))
+      (kind-weights product w u p (suc g) gates (λ i low. let e : suc g + i ≡ g + suc i = omega arith in ap w e ∙ same (suc i) (omega (arith, low)) ∙ sym (ap u e)))
+
+  pub gates-weights : (w u : ℕ → ℕ) (p : PlaceWeights) (gates : List Gate) (left right : ℕ) → ((i : ℕ) → i < length gates → w i ≡ u i) →
+      gates_sum o w p gates left right ≡ gates_sum o u p gates left right
+  unfolding gates_sum
+  gates-weights w u p gates left right same =
+      let at : (i : ℕ) → i < length gates → w (0 + i) ≡ u (0 + i) = λ i low. let e : 0 + i ≡ i = omega arith in ap w e ∙ same i low ∙ sym (ap u e) in
+      ap (λ n. plus o (times o n (plus o left right)) (times o (kind_sum o true w p 0 gates) (times o left right))) (kind-weights false w u p 0 gates at)
+      ∙ ap (λ n. plus o (times o (kind_sum o false u p 0 gates) (plus o left right)) (times o n (times o left right))) (kind-weights true w u p 0 gates at)

@@ -3,6 +3,9 @@ pub mod Views
 pub mod Rows
 pub mod Phases
 pub mod Runs
+pub mod Options
+pub mod Steps
+pub mod Replays
 pub mod Provers
 pub mod TiedLaws
 pub mod Weights

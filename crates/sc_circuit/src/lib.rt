@@ -4,8 +4,10 @@
 mod circuit;
 mod error;
 mod layer;
+mod layers;
 mod phase;
 mod proof;
+mod reached;
 mod replay;
 mod report;
 mod rows;
