@@ -1,5 +1,5 @@
 -- Layers that are replayed, one after the other.
-use Rattle.std.proofs.Common.{◌≡◌, ℕ, zero, suc, ◌+◌, ◌-◌, ◌<◌, ◌≤◌, ◌^◌, ◌==◌, Bool, true, false, List, [], ◌∷◌, ◌++◌, length, map, take, drop, get_or, if◌then◌else◌, Option, Some, None, sym, ◌∙◌, ap, refl, subst, arith, append_assoc}
+use Rattle.std.proofs.Common.{◌≡◌, ℕ, suc, ◌+◌, ◌-◌, ◌≤◌, Bool, true, false, List, [], ◌∷◌, ◌++◌, length, map, take, drop, get_or, if◌then◌else◌, Option, Some, None, sym, ◌∙◌, ap, refl, arith, append_assoc}
 use Rattle.std.specs.Prelude.{Result, Ok, Err}
 use Rattle.std.proofs.Math.Seq.{take-append_seam}
 use Rattle.std.proofs.lemmas.List.{append-nil, take-append-drop, take_all}
@@ -8,15 +8,15 @@ use Rattle.sc_definitions.specs.Tables.{entries}
 use Rattle.sc_circuit_definitions.specs.declared.gate.Gate.{Gate}
 use Rattle.sc_circuit_definitions.specs.Circuits.{layer_variables, IsWidth, top_width, IsCircuit}
 use Rattle.sc_circuit_definitions.specs.LayerRounds.{layer_sum}
-use Rattle.sc_circuit_definitions.specs.CircuitPlays.{CircuitCase, LayerStart, SentLayer, play_of, next_start, plays_from, end_from, merges_from, events_from}
+use Rattle.sc_circuit_definitions.specs.CircuitPlays.{CircuitCase, LayerStart, play_of, next_start, plays_from, merges_from, events_from}
 use Rattle.sc_circuit_definitions.specs.CircuitFindings.{agrees, first_disagreement}
 use Rattle.sc_circuit.specs.declared.error.CircuitError.{CircuitError}
 use Rattle.sc_circuit.specs.declared.error.CircuitError.TheVariants as errors
 use Rattle.sc_circuit.specs.declared.reached.Reached.{Reached}
-use Rattle.sc_circuit.specs.Options.{or_first, disagreement_at}
-use Rattle.sc_circuit.specs.Runs.{GivenLayer, sent_of, LayerRun, run_events, run_end}
+use Rattle.sc_circuit.specs.Options.{or_first}
+use Rattle.sc_circuit.specs.Runs.{GivenLayer, sent_of, run_events}
 use Rattle.sc_circuit.specs.Steps.{AreSame, LayerStep, TakesLayer, LeavesLayer}
-use Rattle.sc_circuit.specs.Replays.{run_at, LayersTask, TakesLayers, BreaksLayers, LeavesLayers}
+use Rattle.sc_circuit.specs.Replays.{run_at, LayersTask, TakesLayers, LeavesLayers}
 use Rattle.sc_circuit.proofs.StepLaws.{run-whole}
 
 or_first-none : (d : Option ℕ) → d ≡ or_first d None

@@ -8,3 +8,4 @@ pub mod WeightLaws
 pub mod RunLaws
 pub mod StepLaws
 pub mod LayersLaws
+pub mod BuildLaws

@@ -1,5 +1,5 @@
 -- What the replay of a layer leaves for the layer below.
-use Rattle.std.proofs.Common.{◌≡◌, ℕ, ◌+◌, ◌<◌, ◌^◌, List, [], ◌∷◌, ◌++◌, All, length, map, take, get_or, sym, ◌∙◌, ap, refl, subst, append_assoc}
+use Rattle.std.proofs.Common.{◌≡◌, ℕ, ◌<◌, List, [], ◌∷◌, ◌++◌, All, length, get_or, sym, ◌∙◌, ap, subst, append_assoc}
 use Rattle.std.specs.Prelude.{replicate}
 use Rattle.std.proofs.Math.Seq.{take-length}
 use Rattle.sc_definitions.specs.declared.events.Event.{Event}

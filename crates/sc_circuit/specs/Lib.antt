@@ -4,6 +4,7 @@ pub mod Rows
 pub mod Phases
 pub mod Runs
 pub mod Options
+pub mod Builds
 pub mod Steps
 pub mod Replays
 pub mod Provers

@@ -1,6 +1,7 @@
 //! Layered circuits: claimed outputs that are reduced, layer by layer, to a claim on the inputs.
 #![tactic(auto)]
 
+mod building;
 mod circuit;
 mod error;
 mod layer;

@@ -1,14 +1,14 @@
-use Rattle.std.proofs.Common.{◌≡◌, ℕ, ◌+◌, ◌-◌, ◌<◌, ◌≤◌, ◌^◌, Ok, Err, List, [], ◌∷◌, length, map, take, drop, sym, ◌∙◌, ap, refl, subst, arith}
-use Rattle.std.proofs.lemmas.List.{length-map, nil_from_length}
+use Rattle.std.proofs.Common.{◌≡◌, ℕ, ◌+◌, ◌-◌, ◌<◌, ◌≤◌, ◌^◌, Err, List, [], ◌∷◌, length, map, take, drop, sym, ◌∙◌, ap, refl, subst, arith}
+use Rattle.std.proofs.lemmas.List.{nil_from_length}
 use Rattle.sc_definitions.specs.declared.events.Event.{Event}
 use Rattle.sc_definitions.specs.Events.{Rules}
 use Rattle.sc_definitions.specs.Channels.{channel}
 use Rattle.sc_definitions.specs.Tables.{entries}
 use Rattle.sc_challenger.specs.Parties.{channel_by}
 use Rattle.sc_circuit_definitions.specs.declared.gate.Gate.{Gate}
-use Rattle.sc_circuit_definitions.specs.Circuits.{layer_variables, IsWidth, PlacesBelow, top_width, IsCircuit}
+use Rattle.sc_circuit_definitions.specs.Circuits.{layer_variables, IsWidth, top_width, IsCircuit}
 use Rattle.sc_circuit_definitions.specs.CircuitPlays.{CircuitCase, LayerStart, play_of, next_start}
-use Rattle.sc_circuit.specs.Runs.{GivenLayer, sent_of, layer_in, LayerRun}
+use Rattle.sc_circuit.specs.Runs.{GivenLayer, sent_of, layer_in}
 use Rattle.sc_circuit.specs.Steps.{AreSame, LayerStep, TakesLayer, LeavesLayer}
 use Rattle.sc_circuit.specs.Replays.{case_over, LayersTask, TakesLayers, LeavesLayers}
 use Rattle.sc_circuit.proofs.RunLaws.{err-is}

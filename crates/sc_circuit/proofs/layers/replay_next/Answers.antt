@@ -1,12 +1,11 @@
-use Rattle.std.proofs.Common.{◌≡◌, ◌+◌, ◌<◌, ◌^◌, ℕ, Ok, Err, List, length, map, sym, ◌∙◌, ap, subst}
+use Rattle.std.proofs.Common.{◌+◌, ◌^◌, ℕ, sym, ◌∙◌, ap, subst}
 use Rattle.std.proofs.lemmas.List.{length-map}
 use Rattle.sc_challenger.specs.Parties.{channel_by}
-use Rattle.sc_circuit_definitions.specs.Circuits.{layer_variables}
 use Rattle.sc_circuit.specs.declared.error.CircuitError.TheVariants.{NoMemory}
 use Rattle.sc_circuit.specs.Runs.{GivenLayer, layer_in, LayerRun}
 use Rattle.sc_circuit.specs.Steps.{LayerStep, LeavesLayer}
 use Rattle.sc_circuit.proofs.RunLaws.{err-is}
-use Rattle.sc_circuit.proofs.StepLaws.{lefts-below, rights-below, run-count, breaks-end, takes-run}
+use Rattle.sc_circuit.proofs.StepLaws.{lefts-below, rights-below, run-count, breaks-end}
 use Rattle.sc_circuit.proofs.layers.replay_next.Goals as goal
 
 pub take-requires-clause-halves : goal.take-requires-clause-halves
