@@ -9,3 +9,4 @@ pub mod RunLaws
 pub mod StepLaws
 pub mod LayersLaws
 pub mod BuildLaws
+pub mod OutputLaws

@@ -1,4 +1,5 @@
 pub mod Shapes
+pub mod Refusals
 pub mod Views
 pub mod Rows
 pub mod Phases

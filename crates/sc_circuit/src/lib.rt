@@ -9,6 +9,7 @@ mod layers;
 mod phase;
 mod proof;
 mod reached;
+mod refusals;
 mod replay;
 mod report;
 mod rows;
