@@ -10,3 +10,4 @@ pub mod StepLaws
 pub mod LayersLaws
 pub mod BuildLaws
 pub mod OutputLaws
+pub mod TurnLaws

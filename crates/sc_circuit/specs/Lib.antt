@@ -1,5 +1,6 @@
 pub mod Shapes
 pub mod Refusals
+pub mod Turns
 pub mod Views
 pub mod Rows
 pub mod Phases

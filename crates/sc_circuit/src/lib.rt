@@ -14,6 +14,7 @@ mod replay;
 mod report;
 mod rows;
 mod shape;
+mod turn;
 mod values;
 mod walk;
 mod weights;
