@@ -9,6 +9,7 @@ pub mod Options
 pub mod Builds
 pub mod Steps
 pub mod Replays
+pub mod Stacks
 pub mod Provers
 pub mod TiedLaws
 pub mod Weights

@@ -3,7 +3,8 @@ use Rattle.std.specs.Prelude.{◌≡◌, ℕ, List, [], ◌∷◌, ◌++◌, map
 use Rattle.sc_definitions.specs.declared.events.Event.{Event}
 use Rattle.sc_definitions.specs.declared.events.Event.TheVariants.{Draw}
 use Rattle.sc_definitions.specs.Ring.{Ops}
-use Rattle.sc_definitions.specs.Events.{extension_draw}
+use Rattle.sc_definitions.specs.Events.{Extension, extension_draw}
+use Rattle.sc_challenger.specs.Parties.{Party, channel_by}
 use Rattle.sc_definitions.specs.Transcript.{sent, rounds_events, challenges, messages_of}
 use Rattle.sc_definitions.specs.Rounds.{claim_along}
 use Rattle.sc_definitions.specs.Replays.{given_rounds, AllPass}
@@ -47,6 +48,11 @@ pub record LayerRun : Type 0 where
   pub rounds : ℕ
   pub claim : ℕ
   pub history : List Event
+
+-- those of this challenger, over a channel of its rules, from where it stands
+abbrev pub run_by : Ops → Party → Extension → ℕ → ℕ → ℕ → ℕ → LayerRun
+run_by o p E size bits rounds claim =
+    record { ops = o; channel = channel_by p E size bits; rounds = rounds; claim = claim; history = p.history }
 
 -- the history before the first round
 abbrev pub run_begun : LayerRun → List Event

@@ -1,9 +1,9 @@
 //! The build of a layer.
 ghost use Rattle.std.specs.Prelude.{◌≡◌, ◌+◌, ◌≤◌, ◌^◌, length, map, take, drop};
 ghost use Rattle.sc_definitions.specs.Tables.{entries, value};
-ghost use Rattle.sc_challenger.specs.Parties.{channel_by};
 ghost use Rattle.sc_circuit_definitions.specs.Circuits.{layer_variables, IsWidth, PlacesBelow};
 ghost use Rattle.sc_circuit_definitions.specs.LayerRounds.{gate_tables};
+ghost use Rattle.sc_circuit.specs.Runs.{run_by};
 ghost use Rattle.sc_circuit.specs.Builds.{LeavesBuild};
 
 use crate::layer::LayerProver;
@@ -33,13 +33,9 @@ pub(crate) fn build_layer<F: Field, EF: ExtensionField<F>, C: Challenger<F>>(
     requires below { length below.now ≡ over.below }
     requires difficulty { pow_bits ≤ (C.party challenger.old).rules.max_bits }
     ensures rules { (C.party challenger.new).rules ≡ (C.party challenger.old).rules }
-    ensures left { LeavesBuild F.number EF.number (record {
-      ops = EF.ops;
-      channel = channel_by (C.party challenger.old) EF.extension F.ops.size pow_bits;
-      rounds = layer_variables over.entry.below + layer_variables over.entry.below;
-      claim = EF.number claim;
-      history = (C.party challenger.old).history;
-    })
+    ensures left { LeavesBuild F.number EF.number
+        (run_by EF.ops (C.party challenger.old) EF.extension F.ops.size pow_bits
+        (layer_variables over.entry.below + layer_variables over.entry.below) (EF.number claim))
         (gate_tables EF.ops (layer_variables over.entry.below) (entries EF.number weights.now)
         (entries EF.number below.now) over.entry.gates.now) result
         (C.party challenger.new).history }

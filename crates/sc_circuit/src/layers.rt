@@ -1,13 +1,13 @@
 //! The replay of layers, one after the other.
 ghost use Rattle.std.specs.Prelude.{◌≡◌, ℕ, ◌+◌, ◌<◌, ◌≤◌, ◌^◌, List, length, map};
-ghost use Rattle.sc_definitions.specs.Tables.{entries};
 ghost use Rattle.sc_challenger.specs.Parties.{channel_by};
-ghost use Rattle.sc_circuit_definitions.specs.Circuits.{layer_variables, IsWidth, PlacesBelow};
+ghost use Rattle.sc_circuit_definitions.specs.Circuits.{IsWidth, PlacesBelow};
 ghost use Rattle.sc_circuit_definitions.specs.Circuits.{top_width, IsCircuit};
 ghost use Rattle.sc_circuit_definitions.specs.CircuitPlays.{CircuitCase};
-ghost use Rattle.sc_circuit.specs.Runs.{layer_in};
-ghost use Rattle.sc_circuit.specs.Steps.{AreSame, LeavesLayer};
+ghost use Rattle.sc_circuit.specs.Runs.{layer_in, run_by};
+ghost use Rattle.sc_circuit.specs.Steps.{LeavesLayer};
 ghost use Rattle.sc_circuit.specs.Replays.{case_over, LeavesLayers};
+ghost use Rattle.sc_circuit.specs.Stacks.{rounds_above, step_of, start_by, task_of, IsReachedBy};
 
 use crate::error::CircuitError;
 use crate::proof::LayerProof;
@@ -50,19 +50,10 @@ fn replay_next<F: Field, EF: ExtensionField<F>, C: Challenger<F>>(
     requires weights { length over.gates.now ≤ length reached.old.weights.items }
     requires difficulty { pow_bits ≤ (C.party challenger.old).rules.max_bits }
     ensures rules { (C.party challenger.new).rules ≡ (C.party challenger.old).rules }
-    ensures left { LeavesLayer EF.number (record {
-      run = record {
-        ops = EF.ops;
-        channel = channel_by (C.party challenger.old) EF.extension F.ops.size pow_bits;
-        rounds = layer_variables over.entry.below + layer_variables over.entry.below;
-        claim = EF.number reached.old.claim;
-        history = (C.party challenger.old).history;
-      };
-      gates = over.entry.gates.now;
-      variables = layer_variables over.entry.below;
-      layer = over.entry.layer;
-      came = layer_in F.number EF.number came.now;
-    }) reached.old reached.new result
+    ensures left { LeavesLayer EF.number (step_of
+        (run_by EF.ops (C.party challenger.old) EF.extension F.ops.size pow_bits
+        (rounds_above over.entry.below) (EF.number reached.old.claim)) over.entry
+        (layer_in F.number EF.number came.now)) reached.old reached.new result
         (C.party challenger.new).history }
 {
     let k = variables_of(over.below);
@@ -99,23 +90,11 @@ pub(crate) fn replay_from<F: Field, EF: ExtensionField<F>, C: Challenger<F>>(
     requires difficulty { pow_bits ≤ (C.party challenger.old).rules.max_bits }
     ensures rules { (C.party challenger.new).rules ≡ (C.party challenger.old).rules }
     ensures left { (q : CircuitCase) (w : ℕ → ℕ) (drawn : ℕ) (excess : List ℕ)
-        → length q.inputs ≡ stack.entry.inputs
-        → AreSame (top_width (map (λ gates. gates.items) stack.entry.layers.now)
-        stack.entry.inputs) (entries EF.number reached.old.weights.items) w
-        → LeavesLayers EF.number (record {
-          case = case_over q EF.ops
-              (channel_by (C.party challenger.old) EF.extension F.ops.size pow_bits);
-          layers = map (λ gates. gates.items) stack.entry.layers.now;
-          came = map (layer_in F.number EF.number) came.now;
-          first = stack.entry.first;
-          at = record {
-            history = (C.party challenger.old).history;
-            claim = EF.number reached.old.claim;
-            weights = w;
-            drawn = drawn;
-            excess = excess;
-          };
-        })
+        → IsReachedBy EF.number q stack.entry reached.old w → LeavesLayers EF.number
+        (task_of (case_over q EF.ops
+        (channel_by (C.party challenger.old) EF.extension F.ops.size pow_bits)) stack.entry
+        (map (layer_in F.number EF.number) came.now)
+        (start_by (C.party challenger.old) (EF.number reached.old.claim) w drawn excess))
         reached.old reached.new result (C.party challenger.new).history }
 {
     let [gates, layers @ ..] = stack.layers else {

@@ -16,7 +16,9 @@ use Rattle.sc_circuit.proofs.LayersLaws.{first-of, width-top, layers-none, layer
 use Rattle.sc_circuit.proofs.layers.+replay_from.Goals as goal
 
 pub returns-in_default-clause-left : goal.returns-in_default-clause-left
-returns-in_default-clause-left g t c = λ q w drawn excess inputs same.
+returns-in_default-clause-left g t c = λ q w drawn excess both.
+    let inputs = both.0 in
+    let same = both.1 in
     let N = g.EF.Field.number in
     let party = g.C.Challenger.party c.args.challenger.now in
     let all = c.args.stack.layers.now in
@@ -67,7 +69,9 @@ replay_from-requires g t c κs within =
     )
 
 pub returns-in_err-replay_next-clause-left : goal.returns-in_err-replay_next-clause-left
-returns-in_err-replay_next-clause-left g t c = λ q w drawn excess inputs same.
+returns-in_err-replay_next-clause-left g t c = λ q w drawn excess both.
+    let inputs = both.0 in
+    let same = both.1 in
     let N = g.EF.Field.number in
     let party = g.C.Challenger.party c.args.challenger.now in
     let all = c.args.stack.layers.now in
@@ -104,7 +108,9 @@ returns-in_err-replay_next-clause-left g t c = λ q w drawn excess inputs same.
     (layers-refused Q v.items layers given came at c.args.stack.first N (Unit {0}) (Unit {0}) old new e h' left)))
 
 pub returns-clause-left : goal.returns-clause-left
-returns-clause-left g t c = λ q w drawn excess inputs same.
+returns-clause-left g t c = λ q w drawn excess both.
+    let inputs = both.0 in
+    let same = both.1 in
     let N = g.EF.Field.number in
     let party = g.C.Challenger.party c.args.challenger.now in
     let middle = g.C.Challenger.party c.replay_next.new.challenger in
@@ -152,7 +158,7 @@ returns-clause-left g t c = λ q w drawn excess inputs same.
       at = record { history = h; claim = n; weights = next.weights; drawn = next.drawn; excess = next.excess };
       first = c.args.stack.first + 1;
     } in
-    let later = c.replay_from.ensures.left q next.weights next.drawn next.excess inputs below_same in
+    let later = c.replay_from.ensures.left q next.weights next.drawn next.excess (inputs, below_same) in
     let moved = subst (λ R. LeavesLayers N (start R h1 (N mid.claim)) mid new c.replay_from.result h') c.in_ok-replay_next.ensures.rules later in
     let placed = subst (λ h. LeavesLayers N (start party.rules h (N mid.claim)) mid new c.replay_from.result h') taken.history moved in
     let rest = subst (λ n. LeavesLayers N (start party.rules next.history n) mid new c.replay_from.result h') taken.takes.claim placed in
