@@ -19,7 +19,7 @@ const TWO: Layer = &[(true, 0, 1), (false, 1, 1)];
 
 const THREE: Layer = &[(true, 0, 1), (false, 1, 1), (false, 0, 0)];
 
-/// In the order in which they are tested: each but the last ones has a cause of a later refusal too.
+/// In the order in which they are tested: each but the last ones has a later refusal's cause too.
 pub const REFUSED: [Refused; 10] = [
     Refused {
         name: "no layer, over a width that does not fit",
