@@ -23,7 +23,7 @@ pub struct Circuit {
 
 impl Circuit {
     ghost use Rattle.sc_circuit_definitions.specs.Circuits.{all_values, top_width};
-    ghost use Rattle.sc_circuit.specs.Views.{layers_in, MakesCircuit};
+    ghost use Rattle.sc_circuit.specs.Views.{layers_in, inputs_in, MakesCircuit};
 
     /// The circuit of these layers over so many inputs.
     ///
@@ -49,14 +49,14 @@ impl Circuit {
 
     /// How many inputs there are.
     pub fn inputs(&self) -> usize
-        ensures { result ≡ self.now.inputs }
+        ensures { result ≡ inputs_in self.now }
     {
         self.inputs
     }
 
     /// How many outputs there are.
     pub fn outputs(&self) -> usize
-        ensures { result ≡ top_width (layers_in self.now) self.now.inputs }
+        ensures { result ≡ top_width (layers_in self.now) (inputs_in self.now) }
     {
         self.layers[0].len()
     }
@@ -67,7 +67,7 @@ impl Circuit {
     ///
     /// There are as many inputs as [`Circuit::inputs`] tells.
     pub fn evaluate<F: Field>(&self, alloc: Global, inputs: &[F]) -> Result<Vec<Row<F>>, NoMemory>
-        requires { length inputs.now ≡ self.now.inputs }
+        requires { length inputs.now ≡ inputs_in self.now }
         ensures { IfOk result (λ rows. map (λ row. map F.number row) rows.items
             ≡ all_values F.ops (layers_in self.now) (map F.number inputs.now)) }
     {
