@@ -1,0 +1,7 @@
+pub mod SideLaws
+pub mod EntryLaws
+pub mod TableLaws
+pub mod ReplayLaws
+pub mod BuildLaws
+pub mod VerdictLaws
+pub mod AuditLaws

@@ -1,0 +1,62 @@
+use Rattle.std.proofs.Common.{◌≡◌, None, length, map, sym, ◌∙◌, ap, arith}
+use Rattle.sc_soundness.specs.Differences.{first_difference}
+use Rattle.sc_transcript.specs.Data.{wire_in}
+use Rattle.sc_merge_definitions.specs.Matrices.{MatmulCase, false_entry}
+use Rattle.sc_matmul.specs.MatrixViews.{matrix_in}
+use Rattle.sc_matmul.specs.FittingClaims.{case_by}
+use Rattle.sc_matmul.specs.MatmulReports.{result_in}
+use Rattle.sc_matmul.proofs.SideLaws.{are-fitting}
+use Rattle.sc_matmul.proofs.AuditLaws.{as-many, entry-none}
+use Rattle.sc_matmul.proofs.BuildLaws.{built-counted, built-answered}
+use Rattle.sc_matmul.proofs.building.build.Goals as goal
+
+pub product_of-requires-clause-few : goal.product_of-requires-clause-few
+product_of-requires-clause-few g c =
+    let fitting = c.args.fitting.now in
+    let N = g.F.Field.number in
+    (are-fitting (matrix_in N fitting.left.now) (matrix_in N fitting.right.now) (matrix_in N fitting.claimed.now) fitting.fits).inner_most
+
+pub product_of-requires-clause-rows : goal.product_of-requires-clause-rows
+product_of-requires-clause-rows g c =
+    let fitting = c.args.fitting.now in
+    let N = g.F.Field.number in
+    (are-fitting (matrix_in N fitting.left.now) (matrix_in N fitting.right.now) (matrix_in N fitting.claimed.now) fitting.fits).rows_most
+
+pub product_of-requires-clause-cols : goal.product_of-requires-clause-cols
+product_of-requires-clause-cols g c =
+    let fitting = c.args.fitting.now in
+    let N = g.F.Field.number in
+    (are-fitting (matrix_in N fitting.left.now) (matrix_in N fitting.right.now) (matrix_in N fitting.claimed.now) fitting.fits).cols_most
+
+pub check_entries-requires-clause-some : goal.check_entries-requires-clause-some
+check_entries-requires-clause-some g c =
+    let fitting = c.args.fitting.now in
+    let N = g.F.Field.number in
+    let fit = are-fitting (matrix_in N fitting.left.now) (matrix_in N fitting.right.now) (matrix_in N fitting.claimed.now) fitting.fits in
+    omega (arith, fit.cols_some, fit.cols_same)
+
+pub check_entries-requires-clause-same : goal.check_entries-requires-clause-same
+check_entries-requires-clause-same g c =
+    let fitting = c.args.fitting.now in
+    as-many g.F.Field.number g.F.Field.ops fitting.left.now fitting.right.now fitting.claimed.now c.in_ok-product.product.items fitting.fits c.in_ok-product.ensures
+    ∙ sym (ap length c.deref.ensures.value)
+
+pub replay-requires-clause-counted : goal.replay-requires-clause-counted
+replay-requires-clause-counted g c =
+    let B = g.F.Field.number in
+    let N = g.EF.Field.number in
+    let q : MatmulCase = case_by c.args.fitting.now (g.C.Challenger.party c.args.challenger.now) in
+    built-counted q g.met.EF.Field.is_field.ring (wire_in B N c.in_ok-rounds.rounds) c.in_ok-rounds.ensures
+
+-- what was built is answered as a build
+pub returns-clause-answered : goal.returns-clause-answered
+returns-clause-answered g c =
+    let B = g.F.Field.number in
+    let N = g.EF.Field.number in
+    let fitting = c.args.fitting.now in
+    let q : MatmulCase = case_by fitting (g.C.Challenger.party c.args.challenger.now) in
+    let none : false_entry q ≡ None =
+    sym (ap (first_difference 0 (map B fitting.claimed.now.values.items)) (ap (map B) c.deref.ensures.value ∙ c.in_ok-product.ensures))
+    ∙ entry-none fitting.claimed.now.cols _ c.in_ok-check_entries.ensures in
+    built-answered q g.met.EF.Field.is_field.ring (wire_in B N c.in_ok-rounds.rounds) c.in_ok-rounds.ensures none (result_in B N c.replay.result)
+    (g.C.Challenger.party c.replay.new.challenger).history c.replay.ensures.answered

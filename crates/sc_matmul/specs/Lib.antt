@@ -1,0 +1,9 @@
+pub mod MatrixViews
+pub mod Shapes
+pub mod MatmulJobs
+pub mod FittingClaims
+pub mod Entries
+pub mod MatmulRounds
+pub mod MatmulReports
+pub mod MatmulAudits
+pub mod MatmulPlays
