@@ -1,5 +1,5 @@
 """Runs of programs, measured: for the scripts beside this one."""
-import os, shlex, shutil, statistics, sys, tempfile, time
+import json, os, shlex, shutil, statistics, subprocess, sys, tempfile, time
 
 # The program `time` starts the other one from a small process. Without it the peak is at least this script's own size.
 TIME = shutil.which("time")
@@ -51,3 +51,47 @@ def compare(programs, word, path, repeats, folder):
         print(f"status {status}, {last if len(last) < 100 else last[:96] + ' ...'}")
     if len(answers) != 1:
         sys.exit("the programs' answers differ")
+
+
+# ---- beside plain loops
+
+def instructions(command, path, folder):
+    """The instructions that a command takes on the file at `path`, by valgrind, or none where valgrind is not there; and its text."""
+    counted = os.path.join(folder, "counted")
+    watched = ["valgrind", "--tool=callgrind", f"--callgrind-out-file={counted}"] if shutil.which("valgrind") else []
+    with open(path, "rb") as job:
+        ran = subprocess.run(watched + command, stdin=job, stdout=subprocess.PIPE, stderr=subprocess.DEVNULL)
+    if not watched:
+        return None, ran.stdout
+    with open(counted) as f:
+        return int(next(line.split()[1] for line in f if line.startswith(("summary:", "totals:")))), ran.stdout
+
+
+def beside(program, word, source, job, repeats, folder):
+    """Shows what a program takes beside plain loops in Rust that do the same work, compiled here: by instructions, or processor time.
+
+    The work is a whole run less a run on the same job at a difficulty that is refused. Ends where the texts differ.
+    """
+    loops = os.path.join(folder, "loops")
+    subprocess.run(["rustc", "-O", "-o", loops, source], check=True)
+    paths = [os.path.join(folder, name) for name in ("whole.json", "read.json")]
+    for path, it in zip(paths, (job, job | {"bits": 17})):
+        with open(path, "w") as f:
+            json.dump(it, f, separators=(",", ":"))
+    figures, texts = [], []
+    for command in (shlex.split(program) + [word], [loops]):
+        counts = [instructions(command, path, folder) for path in paths]
+        texts.append([text for _, text in counts])
+        if counts[0][0] is None:
+            out = os.path.join(folder, "out")
+            counts = [(statistics.median(run(command, path, out)[1] for _ in range(repeats)) * 1e3, None) for path in paths]
+            unit = "ms of processor time"
+        else:
+            counts, unit = [(number / 1e6, None) for number, _ in counts], "million instructions"
+        figures.append([counts[0][0], counts[0][0] - counts[1][0]])
+    print(f"{'':12}{'whole run':>12}{'its work':>12}   {unit}")
+    for name, them in zip(("program", "plain loops"), figures):
+        print(f"{name:12}{them[0]:12.2f}{them[1]:12.2f}")
+    print(f"{'ratio':12}" + "".join(f"{a / b:12.2f}" for a, b in zip(*figures)))
+    if texts[0] != texts[1]:
+        sys.exit("the texts differ")

@@ -171,6 +171,11 @@ class Forms:
             return
         if value.kind != "object":
             raise Misfit(path, value, "null, or an object with rounds and witnesses")
+        self.pairs(value, path)
+
+    def pairs(self, value, path):
+        if value.kind != "object":
+            raise Misfit(path, value, "an object with rounds and witnesses")
         member(value, path, "rounds", list_of(list_of(self.extension, 2, "value"), named="round"))
         member(value, path, "witnesses", list_of(self.base, named="witness"))
 
@@ -193,6 +198,22 @@ class Forms:
         member(value, path, "rounds", list_of(list_of(self.extension, named="value"), named="round"))
         member(value, path, "witnesses", list_of(self.base, named="witness"))
 
+    def matrix(self, value, path):
+        list_of(list_of(self.base, named="entry"), named="row")(value, path)
+        lengths = [it.count() for it in value.items()]
+        if not lengths:
+            raise Misfit(path, value, "a list of one row or more, and here is none")
+        other = next((n for n, it in enumerate(lengths) if it != lengths[0] or it == 0), None)
+        if other is not None:
+            raise Misfit(path, value, f"a list of rows of one length of at least 1, and here row {other} has {lengths[other]}"
+                         + (f" and row 0 has {lengths[0]}" if other else ""))
+
+    def matrix_mode(self, value, path):
+        if value.string() == "build":
+            return
+        if value.kind != "object":
+            raise Misfit(path, value, 'the string "build", or an object with the member check')
+        member(value, path, "check", self.pairs)
 
     def rounds(self, value, path):
         below(MOST_ROUNDS + 1)(value, path)
@@ -246,6 +267,8 @@ AUDIT = {"field": Forms.field, "challenger": Forms.challenger, "order": lambda f
          "table": Forms.table, "variables": Forms.count, "groups": Forms.groups, "batching": Forms.batching, "mode": Forms.mode,
          "basis": Forms.basis}
 PRODUCT = {"field": Forms.field, "challenger": Forms.challenger, "bits": Forms.bits, "tables": Forms.tables, "mode": Forms.product_mode}
+MATMUL = {"field": Forms.field, "challenger": Forms.challenger, "bits": Forms.bits, "left": Forms.matrix, "right": Forms.matrix,
+          "claimed": Forms.matrix, "mode": Forms.matrix_mode}
 VEIL = {name: AUDIT[name] for name in ("field", "challenger", "order", "bits", "table", "variables", "groups", "batching")} \
     | {"rounds": Forms.rounds, "masks": Forms.masks, "aux": Forms.aux}
 EXPLAIN = {"field": Forms.field, "eps": Forms.element, "plain": Forms.plain, "challenges": Forms.challenges, "mu": Forms.element,
@@ -254,7 +277,7 @@ OPTIONAL = {"basis"}
 
 
 def members_of(command):
-    return {"product": PRODUCT, "veil": VEIL, "explain": EXPLAIN}.get(command, AUDIT)
+    return {"product": PRODUCT, "veil": VEIL, "explain": EXPLAIN, "matmul": MATMUL}.get(command, AUDIT)
 
 
 def misfit(job, command):
