@@ -16,7 +16,8 @@ STRANGE = ["claim 2\n", "claim 2\nround 1: 2 3 challenge 4\nverdict holds\n", "c
            "refused bad-jso\n", "claim 2\nverdict holds", "claim 2\nclaim 2\nverdict holds\n", "claim -2\nverdict holds\n",
            "claim 2\nverdict lucky-round vanishing 1 poly 1\n", "claim 2\ngrid 0 infinity 1\nverdict holds\n",
            "mask 1: 2 3 4\n", "mask 0:\n", "mask 0: 2 3 4", "mask 0: 2 3 4\nmask 0: 2 3 4\n", "mask 0: 2 3 4\nverdict holds\n",
-           "claim 2\nmask 0: 2 3 4\nverdict holds\n"]
+           "claim 2\nmask 0: 2 3 4\nverdict holds\n", "point 2\nverdict holds\n", "point 2\nclaim 3\nleft 4\nleft 4\nverdict holds\n",
+           "point 2\nclaim 3\nverdict lucky-point 0 vanishing 1 poly 1\n", "refused matmul side middle 2 3\n", "refused matmul inner 4\n"]
 
 PLACES = [(b"\xef\xbb\xbf{}", 1, 1), (b'{"a":1,\n"b":01}', 2, 5), (b"[1,\n 1e400]", 2, 2), (b'["\\ud800"]', 1, 3), (b'["a\x01"]', 1, 4),
           (b'["\xff"]', 1, 3), (b"[1.]", 1, 3), (b'{"a" 1}', 1, 6), (b"[1] 2", 1, 5), (b"[tru]", 1, 2), (b"[" * 128, 1, 128), (b"", 1, 1),
@@ -35,6 +36,8 @@ REFUSALS = {
     "job-shape variables": " {variables} expected {expected}", "strategy-unfit variables": " {variables} bound {bound}",
     "job-shape rounds": " {rounds} bound {bound}", "job-shape projective-suffix": "", "strategy-unfit projective": "",
     "veil even-characteristic": "", "veil mask-too-short": " {length}", "veil no-rounds": "", "explain even-characteristic": "",
+    "matmul side": " {matrix} {rows} {columns}", "matmul inner": " {left} {right}", "matmul outer": " {rows} {columns}",
+    "false-entry": " {row} {column} claimed {claimed} true {true}",
     "strategy-unfit select": " {statement}", "strategy-unfit selector": " {statement}",
 }
 PROOFS = {
@@ -66,9 +69,9 @@ def report(told):
     if "masks" in told:
         yield from (f"mask {number}: {words(mask)}" for number, mask in enumerate(told["masks"]))
         return
-    yield from (f"{name} {told[name]}" for name in ("rows", "statements", "claim", "mu", "eps", "pairs") if name in told)
+    yield from (f"{name} {told[name]}" for name in ("rows", "statements", "point", "claim", "mu", "eps", "pairs") if name in told)
     yield from map(round_line, told.get("rounds", []))
-    yield from (f"{name} {told[name]}" for name in ("residual", "eval", "weight", "product", "scaled", "carried", "mask-residual")
+    yield from (f"{name} {told[name]}" for name in ("residual", "eval", "weight", "product", "left", "right", "scaled", "carried", "mask-residual")
                if name in told)
     for it in told.get("grids", []):
         yield from (f"grid {it['grid']} {part} {words(it[part])}" for part in ("zero", "infinity"))
@@ -99,7 +102,7 @@ def wanted(job):
 
 def command_of(job):
     """The command of a ready job: its name begins with the word, if that is not `audit`."""
-    return next((word for word in ("product", "veil", "explain") if f"/{word}" in job), "audit")
+    return next((word for word in program.COMMANDS[1:] if f"/{word}" in job), "audit")
 
 
 def reads_back(job):

@@ -76,8 +76,8 @@ def edited(job, path, value):
 
 
 def answer(job):
-    command = ("explain" if "wires" in job else "product" if "tables" in job else "veil" if "masks" in job and "mode" not in job
-               else "audit")
+    command = ("explain" if "wires" in job else "matmul" if "left" in job else "product" if "tables" in job
+               else "veil" if "masks" in job and "mode" not in job else "audit")
     return subprocess.run([os.environ["SUMCHECK_PROGRAM"], command], input=json.dumps(job).encode(), capture_output=True).stdout.decode()
 
 

@@ -11,12 +11,13 @@ NUMBER = r"(\d+)"
 NUMBERS = r"(\d+(?: \d+)*)"
 
 # Lines with one number, or none, in a report.
-FIGURES = ("rows", "statements", "claim", "mu", "eps", "pairs", "residual", "eval", "weight", "product", "scaled", "carried", "mask-residual")
+FIGURES = ("rows", "statements", "point", "claim", "mu", "eps", "pairs", "residual", "eval", "weight", "product", "left", "right", "scaled", "carried",
+           "mask-residual")
 ROUND = re.compile(rf"round {NUMBER}: {NUMBERS}(?: witness {NUMBER})? challenge {NUMBER}")
 GRID = re.compile(rf"grid {NUMBER} (zero|infinity) {NUMBERS}")
 MASK = re.compile(rf"mask {NUMBER}: {NUMBERS}")
 VERDICT = re.compile(r"verdict (holds|refuted)")
-LUCKY = re.compile(rf"verdict (lucky-batch|lucky-round)(?: {NUMBER})? vanishing {NUMBER} poly {NUMBERS}")
+LUCKY = re.compile(rf"verdict (lucky-batch|lucky-point|lucky-round)(?: {NUMBER})? vanishing {NUMBER} poly {NUMBERS}")
 
 # A text of one line that is no report: its outcome and cause, and the names of what it tells.
 SINGLE = [(re.compile(line.replace("N", NUMBER)), outcome, cause, names) for line, outcome, cause, *names in [
@@ -32,10 +33,14 @@ SINGLE = [(re.compile(line.replace("N", NUMBER)), outcome, cause, names) for lin
     ("refused veil (even-characteristic|no-rounds)", "refused", "veil", "fault"),
     ("refused veil (mask-too-short) N", "refused", "veil", "fault", "length"),
     ("refused explain (even-characteristic)", "refused", "explain", "fault"),
+    ("refused matmul (side) (left|right|claimed) N N", "refused", "matmul", "fault", "matrix", "rows", "columns"),
+    ("refused matmul (inner) N N", "refused", "matmul", "fault", "left", "right"),
+    ("refused matmul (outer) N N", "refused", "matmul", "fault", "rows", "columns"),
     ("refused strategy-unfit (projective)", "refused", "strategy-unfit", "fault"),
     ("refused strategy-unfit (variables) N bound N", "refused", "strategy-unfit", "fault", "variables", "bound"),
     ("refused strategy-unfit (select|selector) N", "refused", "strategy-unfit", "fault", "statement"),
     ("refused false-claim N claimed N true N", "refused", "false-claim", "statement", "claimed", "true"),
+    ("refused false-entry N N claimed N true N", "refused", "false-entry", "row", "column", "claimed", "true"),
     ("proof refused missing N", "proof-refused", "missing", "variables"),
     ("proof refused rounds expected N actual N", "proof-refused", "rounds", "expected", "actual"),
     ("proof refused witnesses expected N actual N", "proof-refused", "witnesses", "expected", "actual"),
@@ -88,7 +93,7 @@ def add_grid(report, found):
 
 def add_lucky(report, found):
     kind, number, vanishing, poly = found.groups()
-    if (number is None) != (kind == "lucky-batch"):
+    if (number is None) != (kind != "lucky-round"):
         raise Unknown(found.group())
     report["verdict"] = kind
     named = {} if number is None else {"round": int(number)}

@@ -1,14 +1,15 @@
 #!/usr/bin/env python3
 """Writes a job with the true values in its claims: `./sumcheck --fill FILE`. This tool is not proved; the values are the program's.
 
-usage: tools/fill.py [audit|product|veil|explain] FILE      (FILE `-`: standard input)
+usage: tools/fill.py [audit|product|veil|explain|matmul] FILE      (FILE `-`: standard input)
 
 The values come from builds of the program, one for each false statement and three more; of a job of `product` the value is
-the sum that its proof claims, and a job of `explain` claims nothing. All else in the file stays as it is, byte for byte,
-also the mode. The command is `explain` where the job has the member `wires`, `product` where it has `tables` and no
-`table`, and `veil` where it has `masks` and no `mode`. Where the job is refused for another reason than a false claim, the
-refusal goes to standard error, and the program's status is kept. Status 11 is this tool's own: the file cannot be read,
-or the program cannot be run, or answers unlike docs/FORMATS.md.
+the sum that its proof claims, and a job of `explain` claims nothing. Of a job of `matmul` the entries that it claims are
+multiplied here, and a build of the program confirms them. All else in the file stays as it is, byte for byte, also the
+mode. The command is `explain` where the job has the member `wires`, `matmul` where it has `left`, `product` where it has
+`tables` and no `table`, and `veil` where it has `masks` and no `mode`. Where the job is refused for another reason than a
+false claim, the refusal goes to standard error, and the program's status is kept. Status 11 is this tool's own: the file
+cannot be read, or the program cannot be run, or answers unlike docs/FORMATS.md.
 """
 import json, sys
 
@@ -19,6 +20,8 @@ def named_command(members):
     """The command that a job is for, by the names of its members."""
     if "wires" in members:
         return "explain"
+    if "left" in members:
+        return "matmul"
     if "tables" in members and "table" not in members:
         return "product"
     return "veil" if "masks" in members and "mode" not in members else "audit"
@@ -40,8 +43,8 @@ def replaced(text, changes):
 
 def built(job, command):
     """The status and the text of the job as a build, whatever its mode."""
-    modes = {"product": {"mode": "build"}, "veil": {}, "explain": {}, "audit": {"mode": {"build": "plain"}}}
-    return program.run([command], json.dumps(job | modes[command]).encode())
+    modes = {"veil": {}, "explain": {}, "audit": {"mode": {"build": "plain"}}}
+    return program.run([command], json.dumps(job | modes.get(command, {"mode": "build"})).encode())
 
 
 def changes_of(job, value, command):
@@ -51,6 +54,9 @@ def changes_of(job, value, command):
     if command == "product":
         check = value.member("mode").member("check")
         return [(check.member("claimed"), truth.true_sum(job))] if check else []
+    if command == "matmul":
+        rows = [list(row.items()) for row in value.member("claimed").items()]
+        return [(rows[row][column], true) for row, column, _, true in truth.false_entries(job)]
     claims = list(forms.statements(value))
     return [(claims[number][3].member("value"), true) for number, (_, true) in truth.false_statements(job).items()]
 
@@ -64,7 +70,7 @@ def checked_read(data):
 
 
 def main(words):
-    if not words or len(words) > 2 or len(words) == 2 and words[0] not in ("audit", "product", "veil", "explain"):
+    if not words or len(words) > 2 or len(words) == 2 and words[0] not in program.COMMANDS:
         raise program.WrongWords
     data = program.bytes_of(words[-1])
     value = checked_read(data)
@@ -78,7 +84,7 @@ def main(words):
         return status
     job = json.loads(data)
     status, text = built(job, command)
-    if status not in (0, 5) and not text.startswith("refused false-claim "):
+    if status not in (0, 5) and not text.startswith("refused false-"):
         print(text, end="", file=sys.stderr)
         return status
     result = replaced(data.decode(), changes_of(job, value, command))

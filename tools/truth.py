@@ -1,12 +1,14 @@
 """The true values of a job's claims, by builds of the program itself, so that nothing is invented here. Unproved.
 
+The product of two matrices alone is multiplied here, since a build names one false entry at a time.
+
 A build refuses the first statement that is false and tells its true value. So the statements after it are built next,
 until none is refused: one run for each false statement, and one more. The runs have no test and a script without draws,
 on which the truth of a statement does not depend.
 """
 import json
 
-import answers, program
+import answers, fields, program
 
 LISTS = ("claims", "scalars", "points")
 
@@ -65,6 +67,22 @@ def true_sum(job):
     if status != 0:
         raise program.Unable(f"a build ended with status {status}: {told}")
     return told["claim"]
+
+
+def base_field(job):
+    return fields.Prime(257) if job["field"] == "257x2" else fields.FIELDS[job["field"]]
+
+
+def true_product(job):
+    """The product of the two matrices of a job of `matmul`, multiplied here."""
+    field = base_field(job)
+    return [[fields.total(field, map(field.mul, row, column)) for column in zip(*job["right"])] for row in job["left"]]
+
+
+def false_entries(job):
+    """The false entries of a job of `matmul` whose sides fit, row by row: row, column, claimed and true value."""
+    both = zip(job["claimed"], true_product(job))
+    return [(i, j, said, true) for i, rows in enumerate(both) for j, (said, true) in enumerate(zip(*rows)) if said != true]
 
 
 def filled(job):

@@ -1,14 +1,15 @@
 #!/usr/bin/env python3
 """Says why a job or a proof is refused or refuted: `./sumcheck --why FILE`. This reader is not proved.
 
-usage: tools/why.py [audit|product|veil|explain] FILE      (FILE `-`: standard input)
+usage: tools/why.py [audit|product|veil|explain|matmul] FILE      (FILE `-`: standard input)
 
 The first line is the program's own: its refusal, or its verdict, or all lines of masks. After it stand the line and the
 column of what is meant, both counted from 1, and what is wanted there; which statements are false, and the first round
 that differs from those of a build, both by further runs of the program. The command is `explain` where the job has the
-member `wires`, `product` where it has `tables` and no `table`, and `veil` where it has `masks` and no `mode`. The status is
-0 where the verdict holds or masks are told, 1 where something else was told, 2 where the words are none of these, and 11
-where the file cannot be read, the program cannot be run, or this reader does not find what the program refuses.
+member `wires`, `matmul` where it has `left`, `product` where it has `tables` and no `table`, and `veil` where it has
+`masks` and no `mode`. The status is 0 where the verdict holds or masks are told, 1 where something else was told, 2 where
+the words are none of these, and 11 where the file cannot be read, the program cannot be run, or this reader does not find
+what the program refuses.
 """
 import difflib, json, sys, textwrap
 
@@ -167,6 +168,25 @@ def explain(case):
     case.say(f"At {place}, the field is one in which 1 + 1 is 0. Masks are found with one half.")
 
 
+def matmul(case):
+    told, matrices = case.told, {name: case.value.member(name) for name in ("left", "right", "claimed")}
+    places = {name: case.at(value.start) for name, value in matrices.items()}
+    if told["fault"] == "side":
+        case.say(f"At {places[told['matrix']]}, the matrix {told['matrix']} has {counted(told['rows'], 'row')} and {counted(told['columns'], 'column')}. "
+                 "Each side is 1, 2, 4 and so on up to 128.")
+    elif told["fault"] == "inner":
+        case.say(f"At {places['left']}, the matrix left has {counted(told['left'], 'column')}; right, at {places['right']}, has "
+                 f"{counted(told['right'], 'row')}, and wanted are as many.")
+    else:
+        left, right = case.job()["left"], case.job()["right"]
+        case.say(f"At {places['claimed']}, the matrix claimed has {counted(told['rows'], 'row')} and {counted(told['columns'], 'column')}; the product has "
+                 f"{counted(len(left), 'row')}, as left has, and {counted(len(right[0]), 'column')}, as right has.")
+
+
+def counted(number, what):
+    return f"{number} {what}{'' if number == 1 else 's'}"
+
+
 def strategy_unfit(case):
     if case.told["fault"] == "variables":
         value = case.value.member("mode").member("build").member("small-value")
@@ -204,6 +224,22 @@ def false_claim(case):
     say_false(case, truth.false_statements(case.job()))
 
 
+def false_entry(case):
+    say_entries(case, truth.false_entries(case.job()))
+
+
+def say_entries(case, false, most=20):
+    """A line for each false entry, of many the first ones."""
+    rows = [list(row.items()) for row in case.value.member("claimed").items()] if false else []
+    for row, column, claimed, true in false[:most]:
+        case.say(f"The entry in row {row} and column {column}, at {case.at(rows[row][column].start)}, is false: it claims {claimed}, and {true} is true "
+                 "of the product.")
+    if len(false) > most:
+        case.say(f"{len(false) - most} more entries are false.")
+    if false:
+        case.say("./sumcheck --fill writes the job with true values.")
+
+
 # ---- Rounds beside those of a build
 
 def rounds_of(case):
@@ -224,6 +260,8 @@ def true_build(case, challenges, changed=None):
         job |= {"challenger": {"draws": draws, "witnesses": []}, "bits": 0}
     if case.command == "product":
         return truth.built("product", job | {"mode": "build"})
+    if case.command == "matmul":
+        return truth.built("matmul", job | {"claimed": truth.true_product(job), "mode": "build"})
     return truth.built("audit", truth.filled(job) | {"mode": {"build": "plain"}})
 
 
@@ -237,9 +275,10 @@ def other_jobs(job):
 
 
 def say_likely(case, built, number, challenges):
-    """What the first round that differs looks like, where it is one for `audit`."""
-    if case.command == "audit" and len(rounds_of(case)[0][number]) == 2:
-        others = {f'{member} "{word}"': true_build(case, challenges, {member: word})[1].get("rounds", []) for member, word in other_jobs(case.job())}
+    """What the first round that differs looks like, where it is one of `audit` or `matmul`."""
+    if case.command in ("audit", "matmul") and len(rounds_of(case)[0][number]) == 2:
+        others = {f'{member} "{word}"': true_build(case, challenges, {member: word})[1].get("rounds", [])
+                  for member, word in (other_jobs(case.job()) if case.command == "audit" else ())}
         case.say(*likely.guesses(case.job(), built, number, rounds_of(case)[0][number], others))
 
 
@@ -279,6 +318,10 @@ def say_claims(case):
         if claimed != true:
             case.say(f"The claimed sum {claimed}, at {case.at(place.start)}, is false, and {true} is true of the tables.")
         return claimed == true
+    if case.command == "matmul":
+        false = truth.false_entries(case.job())
+        say_entries(case, false)
+        return not false
     false = truth.false_statements(case.job())
     say_false(case, false)
     return not false
@@ -301,17 +344,21 @@ def say_rounds(case, challenges):
 
 def refuted(case):
     if say_claims(case):
-        case.say("Every claim is true." if case.command == "audit" else "The claimed sum is the true one.")
+        case.say({"audit": "Every claim is true.", "matmul": "Every entry is true."}.get(case.command, "The claimed sum is the true one."))
     else:
         case.say("So a proof is refuted unless a challenge is lucky, whatever rounds it sends.")
-    say_rounds(case, [it["challenge"] for it in case.told["rounds"]])
+    first = [case.told["point"]] if case.command == "matmul" else []
+    say_rounds(case, first + [it["challenge"] for it in case.told["rounds"]])
 
 
 def lucky(case):
     told = case.told["lucky"]
     say_claims(case)
     degree = len(told["poly"]) - 1
-    where = "the batching challenge" if "round" not in told else f"the challenge of round {told['round']}, which is {case.told['rounds'][told['round']]['challenge']},"
+    if "round" in told:
+        where = f"the challenge of round {told['round']}, which is {case.told['rounds'][told['round']]['challenge']},"
+    else:
+        where = f"the point, which is {case.told['point']}," if case.command == "matmul" else "the batching challenge"
     case.say(f"The rounds are right all the same, since {where} is one of {told['vanishing']} at which the polynomial above vanishes, of degree "
              f"at most {degree}; at any other the claim would have stayed false.")
     if degree <= MOST_DEGREE:
@@ -327,14 +374,20 @@ PROOFS = {
 }
 
 
+PROOFS_OF_MATRICES = {
+    "rounds": "A proof of this job has {expected} rounds, one for each time that the columns of left can be halved, and here are {actual}.",
+    "witness": "The witness of round {round} does not pass the test of {bits} bits at what was shown before it: the matrices, the seed, and the rounds so far.",
+}
+
+
 def proof_refused(case):
-    case.say(PROOFS[case.told["cause"]].format(**case.told))
+    case.say((PROOFS | (PROOFS_OF_MATRICES if case.command == "matmul" else {}))[case.told["cause"]].format(**case.told))
     if case.told["cause"] == "missing":
         return
     if case.told["cause"] == "width":
         case.say(f"Its values stand at {case.at(round_value(case, case.told['round']).start)}.")
         return
-    if say_claims(case) or case.command == "audit":  # a claimed sum of product is shown to the challenger, a claim of audit is not
+    if say_claims(case) or case.command == "audit":  # what product and matmul claim is shown to the challenger, a claim of audit is not
         say_rounds(case, None)
 
 
@@ -343,16 +396,16 @@ def no_witness(case):
     size = forms.SIZES[job["field"]][0]
     if job["challenger"] == "hash":
         case.say(f"None of the {size} base numbers passes the test of {job['bits']} bits in round {case.told['round']}; one in {1 << job['bits']} does, by "
-                 "chance. A lower difficulty, or another batching challenge, may have one.")
+                 "chance. A lower difficulty" + (", or another batching challenge, may have one." if "batching" in job else " may have one."))
     else:
         case.say(f"The script lists no number that passes test {case.told['round']}: `witnesses` has {len(job['challenger']['witnesses'])} lists, the first for test 0.")
 
 
 CAUSES = {
     "too-long": too_long, "bad-json": bad_json, "bad-job": bad_job, "job-shape": job_shape, "strategy-unfit": strategy_unfit,
-    "false-claim": false_claim, "veil": veil, "explain": explain,
+    "false-claim": false_claim, "veil": veil, "explain": explain, "matmul": matmul, "false-entry": false_entry,
 }
-VERDICTS = {"refuted": refuted, "lucky-batch": lucky, "lucky-round": lucky}
+VERDICTS = {"refuted": refuted, "lucky-batch": lucky, "lucky-point": lucky, "lucky-round": lucky}
 
 
 def explained(case):
@@ -374,7 +427,7 @@ def explained(case):
 
 
 def main(words):
-    if not words or len(words) > 2 or len(words) == 2 and words[0] not in ("audit", "product", "veil", "explain"):
+    if not words or len(words) > 2 or len(words) == 2 and words[0] not in program.COMMANDS:
         raise program.WrongWords
     try:
         case = Case(words)
