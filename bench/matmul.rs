@@ -7,7 +7,7 @@ const P: u64 = 65537;
 struct Matrix {
     rows: usize,
     cols: usize,
-    values: Vec<u64>,
+    values: Vec<u32>,
 }
 
 /// The text after a member's name.
@@ -27,7 +27,7 @@ fn matrix(job: &str, name: &str) -> Matrix {
     let (mut text, mut rows, mut values) = (&member(job, name)[1..], 0, Vec::new());
     loop {
         let (row, rest) = list(text);
-        values.extend(row);
+        values.extend(row.iter().map(|&it| it as u32));
         rows += 1;
         if !rest.starts_with(',') {
             return Matrix { rows, cols: values.len() / rows, values };
@@ -36,22 +36,22 @@ fn matrix(job: &str, name: &str) -> Matrix {
     }
 }
 
-fn product(left: &Matrix, right: &Matrix) -> Vec<u64> {
+fn product(left: &Matrix, right: &Matrix) -> Vec<u32> {
     let (mut values, mut sums) = (Vec::with_capacity(left.rows * right.cols), vec![0; right.cols]);
     for row in left.values.chunks_exact(left.cols) {
         sums.fill(0);
         for (&x, across) in row.iter().zip(right.values.chunks_exact(right.cols)) {
             for (sum, &y) in sums.iter_mut().zip(across) {
-                *sum += x * y;
+                *sum += u64::from(x) * u64::from(y);
             }
         }
-        values.extend(sums.iter().map(|&it| it % P));
+        values.extend(sums.iter().map(|&it| (it % P) as u32));
     }
     values
 }
 
-fn weighed(values: &[u64], weights: &[u64]) -> u64 {
-    values.iter().zip(weights).map(|(a, b)| a * b).sum::<u64>() % P
+fn weighed(values: &[u32], weights: &[u64]) -> u64 {
+    values.iter().zip(weights).map(|(&a, b)| u64::from(a) * b).sum::<u64>() % P
 }
 
 fn powers(x: u64, count: usize) -> Vec<u64> {
@@ -63,7 +63,7 @@ fn left_table(left: &Matrix, weights: &[u64]) -> Vec<u64> {
     let mut table = vec![0; left.cols];
     for (row, weight) in left.values.chunks_exact(left.cols).zip(weights) {
         for (sum, value) in table.iter_mut().zip(row) {
-            *sum += weight * value;
+            *sum += weight * u64::from(*value);
         }
     }
     table.iter().map(|it| it % P).collect()

@@ -93,5 +93,5 @@ def beside(program, word, source, job, repeats, folder):
     for name, them in zip(("program", "plain loops"), figures):
         print(f"{name:12}{them[0]:12.2f}{them[1]:12.2f}")
     print(f"{'ratio':12}" + "".join(f"{a / b:12.2f}" for a, b in zip(*figures)))
-    if texts[0] != texts[1]:
-        sys.exit("the texts differ")
+    if texts[0] != texts[1] or not all(texts[0]):
+        sys.exit("the texts differ, or are none")
