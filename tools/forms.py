@@ -5,7 +5,7 @@ A form is a function of a value and its path in the job, which raises a `Misfit`
 
 SIZES = {"65537": (65537, 65537), "257x2": (257, 66049), "16": (16, 16)}
 MOST_CLAIMS, MOST_VARIABLES, MOST_BITS, MOST_TABLES, MOST_ROUNDS, MOST_LENGTH = 4096, 64, 65535, 8, 64, 64
-MOST_MASKS, LEAST_WIDTH, MOST_WIDTH = 64, 2, 63
+MOST_MASKS, LEAST_WIDTH, MOST_WIDTH, MOST_PLACE = 64, 2, 63, 65535
 DIGITS = "in digits alone, without sign, fraction and exponent"
 
 
@@ -63,6 +63,13 @@ def member(value, path, name, form):
 def any_string(value, path):
     if value.kind != "string":
         raise Misfit(path, value, "a string")
+
+
+def an_object(members):
+    def form(value, path):
+        if value.kind != "object":
+            raise Misfit(path, value, f"an object with {members}")
+    return form
 
 
 def exactly_one(value, path, first, second):
@@ -208,6 +215,30 @@ class Forms:
             raise Misfit(path, value, f"a list of rows of one length of at least 1, and here row {other} has {lengths[other]}"
                          + (f" and row 0 has {lengths[0]}" if other else ""))
 
+    def gate(self, value, path):
+        list_of(below(MOST_PLACE + 1), 3, "number")(value, path)
+        kind = next(value.items())
+        if kind.unsigned() > 1:
+            raise Misfit(f"{path}, number 0", kind, "0 for a sum or 1 for a product")
+
+    def layers(self, value, path):
+        list_of(list_of(self.gate, named="gate"), named="layer")(value, path)
+
+    def circuit_mode(self, value, path):
+        if value.string() == "build":
+            return
+        if value.kind != "object":
+            raise Misfit(path, value, 'the string "build", or an object with the member check')
+        check = member(value, path, "check", an_object("layers"))
+        member(check, f"{path}, check", "layers", list_of(self.sent_layer, named="layer"))
+
+    def sent_layer(self, value, path):
+        an_object("rounds, witnesses, left and right")(value, path)
+        member(value, path, "rounds", list_of(list_of(self.extension, named="value"), named="round"))
+        member(value, path, "witnesses", list_of(self.base, named="witness"))
+        member(value, path, "left", self.extension)
+        member(value, path, "right", self.extension)
+
     def matrix_mode(self, value, path):
         if value.string() == "build":
             return
@@ -269,6 +300,8 @@ AUDIT = {"field": Forms.field, "challenger": Forms.challenger, "order": lambda f
 PRODUCT = {"field": Forms.field, "challenger": Forms.challenger, "bits": Forms.bits, "tables": Forms.tables, "mode": Forms.product_mode}
 MATMUL = {"field": Forms.field, "challenger": Forms.challenger, "bits": Forms.bits, "left": Forms.matrix, "right": Forms.matrix,
           "claimed": Forms.matrix, "mode": Forms.matrix_mode}
+CIRCUIT = {"field": Forms.field, "challenger": Forms.challenger, "bits": Forms.bits, "inputs": Forms.table, "layers": Forms.layers,
+           "outputs": Forms.table, "mode": Forms.circuit_mode}
 VEIL = {name: AUDIT[name] for name in ("field", "challenger", "order", "bits", "table", "variables", "groups", "batching")} \
     | {"rounds": Forms.rounds, "masks": Forms.masks, "aux": Forms.aux}
 EXPLAIN = {"field": Forms.field, "eps": Forms.element, "plain": Forms.plain, "challenges": Forms.challenges, "mu": Forms.element,
@@ -277,7 +310,7 @@ OPTIONAL = {"basis"}
 
 
 def members_of(command):
-    return {"product": PRODUCT, "veil": VEIL, "explain": EXPLAIN, "matmul": MATMUL}.get(command, AUDIT)
+    return {"product": PRODUCT, "veil": VEIL, "explain": EXPLAIN, "matmul": MATMUL, "circuit": CIRCUIT}.get(command, AUDIT)
 
 
 def misfit(job, command):
