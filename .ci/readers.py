@@ -17,7 +17,10 @@ STRANGE = ["claim 2\n", "claim 2\nround 1: 2 3 challenge 4\nverdict holds\n", "c
            "claim 2\nverdict lucky-round vanishing 1 poly 1\n", "claim 2\ngrid 0 infinity 1\nverdict holds\n",
            "mask 1: 2 3 4\n", "mask 0:\n", "mask 0: 2 3 4", "mask 0: 2 3 4\nmask 0: 2 3 4\n", "mask 0: 2 3 4\nverdict holds\n",
            "claim 2\nmask 0: 2 3 4\nverdict holds\n", "point 2\nverdict holds\n", "point 2\nclaim 3\nleft 4\nleft 4\nverdict holds\n",
-           "point 2\nclaim 3\nverdict lucky-point 0 vanishing 1 poly 1\n", "refused matmul side middle 2 3\n", "refused matmul inner 4\n"]
+           "point 2\nclaim 3\nverdict lucky-point 0 vanishing 1 poly 1\n", "refused matmul side middle 2 3\n", "refused matmul inner 4\n",
+           "claim 2\nlayer 1 round 0: 2 3 challenge 4\nverdict holds\n", "claim 2\nlayer 0 left 1 right 2 merge 3\nlayer 0 round 0: 2 3 challenge 4\nverdict holds\n",
+           "claim 2\nlayer 0 round 0: 2 3 challenge 4\nlayer 1 left 1 right 2 merge 3\nverdict holds\n", "claim 2\nverdict holds layer 0\n",
+           "claim 2\nverdict lucky-merge layer 0 round 1 vanishing 1 poly 1\n", "proof refused layer 0 layers expected 1 actual 2\n"]
 
 PLACES = [(b"\xef\xbb\xbf{}", 1, 1), (b'{"a":1,\n"b":01}', 2, 5), (b"[1,\n 1e400]", 2, 2), (b'["\\ud800"]', 1, 3), (b'["a\x01"]', 1, 4),
           (b'["\xff"]', 1, 3), (b"[1.]", 1, 3), (b'{"a" 1}', 1, 6), (b"[1] 2", 1, 5), (b"[tru]", 1, 2), (b"[" * 128, 1, 128), (b"", 1, 1),
@@ -37,11 +40,13 @@ REFUSALS = {
     "job-shape rounds": " {rounds} bound {bound}", "job-shape projective-suffix": "", "strategy-unfit projective": "",
     "veil even-characteristic": "", "veil mask-too-short": " {length}", "veil no-rounds": "", "explain even-characteristic": "",
     "matmul side": " {matrix} {rows} {columns}", "matmul inner": " {left} {right}", "matmul outer": " {rows} {columns}",
+    "circuit depth": " {layers}", "circuit width": " layer {layer} len {length}", "circuit wire": " layer {layer} gate {gate}",
+    "circuit outputs": " expected {expected} actual {actual}", "false-output": " {output} claimed {claimed} true {true}",
     "false-entry": " {row} {column} claimed {claimed} true {true}",
     "strategy-unfit select": " {statement}", "strategy-unfit selector": " {statement}",
 }
 PROOFS = {
-    "missing": " {variables}", "rounds": " expected {expected} actual {actual}", "witnesses": " expected {expected} actual {actual}",
+    "missing": " {variables}", "layers": " expected {expected} actual {actual}", "rounds": " expected {expected} actual {actual}", "witnesses": " expected {expected} actual {actual}",
     "width": " round {round} expected {expected} actual {actual}", "witness": " round {round} bits {bits}",
 }
 
@@ -50,17 +55,20 @@ def words(numbers):
     return " ".join(map(str, numbers))
 
 
-def round_line(it):
+def round_line(it, layer=""):
     witness = f" witness {it['witness']}" if "witness" in it else ""
-    return f"round {it['round']}: {words(it['values'])}{witness} challenge {it['challenge']}"
+    return f"{layer}round {it['round']}: {words(it['values'])}{witness} challenge {it['challenge']}"
 
 
 def verdict(told):
     """The last line of a report."""
+    layer = f" layer {told['layer']}" if "layer" in told else ""
     if "lucky" not in told:
-        return f"verdict {told['verdict']}"
+        return f"verdict {told['verdict']}{layer}"
     lucky = told["lucky"]
     number = f" {lucky['round']}" if "round" in lucky else ""
+    if "layer" in lucky:
+        number = f" layer {lucky['layer']}" + (f" round{number}" if number else "")
     return f"verdict {told['verdict']}{number} vanishing {lucky['vanishing']} poly {words(lucky['poly'])}"
 
 
@@ -71,7 +79,11 @@ def report(told):
         return
     yield from (f"{name} {told[name]}" for name in ("rows", "statements", "point", "claim", "mu", "eps", "pairs") if name in told)
     yield from map(round_line, told.get("rounds", []))
-    yield from (f"{name} {told[name]}" for name in ("residual", "eval", "weight", "product", "left", "right", "scaled", "carried", "mask-residual")
+    for it in told.get("layers", []):
+        layer = f"layer {it['layer']} "
+        yield from (round_line(number, layer) for number in it["rounds"])
+        yield f"{layer}left {it['left']} right {it['right']} merge {it['merge']}"
+    yield from (f"{name} {told[name]}" for name in ("input", "residual", "eval", "weight", "product", "left", "right", "scaled", "carried", "mask-residual")
                if name in told)
     for it in told.get("grids", []):
         yield from (f"grid {it['grid']} {part} {words(it[part])}" for part in ("zero", "infinity"))
@@ -83,10 +95,10 @@ def lines(told):
     if told["outcome"] == "refused":
         return ["refused " + (cause + REFUSALS[cause]).format(**told)]
     if told["outcome"] == "proof-refused":
-        return ["proof refused " + (cause + PROOFS[cause]).format(**told)]
+        return ["proof refused " + ("layer {layer} " if "layer" in told else "").format(**told) + (cause + PROOFS[cause]).format(**told)]
     if told["outcome"] == "report":
         return list(report(told))
-    return ["usage"] if told["outcome"] == "usage" else [f"no witness round {told['round']}"]
+    return ["usage"] if told["outcome"] == "usage" else ["no witness " + (f"layer {told['layer']} " if "layer" in told else "") + f"round {told['round']}"]
 
 
 def text(told):

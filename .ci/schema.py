@@ -40,7 +40,9 @@ class Schema:
             "maximum": lambda part, value, whole: not is_number(value) or value <= part,
             "minItems": lambda part, value, whole: not isinstance(value, list) or len(value) >= part,
             "maxItems": lambda part, value, whole: not isinstance(value, list) or len(value) <= part,
-            "items": lambda part, value, whole: not isinstance(value, list) or all(self.fits(part, it) for it in value),
+            "prefixItems": lambda part, value, whole: not isinstance(value, list) or all(map(self.fits, part, value)),
+            "items": lambda part, value, whole: not isinstance(value, list)
+            or all(self.fits(part, it) for it in value[len(whole.get("prefixItems", [])):]),
             "required": lambda part, value, whole: not isinstance(value, dict) or all(it in value for it in part),
             "properties": lambda part, value, whole: not isinstance(value, dict)
             or all(self.fits(part[it], value[it]) for it in part if it in value),
@@ -76,7 +78,7 @@ def edited(job, path, value):
 
 
 def answer(job):
-    command = ("explain" if "wires" in job else "matmul" if "left" in job else "product" if "tables" in job
+    command = ("explain" if "wires" in job else "matmul" if "left" in job else "circuit" if "layers" in job else "product" if "tables" in job
                else "veil" if "masks" in job and "mode" not in job else "audit")
     return subprocess.run([os.environ["SUMCHECK_PROGRAM"], command], input=json.dumps(job).encode(), capture_output=True).stdout.decode()
 

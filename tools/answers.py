@@ -2,7 +2,7 @@
 
 `read(text)` gives a dictionary with the member `outcome`: "report", "refused", "proof-refused", "no-witness", "usage", or
 "nothing" where nothing was written. A report has the members that its lines name, `rounds` and `grids` as lists; a lucky
-verdict has what it names in `lucky`. A refusal has a `cause`, where there are several a `fault`, and the numbers of its
+verdict has what it names in `lucky`. A report on a circuit has `layers` in the place of `rounds`, each with its rounds. A refusal has a `cause`, where there are several a `fault`, and the numbers of its
 line under their names. What `explain` finds is a report with `masks` alone, a list of coefficients for each.
 """
 import re
@@ -11,13 +11,15 @@ NUMBER = r"(\d+)"
 NUMBERS = r"(\d+(?: \d+)*)"
 
 # Lines with one number, or none, in a report.
-FIGURES = ("rows", "statements", "point", "claim", "mu", "eps", "pairs", "residual", "eval", "weight", "product", "left", "right", "scaled", "carried",
+FIGURES = ("rows", "statements", "point", "claim", "mu", "eps", "pairs", "input", "residual", "eval", "weight", "product", "left", "right", "scaled", "carried",
            "mask-residual")
-ROUND = re.compile(rf"round {NUMBER}: {NUMBERS}(?: witness {NUMBER})? challenge {NUMBER}")
+ROUND = re.compile(rf"(?:layer {NUMBER} )?round {NUMBER}: {NUMBERS}(?: witness {NUMBER})? challenge {NUMBER}")
 GRID = re.compile(rf"grid {NUMBER} (zero|infinity) {NUMBERS}")
+ENDS = re.compile(rf"layer {NUMBER} left {NUMBER} right {NUMBER} merge {NUMBER}")
 MASK = re.compile(rf"mask {NUMBER}: {NUMBERS}")
-VERDICT = re.compile(r"verdict (holds|refuted)")
+VERDICT = re.compile(rf"verdict (holds|refuted)(?: layer {NUMBER})?")
 LUCKY = re.compile(rf"verdict (lucky-batch|lucky-point|lucky-round)(?: {NUMBER})? vanishing {NUMBER} poly {NUMBERS}")
+LUCKY_LAYER = re.compile(rf"verdict (lucky-merge|lucky-round) layer {NUMBER}(?: round {NUMBER})? vanishing {NUMBER} poly {NUMBERS}")
 
 # A text of one line that is no report: its outcome and cause, and the names of what it tells.
 SINGLE = [(re.compile(line.replace("N", NUMBER)), outcome, cause, names) for line, outcome, cause, *names in [
@@ -36,17 +38,28 @@ SINGLE = [(re.compile(line.replace("N", NUMBER)), outcome, cause, names) for lin
     ("refused matmul (side) (left|right|claimed) N N", "refused", "matmul", "fault", "matrix", "rows", "columns"),
     ("refused matmul (inner) N N", "refused", "matmul", "fault", "left", "right"),
     ("refused matmul (outer) N N", "refused", "matmul", "fault", "rows", "columns"),
+    ("refused circuit (depth) N", "refused", "circuit", "fault", "layers"),
+    ("refused circuit (width) layer N len N", "refused", "circuit", "fault", "layer", "length"),
+    ("refused circuit (wire) layer N gate N", "refused", "circuit", "fault", "layer", "gate"),
+    ("refused circuit (outputs) expected N actual N", "refused", "circuit", "fault", "expected", "actual"),
     ("refused strategy-unfit (projective)", "refused", "strategy-unfit", "fault"),
     ("refused strategy-unfit (variables) N bound N", "refused", "strategy-unfit", "fault", "variables", "bound"),
     ("refused strategy-unfit (select|selector) N", "refused", "strategy-unfit", "fault", "statement"),
     ("refused false-claim N claimed N true N", "refused", "false-claim", "statement", "claimed", "true"),
     ("refused false-entry N N claimed N true N", "refused", "false-entry", "row", "column", "claimed", "true"),
+    ("refused false-output N claimed N true N", "refused", "false-output", "output", "claimed", "true"),
     ("proof refused missing N", "proof-refused", "missing", "variables"),
     ("proof refused rounds expected N actual N", "proof-refused", "rounds", "expected", "actual"),
     ("proof refused witnesses expected N actual N", "proof-refused", "witnesses", "expected", "actual"),
     ("proof refused width round N expected N actual N", "proof-refused", "width", "round", "expected", "actual"),
     ("proof refused witness round N bits N", "proof-refused", "witness", "round", "bits"),
+    ("proof refused layers expected N actual N", "proof-refused", "layers", "expected", "actual"),
+    ("proof refused layer N rounds expected N actual N", "proof-refused", "rounds", "layer", "expected", "actual"),
+    ("proof refused layer N witnesses expected N actual N", "proof-refused", "witnesses", "layer", "expected", "actual"),
+    ("proof refused layer N width round N expected N actual N", "proof-refused", "width", "layer", "round", "expected", "actual"),
+    ("proof refused layer N witness round N bits N", "proof-refused", "witness", "layer", "round", "bits"),
     ("no witness round N", "no-witness", None, "round"),
+    ("no witness layer N round N", "no-witness", None, "layer", "round"),
 ]]
 
 
@@ -72,13 +85,28 @@ def single(line):
     return None
 
 
+def open_layer(report, number, found):
+    """The layer of this number, which is the last one that is not closed, or a new one."""
+    layers = report.setdefault("layers", [])
+    if number == len(layers) and not (layers and "merge" not in layers[-1]):
+        layers.append({"layer": number, "rounds": []})
+    if number != len(layers) - 1 or "merge" in layers[number]:
+        raise Unknown(found.group())
+    return layers[number]
+
+
 def add_round(report, found):
-    number, values, witness, challenge = found.groups()
-    rounds = report.setdefault("rounds", [])
+    layer, number, values, witness, challenge = found.groups()
+    rounds = (report if layer is None else open_layer(report, int(layer), found)).setdefault("rounds", [])
     if int(number) != len(rounds):
         raise Unknown(found.group())
     it = {"round": int(number), "values": numbers_of(values)}
     rounds.append(it | ({} if witness is None else {"witness": int(witness)}) | {"challenge": int(challenge)})
+
+
+def add_ends(report, found):
+    layer, *ends = map(int, found.groups())
+    open_layer(report, layer, found).update(zip(("left", "right", "merge"), ends))
 
 
 def add_grid(report, found):
@@ -100,6 +128,23 @@ def add_lucky(report, found):
     report["lucky"] = named | {"vanishing": int(vanishing), "poly": numbers_of(poly)}
 
 
+def add_lucky_layer(report, found):
+    kind, layer, number, vanishing, poly = found.groups()
+    if (number is None) != (kind == "lucky-merge"):
+        raise Unknown(found.group())
+    report["verdict"] = kind
+    named = {"layer": int(layer)} | ({} if number is None else {"round": int(number)})
+    report["lucky"] = named | {"vanishing": int(vanishing), "poly": numbers_of(poly)}
+
+
+def add_verdict(report, found):
+    verdict, layer = found.groups()
+    if layer is not None and verdict != "refuted":
+        raise Unknown(found.group())
+    report["verdict"] = verdict
+    report.update({} if layer is None else {"layer": int(layer)})
+
+
 def add_line(report, line):
     word, _, rest = line.partition(" ")
     if "verdict" in report:
@@ -110,10 +155,14 @@ def add_line(report, line):
         add_round(report, found)
     elif found := GRID.fullmatch(line):
         add_grid(report, found)
+    elif found := ENDS.fullmatch(line):
+        add_ends(report, found)
     elif found := VERDICT.fullmatch(line):
-        report["verdict"] = found.group(1)
+        add_verdict(report, found)
     elif found := LUCKY.fullmatch(line):
         add_lucky(report, found)
+    elif found := LUCKY_LAYER.fullmatch(line):
+        add_lucky_layer(report, found)
     else:
         raise Unknown(line)
 
@@ -146,6 +195,6 @@ def read(text):
         add_line(report, line)
     if "verdict" not in report or "claim" not in report:
         raise Unknown(lines[-1])
-    if "rows" not in report:  # the report in short has no rounds
+    if "rows" not in report and "layers" not in report:  # the report in short has no rounds, and a circuit has them in its layers
         report.setdefault("rounds", [])
     return report

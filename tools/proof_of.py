@@ -4,7 +4,7 @@
 usage: tools/proof_of.py JOB REPORT      (REPORT: the text of a report, or its JSON by --json; `-`: standard input)
 
 The mode of the job becomes a `check` of the rounds and the witnesses that stand in the report, with the claim of the
-report as the claimed sum in a job of `product`. Nothing is computed: whether the proof passes, the program says. The
+report as the claimed sum in a job of `product`, and layer by layer in a job of `circuit`. Nothing is computed: whether the proof passes, the program says. The
 status is 0, 2 where the words are none of these, and 11 where a file cannot be read, or is no job or no report.
 """
 import json, sys
@@ -20,9 +20,15 @@ def read_report(data):
         raise program.Unable(f"this is no report: {why}") from None
 
 
+def rounds_of(shown):
+    return {"rounds": [it["values"] for it in shown["rounds"]], "witnesses": [it["witness"] for it in shown["rounds"] if "witness" in it]}
+
+
 def proof_of(job, report):
     """The mode with the proof that a report shows."""
-    proof = {"rounds": [it["values"] for it in report["rounds"]], "witnesses": [it["witness"] for it in report["rounds"] if "witness" in it]}
+    if "layers" in report:
+        return {"check": {"layers": [rounds_of(it) | {"left": it["left"], "right": it["right"]} for it in report["layers"]]}}
+    proof = rounds_of(report)
     return {"check": {"claimed": report["claim"]} | proof if "tables" in job else proof}
 
 
@@ -34,7 +40,7 @@ def main(words):
     except ValueError as why:
         raise program.Unable(f"{words[0]} is no JSON: {why}") from None
     report = read_report(program.bytes_of(words[1]))
-    if not isinstance(job, dict) or report.get("outcome") != "report" or "rounds" not in report:
+    if not isinstance(job, dict) or report.get("outcome") != "report" or "rounds" not in report and "layers" not in report:
         raise program.Unable("this is no job, or no report with rounds")
     print(json.dumps(job | {"mode": proof_of(job, report)}))
     return 0

@@ -1,6 +1,6 @@
 """The true values of a job's claims, by builds of the program itself, so that nothing is invented here. Unproved.
 
-The product of two matrices alone is multiplied here, since a build names one false entry at a time.
+The product of two matrices and the outputs of a circuit alone are reckoned here, since a build names one false value at a time.
 
 A build refuses the first statement that is false and tells its true value. So the statements after it are built next,
 until none is refused: one run for each false statement, and one more. The runs have no test and a script without draws,
@@ -83,6 +83,14 @@ def false_entries(job):
     """The false entries of a job of `matmul` whose sides fit, row by row: row, column, claimed and true value."""
     both = zip(job["claimed"], true_product(job))
     return [(i, j, said, true) for i, rows in enumerate(both) for j, (said, true) in enumerate(zip(*rows)) if said != true]
+
+
+def true_outputs(job):
+    """The outputs of a job of `circuit` that fits, reckoned here."""
+    field, values = base_field(job), job["inputs"]
+    for gates in reversed(job["layers"]):
+        values = [(field.mul if product else field.add)(values[left], values[right]) for product, left, right in gates]
+    return values
 
 
 def filled(job):

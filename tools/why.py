@@ -1,20 +1,21 @@
 #!/usr/bin/env python3
 """Says why a job or a proof is refused or refuted: `./sumcheck --why FILE`. This reader is not proved.
 
-usage: tools/why.py [audit|product|veil|explain|matmul] FILE      (FILE `-`: standard input)
+usage: tools/why.py [audit|product|veil|explain|matmul|circuit] FILE      (FILE `-`: standard input)
 
 The first line is the program's own: its refusal, or its verdict, or all lines of masks. After it stand the line and the
 column of what is meant, both counted from 1, and what is wanted there; which statements are false, and the first round
 that differs from those of a build, both by further runs of the program. The command is `explain` where the job has the
-member `wires`, `matmul` where it has `left`, `product` where it has `tables` and no `table`, and `veil` where it has
-`masks` and no `mode`. The status is 0 where the verdict holds or masks are told, 1 where something else was told, 2 where
+member `wires`, `matmul` where it has `left`, `circuit` where it has `layers`, `product` where it has `tables` and no
+`table`, and `veil` where it has `masks` and no `mode`. The status is 0 where the verdict holds or masks are told, 1 where something else was told, 2 where
 the words are none of these, and 11 where the file cannot be read, the program cannot be run, or this reader does not find
 what the program refuses.
 """
 import difflib, json, sys, textwrap
 
-import answers, fields, forms, likely, program, scan, truth
+import answers, circuits, fields, forms, likely, program, scan, truth
 from fill import command_of
+from phrases import counted, words
 
 
 MOST_BYTES = 1 << 26
@@ -183,10 +184,6 @@ def matmul(case):
                  f"{counted(len(left), 'row')}, as left has, and {counted(len(right[0]), 'column')}, as right has.")
 
 
-def counted(number, what):
-    return f"{number} {what}{'' if number == 1 else 's'}"
-
-
 def strategy_unfit(case):
     if case.told["fault"] == "variables":
         value = case.value.member("mode").member("build").member("small-value")
@@ -301,10 +298,6 @@ def compare(case, built, whose):
     return None
 
 
-def words(numbers):
-    return " ".join(map(str, numbers)) or "nothing"
-
-
 def round_value(case, number):
     check = case.value.member("mode").member("check")
     return next(it for n, it in enumerate(check.member("rounds").items()) if n == number)
@@ -343,6 +336,9 @@ def say_rounds(case, challenges):
 
 
 def refuted(case):
+    if case.command == "circuit":
+        circuits.refuted(case)
+        return
     if say_claims(case):
         case.say({"audit": "Every claim is true.", "matmul": "Every entry is true."}.get(case.command, "The claimed sum is the true one."))
     else:
@@ -353,9 +349,11 @@ def refuted(case):
 
 def lucky(case):
     told = case.told["lucky"]
-    say_claims(case)
+    (circuits.say_outputs if case.command == "circuit" else say_claims)(case)
     degree = len(told["poly"]) - 1
-    if "round" in told:
+    if case.command == "circuit":
+        where = circuits.lucky_draw(case)
+    elif "round" in told:
         where = f"the challenge of round {told['round']}, which is {case.told['rounds'][told['round']]['challenge']},"
     else:
         where = f"the point, which is {case.told['point']}," if case.command == "matmul" else "the batching challenge"
@@ -381,6 +379,9 @@ PROOFS_OF_MATRICES = {
 
 
 def proof_refused(case):
+    if case.command == "circuit":
+        circuits.proof_refused(case)
+        return
     case.say((PROOFS | (PROOFS_OF_MATRICES if case.command == "matmul" else {}))[case.told["cause"]].format(**case.told))
     if case.told["cause"] == "missing":
         return
@@ -394,18 +395,21 @@ def proof_refused(case):
 def no_witness(case):
     job = case.job()
     size = forms.SIZES[job["field"]][0]
+    layer = f" of layer {case.told['layer']}" if "layer" in case.told else ""
+    test = circuits.tests_before(case) if layer else case.told["round"]
     if job["challenger"] == "hash":
-        case.say(f"None of the {size} base numbers passes the test of {job['bits']} bits in round {case.told['round']}; one in {1 << job['bits']} does, by "
+        case.say(f"None of the {size} base numbers passes the test of {job['bits']} bits in round {case.told['round']}{layer}; one in {1 << job['bits']} does, by "
                  "chance. A lower difficulty" + (", or another batching challenge, may have one." if "batching" in job else " may have one."))
     else:
-        case.say(f"The script lists no number that passes test {case.told['round']}: `witnesses` has {len(job['challenger']['witnesses'])} lists, the first for test 0.")
+        case.say(f"The script lists no number that passes test {test}, that of round {case.told['round']}{layer}: `witnesses` has {len(job['challenger']['witnesses'])} lists, the first for test 0.")
 
 
 CAUSES = {
     "too-long": too_long, "bad-json": bad_json, "bad-job": bad_job, "job-shape": job_shape, "strategy-unfit": strategy_unfit,
     "false-claim": false_claim, "veil": veil, "explain": explain, "matmul": matmul, "false-entry": false_entry,
+    "circuit": circuits.misfit, "false-output": circuits.say_outputs,
 }
-VERDICTS = {"refuted": refuted, "lucky-batch": lucky, "lucky-point": lucky, "lucky-round": lucky}
+VERDICTS = {"refuted": refuted, "lucky-batch": lucky, "lucky-point": lucky, "lucky-merge": lucky, "lucky-round": lucky}
 
 
 def explained(case):
