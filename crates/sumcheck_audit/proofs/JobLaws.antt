@@ -34,7 +34,7 @@ module _ (sizes : Sizes) where
 
   -- ---- what is done
 
-  proof-gives : Gives (proof_form sizes) (ProofFits sizes)
+  pub proof-gives : Gives (proof_form sizes) (ProofFits sizes)
   proof-gives d p is =
       with_member-gives d (codes "rounds") (list_form (pair_form extension_element)) _ p (list-gives (pair_form extension_element) (pair-gives extension_element extension-gives)) is (λ rounds lows is.
       with_member-gives d (codes "witnesses") (list_form base_element) _ p (list-gives base_element base-gives) is (λ witnesses fews is.

@@ -30,7 +30,7 @@ pub asked-same : {X : Type 0} (k : Fields) (number : X → ℕ) (xs : List X) {b
         task = t;
       };
       ops = k.ops;
-      channel = channel R k.extension k.base_size bits;
+      channel = channel R k.extension k.base.size bits;
       history = h;
     }) (asked_with k job R h)
 asked-same k number xs job R h is eb en es ec ei et =

@@ -58,14 +58,14 @@ case_of embedding job = record {
 
 -- what the job's challenger answers
 abbrev pub rules_of : Fields → Job → Rules
-rules_of k job = rules_by k.base_size job.stated.challenger
+rules_of k job = rules_by k.base.size job.stated.challenger
 
 -- what the job asks of a challenger that answers by these rules and has this history
 abbrev pub asked_with : Fields → Job → Rules → List Event → Asked
 asked_with k job R h = record {
   case = case_of k.embedding job;
   ops = k.ops;
-  channel = channel R k.extension k.base_size job.stated.bits;
+  channel = channel R k.extension k.base.size job.stated.bits;
   history = h;
 }
 

@@ -51,8 +51,8 @@ fn audit_mode<F: Field, EF: ExtensionField<F>>(
     }
 }
 
-// The data of a proof.
-fn proof_data<F: Field, EF: ExtensionField<F>>(
+/// The data of a proof, of elements with its numbers.
+pub fn proof_data<F: Field, EF: ExtensionField<F>>(
     alloc: Global,
     proof: &Proof,
 ) -> Result<SumcheckData<F, EF>, NoMemory>

@@ -16,8 +16,9 @@ mod reading;
 mod report;
 mod statements;
 
+pub use asked::proof_data;
 pub use job::{Job, Mode, Proof};
 pub use kind::AuditJobs;
-pub use reading::read_job;
+pub use reading::{ProofForm, read_job};
 pub use report::{judge_job, say_verdict, show_report};
 pub use statements::constraint_of;

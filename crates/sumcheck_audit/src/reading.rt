@@ -18,9 +18,10 @@ use sumcheck_members::{
 // The greatest number of small-value rounds that can be named.
 const MOST_SMALL: u64 = 64;
 
+/// A proof of rounds that send two values each, over fields of these sizes.
 #[derive(Clone, Copy)]
-struct ProofForm {
-    sizes: Sizes,
+pub struct ProofForm {
+    pub sizes: Sizes,
 }
 
 impl Form for ProofForm {

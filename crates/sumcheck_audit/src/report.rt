@@ -1,11 +1,9 @@
 //! The answer to a job.
 ghost use Rattle.sc_audit.specs.Asked.{asked_by};
-ghost use Rattle.std.specs.Prelude.{◌≡◌, IfOk, OnOk, map, string_bytes};
-ghost use Rattle.sc_transcript.specs.Data.{pair_of};
+ghost use Rattle.std.specs.Prelude.{◌≡◌, IfOk, string_bytes};
 ghost use Rattle.sc_jobs.specs.Figures.{report_in, finding_in};
 ghost use Rattle.sumcheck_members.specs.Elements.{sizes_of};
 ghost use Rattle.sumcheck_audit.specs.Job.{JobFits};
-ghost use Rattle.sumcheck_replies.specs.Lines.{Adds, round_lines};
 ghost use Rattle.sumcheck_replies.specs.Fields.{fields_over, sizes_over};
 ghost use Rattle.sumcheck_replies.specs.Refusals.{finding_reply};
 ghost use Rattle.sumcheck_replies.specs.Reply.{Replies};
@@ -20,9 +18,8 @@ use crate::kind::AuditJobs;
 use sc_audit::{Job as AuditJob, Report, Verdict, audit};
 use sc_challenger::Challenger;
 use sc_field::{ExtensionField, Field, IntoTranscriptField, NoMemory};
-use sc_table::RoundMessage;
 use std::alloc::Global;
-use sumcheck_replies::{Answer, Outcome, answer_named, lines, number_at, refuse};
+use sumcheck_replies::{Answer, Outcome, answer_named, lines, refuse};
 
 /// The answer to a job: its report, or why there is none. The numbers are given up before the audit
 /// begins.
@@ -121,7 +118,7 @@ fn report_text<F: Field, EF: ExtensionField<F>>(
 {
     let mut text = String::new(alloc);
     lines::push_claim(&mut text, report.claim.index())?;
-    push_rounds(
+    lines::push_rounds(
         &mut text,
         report.rounds.polynomial_evaluations(),
         &report.rounds.pow_witnesses,
@@ -132,31 +129,4 @@ fn report_text<F: Field, EF: ExtensionField<F>>(
     lines::push_weight(&mut text, report.weight.index())?;
     push_grids(&mut text, &report.grids)?;
     Ok(text)
-}
-
-// The lines of rounds, as far as there are messages and challenges, with as many witnesses as there
-// are.
-fn push_rounds<F: Field, EF: Field>(
-    text: &mut String,
-    messages: &[RoundMessage<EF>],
-    witnesses: &[F],
-    challenges: &[EF],
-) -> Result<(), NoMemory>
-    ensures { OnOk result (Adds text.old text.new (round_lines 0
-        (map (pair_of EF.number) messages.now)
-        (map F.number witnesses.now) (map EF.number challenges.now))) }
-{
-    for i in 0..messages.len().min(challenges.len()) {
-        let message = messages[i];
-        let challenge = challenges[i].index();
-        lines::push_round(
-            text,
-            i,
-            message.c_a.index(),
-            message.c_inf.index(),
-            number_at(witnesses, i),
-            challenge,
-        )?;
-    }
-    Ok(())
 }

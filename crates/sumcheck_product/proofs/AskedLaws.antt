@@ -14,7 +14,7 @@ use Rattle.sumcheck_replies.specs.Fields.{Fields}
 
 pub asked-same : (k : Fields) (job : ProductJob) (R : Rules) (h : List Event) {tables : List (List ℕ)} {task : ProductTask} {bits : ℕ} →
     tables ≡ map (map k.embedding) job.tables → task ≡ task_given job.mode → bits ≡ job.bits →
-    ◌≡◌ {A = ProductAsked} (record { ops = k.ops; tables = tables; task = task; channel = channel R k.extension k.base_size bits; history = h }) (asked_under k job R h)
+    ◌≡◌ {A = ProductAsked} (record { ops = k.ops; tables = tables; task = task; channel = channel R k.extension k.base.size bits; history = h }) (asked_under k job R h)
 asked-same k job R h et em eb = rw (et, em, eb) refl
 
 -- the reply to what a job asks of a challenger is the job's

@@ -36,13 +36,13 @@ asked_under k job R h = record {
   ops = k.ops;
   tables = map (map k.embedding) job.tables;
   task = task_given job.mode;
-  channel = channel R k.extension k.base_size job.bits;
+  channel = channel R k.extension k.base.size job.bits;
   history = h;
 }
 
 -- what the job's challenger answers
 abbrev pub product_rules : ProductJob → Rules
-product_rules job = rules_by (fields_of job.field).base_size job.challenger
+product_rules job = rules_by (fields_of job.field).base.size job.challenger
 
 -- what it asks of its own challenger, over the fields that it names
 abbrev pub own_product : ProductJob → ProductAsked

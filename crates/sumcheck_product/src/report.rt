@@ -1,5 +1,5 @@
 //! The answer to a job of `product`.
-ghost use Rattle.std.specs.Prelude.{◌≡◌, ◌≢◌, IfOk, OnOk, map, string_bytes};
+ghost use Rattle.std.specs.Prelude.{◌≡◌, ◌≢◌, IfOk, string_bytes};
 ghost use Rattle.sc_product_audit.specs.ProductReports.{reported_in, verdict_finding};
 ghost use Rattle.sumcheck_members.specs.Elements.{sizes_of};
 ghost use Rattle.sumcheck_product.specs.CertifiedProducts.{ProductPromise};
@@ -7,7 +7,6 @@ ghost use Rattle.sumcheck_product.specs.ProductJob.{ProductJobFits};
 ghost use Rattle.sumcheck_product.specs.Products.{product_answer, product_judged, product_lines};
 ghost use Rattle.sumcheck_product.specs.Products.{product_refusal, reported_reply};
 ghost use Rattle.sumcheck_replies.specs.Fields.{fields_over, sizes_over};
-ghost use Rattle.sumcheck_replies.specs.Lines.{Adds, round_line, round_lines};
 ghost use Rattle.sumcheck_replies.specs.Refusals.{finding_reply};
 ghost use Rattle.sumcheck_replies.specs.Reply.{Replies};
 
@@ -18,7 +17,7 @@ use sc_challenger::Challenger;
 use sc_field::{ExtensionField, Field, NoMemory};
 use sc_product_audit::{ProductError, ProductReport, ProductVerdict, audit_product};
 use std::alloc::Global;
-use sumcheck_replies::{Answer, Outcome, answer_named, lines, number_at};
+use sumcheck_replies::{Answer, Outcome, answer_named, lines};
 
 /// The answer to a job of `product`: its report, or why there is none. The numbers are given up
 /// before the rounds begin.
@@ -101,7 +100,7 @@ fn report_text<F: Field, EF: ExtensionField<F>>(
 {
     let mut text = String::new(alloc);
     lines::push_claim(&mut text, report.proof.claimed_sum.index())?;
-    push_rounds(
+    lines::push_values_rounds(
         &mut text,
         &report.proof.round_polys,
         &report.proof.pow_witnesses,
@@ -110,43 +109,6 @@ fn report_text<F: Field, EF: ExtensionField<F>>(
     lines::push_residual(&mut text, report.residual.index())?;
     lines::push_product(&mut text, report.product.index())?;
     Ok(text)
-}
-
-// The lines of rounds, as far as there are messages and challenges, with as many witnesses as there
-// are.
-fn push_rounds<F: Field, EF: Field>(
-    text: &mut String,
-    messages: &[Vec<EF>],
-    witnesses: &[F],
-    challenges: &[EF],
-) -> Result<(), NoMemory>
-    ensures { OnOk result (Adds text.old text.new (round_lines 0
-        (map (λ values. map EF.number values.items) messages.now)
-        (map F.number witnesses.now) (map EF.number challenges.now))) }
-{
-    for i in 0..messages.len().min(challenges.len()) {
-        let witness = number_at(witnesses, i);
-        push_round(text, i, &messages[i], witness, challenges[i].index())?;
-    }
-    Ok(())
-}
-
-// The line of a round.
-fn push_round<EF: Field>(
-    text: &mut String,
-    i: usize,
-    values: &[EF],
-    witness: Option<u64>,
-    challenge: u64,
-) -> Result<(), NoMemory>
-    ensures { OnOk result (Adds text.old text.new
-        (round_line i (map EF.number values.now) witness challenge)) }
-{
-    lines::push_round_name(text, i)?;
-    lines::push_values(text, values)?;
-    lines::push_witness(text, witness)?;
-    lines::push_challenge(text, challenge)?;
-    Ok(())
 }
 
 // The refusal of a job or of its proof, in one line. Want of memory has no text.

@@ -39,12 +39,16 @@ round_name i = codes "round " ++ decimal i ++ codes ":"
 unfoldable pub challenge_part : ℕ → List ℕ
 challenge_part challenge = codes " challenge " ++ decimal challenge ++ codes "\n"
 
--- a line for the values of each round, its witness if there is one, and its challenge, numbered from i on
+-- A line of some kind for the values of each round, its witness if there is one, and its challenge, numbered from i on.
+abbrev pub lines_by : (ℕ → List ℕ → Option ℕ → ℕ → List ℕ) → ℕ → List (List ℕ) → List ℕ → List ℕ → List ℕ
+lines_by line i [] witnesses challenges = []
+lines_by line i (values ∷ messages) witnesses [] = []
+lines_by line i (values ∷ messages) [] (r ∷ challenges) = line i values None r ++ lines_by line (suc i) messages [] challenges
+lines_by line i (values ∷ messages) (w ∷ witnesses) (r ∷ challenges) = line i values (Some w) r ++ lines_by line (suc i) messages witnesses challenges
+
+-- the lines of rounds
 abbrev pub round_lines : ℕ → List (List ℕ) → List ℕ → List ℕ → List ℕ
-round_lines i [] witnesses challenges = []
-round_lines i (values ∷ messages) witnesses [] = []
-round_lines i (values ∷ messages) [] (r ∷ challenges) = round_line i values None r ++ round_lines (suc i) messages [] challenges
-round_lines i (values ∷ messages) (w ∷ witnesses) (r ∷ challenges) = round_line i values (Some w) r ++ round_lines (suc i) messages witnesses challenges
+round_lines i messages witnesses challenges = lines_by round_line i messages witnesses challenges
 
 -- a round, as the place of something
 unfoldable pub round_text : ℕ → List ℕ

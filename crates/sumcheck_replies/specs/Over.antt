@@ -19,7 +19,7 @@ pub record Asks (J : Type 0) : Type 1 where
 
 -- what it is replied over these fields, under its own challenger
 abbrev pub reply_over : {J : Type 0} → Asks J → Fields → J → Reply
-reply_over asks k job = asks.replies k job (rules_by k.base_size (asks.challenger job)) []
+reply_over asks k job = asks.replies k job (rules_by k.base.size (asks.challenger job)) []
 
 -- the same over the fields that it names
 abbrev pub own_reply : {J : Type 0} → Asks J → J → Reply

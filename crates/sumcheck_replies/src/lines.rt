@@ -10,10 +10,13 @@ ghost use Rattle.sumcheck_replies.specs.Lines.{arity_text, difficulty_text, tabl
 ghost use Rattle.sumcheck_replies.specs.Lines.{projective_suffix_text};
 ghost use Rattle.sumcheck_replies.specs.Lines.{weight_line, witness_text, witnesses_text};
 ghost use Rattle.sumcheck_replies.specs.Lines.{challenge_part, product_line, round_name, width_text};
-ghost use Rattle.sumcheck_replies.specs.Lines.{layer_name, round_text, witness_part};
+ghost use Rattle.sumcheck_replies.specs.Lines.{layer_name, round_lines, round_text, witness_part};
+ghost use Rattle.sc_transcript.specs.Data.{pair_of};
 ghost use Rattle.sumcheck_members.specs.Members.{member_name, misfit_text};
 
+use crate::numbers::number_at;
 use sc_field::{Field, NoMemory};
+use sc_table::RoundMessage;
 use sc_verdicts::{FitFault, ShapeFault};
 use std::alloc::{AllocError, Global};
 use sumcheck_members::Member;
@@ -81,6 +84,70 @@ pub fn push_challenge(text: &mut String, challenge: u64) -> Result<(), AllocErro
     ensures { OnOk result (Adds text.old text.new (challenge_part challenge)) }
 {
     write!(text, " challenge {challenge}\n")
+}
+
+/// The line of a round that sent any number of values.
+pub fn push_values_round<EF: Field>(
+    text: &mut String,
+    i: usize,
+    values: &[EF],
+    witness: Option<u64>,
+    challenge: u64,
+) -> Result<(), NoMemory>
+    ensures { OnOk result (Adds text.old text.new
+        (round_line i (map EF.number values.now) witness challenge)) }
+{
+    push_round_name(text, i)?;
+    push_values(text, values)?;
+    push_witness(text, witness)?;
+    push_challenge(text, challenge)?;
+    Ok(())
+}
+
+/// The lines of rounds that sent any number of values, as far as there are messages and challenges,
+/// with as many witnesses as there are.
+pub fn push_values_rounds<F: Field, EF: Field>(
+    text: &mut String,
+    messages: &[Vec<EF>],
+    witnesses: &[F],
+    challenges: &[EF],
+) -> Result<(), NoMemory>
+    ensures { OnOk result (Adds text.old text.new (round_lines 0
+        (map (λ values. map EF.number values.items) messages.now)
+        (map F.number witnesses.now) (map EF.number challenges.now))) }
+{
+    for i in 0..messages.len().min(challenges.len()) {
+        let witness = number_at(witnesses, i);
+        push_values_round(text, i, &messages[i], witness, challenges[i].index())?;
+    }
+    Ok(())
+}
+
+/// The lines of rounds that sent two values, as far as there are messages and challenges, with as
+/// many witnesses as there are.
+pub fn push_rounds<F: Field, EF: Field>(
+    text: &mut String,
+    messages: &[RoundMessage<EF>],
+    witnesses: &[F],
+    challenges: &[EF],
+) -> Result<(), NoMemory>
+    ensures { OnOk result (Adds text.old text.new (round_lines 0
+        (map (pair_of EF.number) messages.now)
+        (map F.number witnesses.now) (map EF.number challenges.now))) }
+{
+    for i in 0..messages.len().min(challenges.len()) {
+        let message = messages[i];
+        let challenge = challenges[i].index();
+        push_round(
+            text,
+            i,
+            message.c_a.index(),
+            message.c_inf.index(),
+            number_at(witnesses, i),
+            challenge,
+        )?;
+    }
+    Ok(())
 }
 
 /// A round, as the place of something.

@@ -27,6 +27,9 @@ pub enum Kind {
     Veil,
     /// What an observer sees of masked rounds. The masks that explain it are told.
     Explain,
+    /// Two matrices and what is claimed to be their product. The rounds of the claim are built or
+    /// checked, and reported on.
+    Matmul,
 }
 
 /// What the program is asked for.
@@ -70,6 +73,8 @@ fn read_kind(word: &str) -> Option<Kind>
         Some(Kind::Veil)
     } else if word == "explain" {
         Some(Kind::Explain)
+    } else if word == "matmul" {
+        Some(Kind::Matmul)
     } else {
         None
     }

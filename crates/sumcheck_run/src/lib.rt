@@ -14,6 +14,7 @@ pub use sc_streams::{Failed, MemSink, MemSource, PlainSource, Sink, Source, StdS
 pub use sumcheck_audit::{AuditJobs, Job, Mode, Proof, judge_job, read_job, show_report};
 pub use sumcheck_explain::{ExplainJob, ExplainJobs, judge_explain, read_explain, show_masks};
 pub use sumcheck_make::{Recipe, make};
+pub use sumcheck_matmul::{MatmulJob, MatmulJobs, judge_matmul, read_matmul, show_matmul};
 pub use sumcheck_members::{
     BuildOrCheck, Challenger, EqualityClaim, FieldName, Group, Member, ProductClaim, ScalarClaim,
     Script, Sizes, Stated, SuccessorClaim, Unread,

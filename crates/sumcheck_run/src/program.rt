@@ -19,6 +19,7 @@ use std::alloc::Global;
 use sumcheck_audit::AuditJobs;
 use sumcheck_explain::ExplainJobs;
 use sumcheck_make::make;
+use sumcheck_matmul::MatmulJobs;
 use sumcheck_product::ProductJobs;
 use sumcheck_replies::{Answer, MAX_INPUT, reply_to};
 use sumcheck_veil::VeilJobs;
@@ -53,6 +54,7 @@ fn judge(alloc: Global, kind: Kind, input: Vec<u8>) -> Result<Answer, NoMemory>
         Kind::Product => reply_to::<ProductJobs>(alloc, input),
         Kind::Veil => reply_to::<VeilJobs>(alloc, input),
         Kind::Explain => reply_to::<ExplainJobs>(alloc, input),
+        Kind::Matmul => reply_to::<MatmulJobs>(alloc, input),
     }
 }
 

@@ -8,6 +8,7 @@ mod kinds;
 mod lucky;
 mod lucky_products;
 mod made;
+mod matmuls;
 mod products;
 mod projective;
 mod refusals;
@@ -77,6 +78,22 @@ fn audit_into<A: Abort>(rt: &A, alloc: Global, input: &[u8], sink: &mut MemSink)
 
 fn assert_written<A: Abort>(rt: &A, name: &str, code: u8, bytes: &[u8], want: u8, text: &str) {
     assert_eq!(rt; (code, bytes), (want, text.as_bytes()), "{name}");
+}
+
+// What a command that reads jobs answers to this one, into a sink that has room for all.
+fn assert_command<A: Abort>(
+    rt: &A,
+    alloc: Global,
+    command: &'static str,
+    job: &str,
+    code: u8,
+    text: &str,
+) {
+    let input = job.as_bytes().to_vec(alloc).expect(rt, "memory");
+    let mut source = PlainSource::new(input);
+    let mut sink = sink_with(rt, alloc, 2000, &[]);
+    let found = code_of(rt, alloc, &[command], &mut source, &mut sink);
+    assert_written(rt, job, found, sink.bytes(), code, text);
 }
 
 // What is answered to the bytes, into a sink that has room for all.

@@ -53,7 +53,7 @@ pub asked-same : {X : Type 0} (k : Fields) (number : X → ℕ) (xs : List X) {b
       problem = record { basis = evaluation; order = order_of job.stated.order; variables = n; table = λ b. k.embedding (entries number xs b); statements = ss; batching = c; initial = i };
       masks = sealed_masks k.ops (mask_length job.veil.masks) v aux;
       ops = k.ops;
-      channel = channel R k.extension k.base_size bits;
+      channel = channel R k.extension k.base.size bits;
       history = h;
     }) (asked_under k job R h)
 asked-same k number xs job R h is eb en es ec ei ev ea =

@@ -49,13 +49,13 @@ asked_under k job R h = record {
   problem = veil_problem k.embedding job;
   masks = veil_masks k job.veil;
   ops = k.ops;
-  channel = channel R k.extension k.base_size job.stated.bits;
+  channel = channel R k.extension k.base.size job.stated.bits;
   history = h;
 }
 
 -- what the job's challenger answers
 abbrev pub veil_rules : VeilJob → Rules
-veil_rules job = rules_by (fields_of job.stated.field).base_size job.stated.challenger
+veil_rules job = rules_by (fields_of job.stated.field).base.size job.stated.challenger
 
 -- what it asks of its own challenger, over the fields that it names
 abbrev pub own_veil : VeilJob → MaskedAsked

@@ -1,9 +1,8 @@
 //! The answer to a job of `veil`.
-ghost use Rattle.std.specs.Prelude.{◌≡◌, ◌≢◌, IfOk, OnOk, map, string_bytes};
+ghost use Rattle.std.specs.Prelude.{◌≡◌, ◌≢◌, IfOk, string_bytes};
 ghost use Rattle.sc_zk_audit.specs.MaskedReports.{masked_reported};
 ghost use Rattle.sumcheck_members.specs.Elements.{sizes_of};
 ghost use Rattle.sumcheck_replies.specs.Fields.{fields_over, sizes_over};
-ghost use Rattle.sumcheck_replies.specs.Lines.{Adds, round_line, round_lines};
 ghost use Rattle.sumcheck_replies.specs.Reply.{Replies};
 ghost use Rattle.sumcheck_veil.specs.PromisedVeils.{VeilPromise};
 ghost use Rattle.sumcheck_veil.specs.VeilJob.{VeilJobFits};
@@ -23,7 +22,7 @@ use sc_commitments::Sha2Mmcs;
 use sc_field::{ExtensionField, Field, NoMemory};
 use sc_zk_audit::{MaskedError, MaskedReport, audit_masked};
 use std::alloc::Global;
-use sumcheck_replies::{Answer, Outcome, answer_named, lines, number_at};
+use sumcheck_replies::{Answer, Outcome, answer_named, lines};
 
 /// The answer to a job of `veil`: its report, or why there is none. The numbers are given up before
 /// the rounds begin.
@@ -85,7 +84,7 @@ fn report_text<F: Field, EF: ExtensionField<F>>(
     lines::push_claim(&mut text, report.claim.index())?;
     push_mu(&mut text, run.zk_data.mu_tilde.index())?;
     push_eps(&mut text, run.eps.index())?;
-    push_rounds(
+    lines::push_values_rounds(
         &mut text,
         &run.zk_data.round_coefficients,
         &run.zk_data.pow_witnesses,
@@ -96,43 +95,6 @@ fn report_text<F: Field, EF: ExtensionField<F>>(
     push_carried(&mut text, run.carried.index())?;
     push_mask_residual(&mut text, run.mask_residual.index())?;
     Ok(text)
-}
-
-// The lines of rounds, as far as there are wires and challenges, with as many witnesses as there
-// are.
-fn push_rounds<F: Field, EF: Field>(
-    text: &mut String,
-    wires: &[Vec<EF>],
-    witnesses: &[F],
-    challenges: &[EF],
-) -> Result<(), NoMemory>
-    ensures { OnOk result (Adds text.old text.new (round_lines 0
-        (map (λ values. map EF.number values.items) wires.now)
-        (map F.number witnesses.now) (map EF.number challenges.now))) }
-{
-    for i in 0..wires.len().min(challenges.len()) {
-        let witness = number_at(witnesses, i);
-        push_round(text, i, &wires[i], witness, challenges[i].index())?;
-    }
-    Ok(())
-}
-
-// The line of a round.
-fn push_round<EF: Field>(
-    text: &mut String,
-    i: usize,
-    values: &[EF],
-    witness: Option<u64>,
-    challenge: u64,
-) -> Result<(), NoMemory>
-    ensures { OnOk result (Adds text.old text.new
-        (round_line i (map EF.number values.now) witness challenge)) }
-{
-    lines::push_round_name(text, i)?;
-    lines::push_values(text, values)?;
-    lines::push_witness(text, witness)?;
-    lines::push_challenge(text, challenge)?;
-    Ok(())
 }
 
 // The refusal of a job, in one line. Want of memory has no text.

@@ -1,8 +1,5 @@
 // What an observer sees of rounds under masks: the masks that `explain` tells of it.
-use super::{Case, assert_written, change, code_of, sink_with};
-use std::alloc::Global;
-use std::process::Abort;
-use sumcheck_run::PlainSource;
+use super::{Case, assert_command, change};
 
 // A part of a job, what is put in its place, and the answer.
 type Change = (&'static str, &'static str, u8, &'static str);
@@ -119,18 +116,10 @@ static CHANGES: [Change; 22] = [
     ),
 ];
 
-fn assert_explained<A: Abort>(rt: &A, alloc: Global, job: &str, code: u8, text: &str) {
-    let input = job.as_bytes().to_vec(alloc).expect(rt, "memory");
-    let mut source = PlainSource::new(input);
-    let mut sink = sink_with(rt, alloc, 1000, &[]);
-    let found = code_of(rt, alloc, &["explain"], &mut source, &mut sink);
-    assert_written(rt, job, found, sink.bytes(), code, text);
-}
-
 #[test]
 fn the_masks_of_a_view(rt: HostRuntime) {
     for (job, code, text) in &VIEWS {
-        assert_explained(&rt, rt.alloc(), *job, *code, *text);
+        assert_command(&rt, rt.alloc(), "explain", *job, *code, *text);
     }
 }
 
@@ -138,12 +127,12 @@ fn the_masks_of_a_view(rt: HostRuntime) {
 fn a_change_of_a_view(rt: HostRuntime) {
     for (part, other, code, text) in &CHANGES {
         let changed = change(&rt, rt.alloc(), ONE, *part, *other);
-        assert_explained(&rt, rt.alloc(), &changed, *code, *text);
+        assert_command(&rt, rt.alloc(), "explain", &changed, *code, *text);
     }
 }
 
 #[test]
 fn no_view_at_all(rt: HostRuntime) {
-    assert_explained(&rt, rt.alloc(), "[]", 3, "refused bad-job job\n");
-    assert_explained(&rt, rt.alloc(), "{", 3, "refused bad-json\n");
+    assert_command(&rt, rt.alloc(), "explain", "[]", 3, "refused bad-job job\n");
+    assert_command(&rt, rt.alloc(), "explain", "{", 3, "refused bad-json\n");
 }

@@ -1,9 +1,6 @@
 // Rounds over products of tables: the text and the status that `product` answers.
 use super::lucky_products::LUCKY;
-use super::{Case, Changed, assert_written, change, code_of, sink_with};
-use std::alloc::Global;
-use std::process::Abort;
-use sumcheck_run::PlainSource;
+use super::{Case, Changed, assert_command, change};
 
 // Two tables of one variable.
 const TWO: &str = r#"{"field":"65537","challenger":{"draws":[5],"witnesses":[]},
@@ -514,30 +511,22 @@ verdict holds
     ),
 ];
 
-fn assert_product<A: Abort>(rt: &A, alloc: Global, job: &str, code: u8, text: &str) {
-    let input = job.as_bytes().to_vec(alloc).expect(rt, "memory");
-    let mut source = PlainSource::new(input);
-    let mut sink = sink_with(rt, alloc, 1000, &[]);
-    let found = code_of(rt, alloc, &["product"], &mut source, &mut sink);
-    assert_written(rt, job, found, sink.bytes(), code, text);
-}
-
 #[test]
 fn the_first_product(rt: HostRuntime) {
-    assert_product(&rt, rt.alloc(), TWO, 0, TWO_TEXT);
+    assert_command(&rt, rt.alloc(), "product", TWO, 0, TWO_TEXT);
 }
 
 #[test]
 fn products_of_several_tables(rt: HostRuntime) {
     for (job, code, text) in &BUILDS {
-        assert_product(&rt, rt.alloc(), *job, *code, *text);
+        assert_command(&rt, rt.alloc(), "product", *job, *code, *text);
     }
 }
 
 #[test]
 fn products_that_a_challenge_lets_through(rt: HostRuntime) {
     for (job, code, text) in &LUCKY {
-        assert_product(&rt, rt.alloc(), *job, *code, *text);
+        assert_command(&rt, rt.alloc(), "product", *job, *code, *text);
     }
 }
 
@@ -545,7 +534,7 @@ fn products_that_a_challenge_lets_through(rt: HostRuntime) {
 fn a_change_of_the_first_product(rt: HostRuntime) {
     for (job, (part, other), code, text) in &CHANGED {
         let changed = change(&rt, rt.alloc(), *job, *part, *other);
-        assert_product(&rt, rt.alloc(), &changed, *code, *text);
+        assert_command(&rt, rt.alloc(), "product", &changed, *code, *text);
     }
 }
 
@@ -555,14 +544,14 @@ fn rounds_under_the_hash_challenger_handed_in_again(rt: HostRuntime) {
         let job = change(&rt, rt.alloc(), HASHED, "FIELD", *field);
         let job = change(&rt, rt.alloc(), &job, "BITS", *bits);
         let built = change(&rt, rt.alloc(), &job, "MODE", BUILD);
-        assert_product(&rt, rt.alloc(), &built, 0, *text);
+        assert_command(&rt, rt.alloc(), "product", &built, 0, *text);
         let checked = change(&rt, rt.alloc(), &job, "MODE", *proof);
-        assert_product(&rt, rt.alloc(), &checked, 0, *text);
+        assert_command(&rt, rt.alloc(), "product", &checked, 0, *text);
     }
 }
 
 #[test]
 fn no_product_at_all(rt: HostRuntime) {
-    assert_product(&rt, rt.alloc(), "[]", 3, "refused bad-job job\n");
-    assert_product(&rt, rt.alloc(), "{", 3, "refused bad-json\n");
+    assert_command(&rt, rt.alloc(), "product", "[]", 3, "refused bad-job job\n");
+    assert_command(&rt, rt.alloc(), "product", "{", 3, "refused bad-json\n");
 }

@@ -1,8 +1,5 @@
 // Rounds under masks: the text and the status that `veil` answers.
-use super::{Case, assert_written, change, code_of, sink_with};
-use std::alloc::Global;
-use std::process::Abort;
-use sumcheck_run::PlainSource;
+use super::{Case, assert_command, change};
 
 // A table of one variable under one mask.
 const ONE: &str = r#"{"field":"65537","challenger":{"draws":[31,2],"witnesses":[]},"order":"prefix",
@@ -304,23 +301,15 @@ static CHANGES: [Change; 30] = [
     ),
 ];
 
-fn assert_veil<A: Abort>(rt: &A, alloc: Global, job: &str, code: u8, text: &str) {
-    let input = job.as_bytes().to_vec(alloc).expect(rt, "memory");
-    let mut source = PlainSource::new(input);
-    let mut sink = sink_with(rt, alloc, 1000, &[]);
-    let found = code_of(rt, alloc, &["veil"], &mut source, &mut sink);
-    assert_written(rt, job, found, sink.bytes(), code, text);
-}
-
 #[test]
 fn a_round_under_a_mask(rt: HostRuntime) {
-    assert_veil(&rt, rt.alloc(), ONE, 0, ONE_TEXT);
+    assert_command(&rt, rt.alloc(), "veil", ONE, 0, ONE_TEXT);
 }
 
 #[test]
 fn rounds_under_masks(rt: HostRuntime) {
     for (job, code, text) in &BUILDS {
-        assert_veil(&rt, rt.alloc(), *job, *code, *text);
+        assert_command(&rt, rt.alloc(), "veil", *job, *code, *text);
     }
 }
 
@@ -328,20 +317,20 @@ fn rounds_under_masks(rt: HostRuntime) {
 #[test]
 fn a_job_with_a_seed_again(rt: HostRuntime) {
     let (job, code, text) = &BUILDS[4];
-    assert_veil(&rt, rt.alloc(), *job, *code, *text);
-    assert_veil(&rt, rt.alloc(), *job, *code, *text);
+    assert_command(&rt, rt.alloc(), "veil", *job, *code, *text);
+    assert_command(&rt, rt.alloc(), "veil", *job, *code, *text);
 }
 
 #[test]
 fn a_change_of_the_round_under_a_mask(rt: HostRuntime) {
     for (part, other, code, text) in &CHANGES {
         let changed = change(&rt, rt.alloc(), ONE, *part, *other);
-        assert_veil(&rt, rt.alloc(), &changed, *code, *text);
+        assert_command(&rt, rt.alloc(), "veil", &changed, *code, *text);
     }
 }
 
 #[test]
 fn no_job_of_masks_at_all(rt: HostRuntime) {
-    assert_veil(&rt, rt.alloc(), "[]", 3, "refused bad-job job\n");
-    assert_veil(&rt, rt.alloc(), "{", 3, "refused bad-json\n");
+    assert_command(&rt, rt.alloc(), "veil", "[]", 3, "refused bad-job job\n");
+    assert_command(&rt, rt.alloc(), "veil", "{", 3, "refused bad-json\n");
 }

@@ -7,7 +7,7 @@ use Rattle.sumcheck_audit.proofs.asked.audit_job.Goals as goal
 
 pub returns : goal.returns
 returns g c = λ R h.
-    let k : Fields = record { ops = g.EF.Field.ops; base_size = g.F.Field.ops.size; extension = g.EF.ExtensionField.extension; embedding = g.EF.Algebra.embedding } in
+    let k : Fields = record { ops = g.EF.Field.ops; base = g.F.Field.ops; extension = g.EF.ExtensionField.extension; embedding = g.EF.Algebra.embedding } in
     asked-same k g.F.Field.number _ c.args.job.now R h (c.in_ok-elements.ensures ∙ c.as_slice.ensures) refl c.in_ok-constraint_of.ensures.states.1
     (c.in_ok-constraint_of.ensures.states.0 ∙ ap (all_claims g.EF.Algebra.embedding) c.as_slice-2.ensures)
     (c.in_ok-constraint_of.ensures.batched.0 ∙ c.element-batching.ensures) c.in_ok-constraint_of.ensures.batched.1 c.in_ok-audit_mode.ensures

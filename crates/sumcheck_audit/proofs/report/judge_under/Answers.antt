@@ -6,7 +6,7 @@ use Rattle.sumcheck_audit.proofs.report.judge_under.Goals as goal
 
 pub returns : goal.returns
 returns g c =
-    let k : Fields = record { ops = g.EF.Field.ops; base_size = g.F.Field.ops.size; extension = g.EF.ExtensionField.extension; embedding = g.EF.Algebra.embedding } in
+    let k : Fields = record { ops = g.EF.Field.ops; base = g.F.Field.ops; extension = g.EF.ExtensionField.extension; embedding = g.EF.Algebra.embedding } in
     IfOk-weaker c.answer_of.result _ _ (λ a e. e ∙ judged k c.args.job _ _ _ (c.in_ok-asked.ensures _ _)) c.answer_of.ensures
 
 -- a refusal tells nothing of an answer

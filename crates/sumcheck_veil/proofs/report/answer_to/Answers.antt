@@ -12,7 +12,7 @@ use Rattle.sumcheck_veil.proofs.report.answer_to.Goals as goal
 pub returns-in-Ok : goal.returns-in-Ok
 returns-in-Ok g c =
     let o = g.EF.Field.ops in
-    let k : Fields = record { ops = o; base_size = g.F.Field.ops.size; extension = g.EF.ExtensionField.extension; embedding = g.EF.Algebra.embedding } in
+    let k : Fields = record { ops = o; base = g.F.Field.ops; extension = g.EF.ExtensionField.extension; embedding = g.EF.Algebra.embedding } in
     let party = g.C.Challenger.party c.args.challenger.now in
     let l = mask_length c.args.job.veil.masks in
     let lengths = c.code_of-code.ensures ∙ ap (code_lengths o.size) c.length_of.ensures in
@@ -24,7 +24,7 @@ returns-in-Ok g c =
 pub returns-in-Err : goal.returns-in-Err
 returns-in-Err g c =
     let o = g.EF.Field.ops in
-    let k : Fields = record { ops = o; base_size = g.F.Field.ops.size; extension = g.EF.ExtensionField.extension; embedding = g.EF.Algebra.embedding } in
+    let k : Fields = record { ops = o; base = g.F.Field.ops; extension = g.EF.ExtensionField.extension; embedding = g.EF.Algebra.embedding } in
     let party = g.C.Challenger.party c.args.challenger.now in
     let l = mask_length c.args.job.veil.masks in
     let lengths = c.code_of-code.ensures ∙ ap (code_lengths o.size) c.length_of.ensures in

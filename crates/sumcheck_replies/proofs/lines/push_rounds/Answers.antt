@@ -3,8 +3,8 @@ use Rattle.std.proofs.lemmas.Result.{IfOk-from_err}
 use Rattle.std.specs.List.{slice_get}
 use Rattle.sc_transcript.specs.Data.{pair_of}
 use Rattle.sumcheck_replies.specs.Lines.{round_line, round_lines}
-use Rattle.sumcheck_replies.proofs.LineLaws.{round_lines-more, round_lines-all}
-use Rattle.sumcheck_audit.proofs.report.push_rounds.Goals as goal
+use Rattle.sumcheck_replies.proofs.LineLaws.{lines-more, lines-all}
+use Rattle.sumcheck_replies.proofs.lines.push_rounds.Goals as goal
 
 pub loop-i-preserved : goal.loop-i-preserved
 loop-i-preserved g c =
@@ -25,7 +25,7 @@ loop-i-preserved g c =
     c.in_ok-push_round.ensures ∙ ap (λ t. string_bytes c.loop-i.text ++ t) line in
     let before : string_bytes c.push_round.new.text ≡ (start ++ done) ++ more = pushed ∙ ap (λ t. t ++ more) c.loop-i.invariant in
     let lines : round_lines 0 (map (pair_of number) (take (i + 1) c.args.messages.now)) ws (map number (take (i + 1) c.args.challenges.now)) ≡ done ++ more =
-    round_lines-more (pair_of number) number ws c.args.messages.now c.args.challenges.now i m r low low' c.index-messages-i.is c.index-challenges-i.is in
+    lines-more round_line (pair_of number) number ws c.args.messages.now c.args.challenges.now i m r low low' c.index-messages-i.is c.index-challenges-i.is in
     before ∙ append_assoc start done more ∙ ap (λ t. start ++ t) (sym lines)
 
 pub returns : goal.returns
@@ -34,7 +34,7 @@ returns g c =
     let number = g.EF.Field.number in
     c.loop-i.invariant
     ∙ ap (λ t. string_bytes c.args.text.now ++ t)
-    (round_lines-all (pair_of number) number 0 c.loop-i.i (map base c.args.witnesses.now) c.args.messages.now c.args.challenges.now (omega (arith, c.loop-i-test.false, c.min-i-end.ensures)))
+    (lines-all round_line (pair_of number) number 0 c.loop-i.i (map base c.args.witnesses.now) c.args.messages.now c.args.challenges.now (omega (arith, c.loop-i-test.false, c.min-i-end.ensures)))
 
 -- a refusal tells nothing of an answer
 pub returns-in_err-push_round : goal.returns-in_err-push_round

@@ -1,7 +1,7 @@
 use Rattle.std.proofs.Common.{◌≡◌, ◌++◌, map, take, string_bytes}
 use Rattle.sc_transcript.specs.Data.{pair_of}
 use Rattle.sumcheck_replies.specs.Lines.{round_lines}
-use Rattle.sumcheck_audit.proofs.report.push_rounds.Given as goal
+use Rattle.sumcheck_replies.proofs.lines.push_rounds.Given as goal
 
 abbrev pub invariant-loop-i : goal.invariant-loop-i
 invariant-loop-i g l =

@@ -1,6 +1,6 @@
 use Rattle.std.proofs.Common.{map, string_bytes}
 use Rattle.sumcheck_replies.proofs.LineLaws.{pushed-round}
-use Rattle.sumcheck_veil.proofs.report.push_round.Goals as goal
+use Rattle.sumcheck_replies.proofs.lines.push_values_round.Goals as goal
 
 pub returns : goal.returns
 returns g c =

@@ -1,6 +1,6 @@
 use Rattle.std.proofs.Common.{◌≡◌, ◌++◌, map, take, string_bytes}
 use Rattle.sumcheck_replies.specs.Lines.{round_lines}
-use Rattle.sumcheck_product.proofs.report.push_rounds.Given as goal
+use Rattle.sumcheck_replies.proofs.lines.push_values_rounds.Given as goal
 
 abbrev pub invariant-loop-i : goal.invariant-loop-i
 invariant-loop-i g l =

@@ -1,0 +1,3 @@
+pub mod MatmulJobLaws
+pub mod AskedLaws
+pub mod MatmulPromises

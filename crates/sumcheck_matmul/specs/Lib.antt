@@ -1,0 +1,4 @@
+pub mod MatmulJob
+pub mod MatmulLines
+pub mod MatmulReplies
+pub mod PromisedProducts
