@@ -160,11 +160,11 @@ module _ (q : MatmulCase) (ring : IsRing q.ops) where
       ∙ ap (λ k. Err k) count
 
   -- a play that was refused
-  pub built-refused : {F EF : Type 0} (base : F → ℕ) (number : EF → ℕ) (after : Standing) (e : SumcheckError) → All (λ w. w < q.channel.base_size) after.wire.witnesses →
-      BreaksOff batch_for after e → LeavesBuilt {F = F} {EF = EF} base number q (Err (refusal_by e))
-  built-refused base number after (rounds.NoWitness i) low why = built-stopped after i low why
-  built-refused base number after rounds.NoMemory low why = tt
-  built-refused base number after e low why = absurd why
+  pub built-refused : {F EF C : Type 0} (base : F → ℕ) (number : EF → ℕ) (party : C → Party) (after : Standing) (e : SumcheckError) → All (λ w. w < q.channel.base_size) after.wire.witnesses →
+      BreaksOff batch_for after e → LeavesBuilt {F = F} {EF = EF} base number party q (Err (refusal_by e))
+  built-refused base number party after (rounds.NoWitness i) low why = built-stopped after i low why
+  built-refused base number party after rounds.NoMemory low why = tt
+  built-refused base number party after e low why = absurd why
 
   -- ---- a replay of what was built
 
@@ -216,14 +216,14 @@ module _ (q : MatmulCase) (ring : IsRing q.ops) where
   -- ---- builds that are refused
 
   -- rounds that could not be built
-  pub unbuilt-answered : {F EF : Type 0} (base : F → ℕ) (number : EF → ℕ) (e : MatmulError) → false_entry q ≡ None → LeavesBuilt {F = F} {EF = EF} base number q (Err e) →
+  pub unbuilt-answered : {F EF C : Type 0} (base : F → ℕ) (number : EF → ℕ) (party : C → Party) (e : MatmulError) → false_entry q ≡ None → LeavesBuilt {F = F} {EF = EF} base number party q (Err e) →
       IsAnswered q None (Err e) q.history
-  unbuilt-answered base number (errors.NoWitness i) none left = record {
+  unbuilt-answered base number party (errors.NoWitness i) none left = record {
     result = inr (ap (λ t. unless_fault (entry_fault q.claimed.cols t) (built_result q (matmul_built q))) none ∙ ap (built_result q) left);
     history = refl;
   }
-  unbuilt-answered base number errors.NoMemory none left = record { result = inl refl; history = inl refl }
-  unbuilt-answered base number e none left = absurd left
+  unbuilt-answered base number party errors.NoMemory none left = record { result = inl refl; history = inl refl }
+  unbuilt-answered base number party e none left = absurd left
 
 -- the claim on true entries is the true one
 pub claim-true : (q : MatmulCase) → IsMatmulCase q → false_entry q ≡ None → entries_claim q ≡ true_claim_on q.ops (matmul_tables q) [] (inner_variables q)

@@ -23,7 +23,7 @@ use Rattle.sc_transcript.specs.declared.error.RoundError.{RoundError}
 use Rattle.sc_transcript.specs.declared.error.RoundError.TheVariants as causes
 use Rattle.sc_transcript.specs.Data.{witness_count, pair_replay}
 use Rattle.sc_transcript.specs.Shapes.{shape_of, batch_of}
-use Rattle.sc_transcript.specs.Walks.{IsWalked}
+use Rattle.sc_transcript.specs.Walks.{Walk, IsWalked}
 use Rattle.sc_transcript.specs.Replayed.{Replay, replay_of, LeavesReplay, AreCounted, AreMiscounted}
 use Rattle.sc_verdicts.specs.Findings.{Finding}
 use Rattle.sc_soundness.specs.Stages.{stage_luck}
@@ -90,6 +90,12 @@ module _ (n bits : ℕ) (w : Wire) where
   counts-refused e why = absurd why
 
 -- ---- a replay
+
+-- there are as many challenges as rounds came
+pub walked-count : (p : Walk) (w : Wire) (rs : List ℕ) (end : Footing) → p.rounds ≡ given_rounds w.messages w.witnesses → IsWalked p rs end → length rs ≡ length w.messages
+walked-count p w rs end is walked =
+    ap length walked.replays.drawn ∙ length-challenges p.channel.rules p.channel.extension p.channel.bits p.start.history p.rounds ∙ ap length is
+    ∙ length-given_rounds w.messages w.witnesses
 
 module _ (q : MatmulCase) (w : Wire) where
   -- where it starts

@@ -8,13 +8,15 @@ use Rattle.sc_transcript.specs.declared.error.SumcheckError.{SumcheckError}
 use Rattle.sc_transcript.specs.declared.error.SumcheckError.TheVariants as rounds
 use Rattle.sc_transcript.specs.declared.data.SumcheckData.{SumcheckData}
 use Rattle.sc_transcript.specs.Data.{wire_in}
-use Rattle.sc_merge_definitions.specs.Matrices.{MatmulCase, drawn_point, entries_claim, inner_variables, matmul_tables, matmul_challenges, matmul_stage, AreBuiltRounds}
+use Rattle.sc_merge_definitions.specs.Matrices.{MatmulCase, drawn_point, after_point, entries_claim, inner_variables, matmul_tables, matmul_challenges, matmul_stage, AreBuiltRounds}
 use Rattle.sc_definitions.specs.Lucky.{Luck}
 use Rattle.sc_soundness.specs.Stages.{stage_luck}
 use Rattle.sc_rounds.specs.declared.product_polynomial.ProductPolynomial.{ProductPolynomial}
 use Rattle.sc_rounds.specs.Turns.{IsPairOf}
 use Rattle.sc_matmul.specs.declared.error.MatmulError.{MatmulError}
 use Rattle.sc_matmul.specs.declared.error.MatmulError.TheVariants as errors
+use Rattle.sc_challenger.specs.Parties.{Party}
+use Rattle.sc_matmul.specs.declared.building.BuiltRounds.{BuiltRounds}
 use Rattle.sc_matmul.specs.declared.checking.Played.{Played}
 use Rattle.sc_matmul.specs.MatmulRounds.{matmul_built, rounds_given}
 
@@ -34,12 +36,18 @@ pub record AreBuilt (q : MatmulCase) (came : Wire) : Type 0 where
   pub count : length rounds ≡ inner_variables q
   pub wire : came ≡ with_rounds q.channel.bits empty_wire rounds
 
+-- This is the point, and a challenger stands where it was drawn.
+pub record IsDrawnAt {EF : Type 0} (number : EF → ℕ) (q : MatmulCase) (x : EF) (at : Party) : Type 0 where
+  pub rules : at.rules ≡ q.channel.rules
+  pub point : number x ≡ drawn_point q
+  pub history : at.history ≡ after_point q
+
 -- what a build leaves, by its result
-abbrev pub LeavesBuilt : {F EF : Type 0} → (F → ℕ) → (EF → ℕ) → MatmulCase → Result (SumcheckData F EF) MatmulError → Type 0
-LeavesBuilt base number q (Ok d) = AreBuilt q (wire_in base number d)
-LeavesBuilt base number q (Err (errors.NoWitness i)) = matmul_built q ≡ Err i
-LeavesBuilt base number q (Err errors.NoMemory) = Unit {0}
-LeavesBuilt base number q (Err e) = ⊥
+abbrev pub LeavesBuilt : {F EF C : Type 0} → (F → ℕ) → (EF → ℕ) → (C → Party) → MatmulCase → Result (BuiltRounds F EF C) MatmulError → Type 0
+LeavesBuilt base number party q (Ok b) = IsDrawnAt number q b.point (party b.at_point) × AreBuilt q (wire_in base number b.rounds)
+LeavesBuilt base number party q (Err (errors.NoWitness i)) = matmul_built q ≡ Err i
+LeavesBuilt base number party q (Err errors.NoMemory) = Unit {0}
+LeavesBuilt base number party q (Err e) = ⊥
 
 -- Rounds were replayed after the point was drawn, with these challenges, and leave this residual of the claim.
 pub record IsPlayedIn {F EF : Type 0} (base : F → ℕ) (number : EF → ℕ) (q : MatmulCase) (p : Played F EF) : Type 0 where

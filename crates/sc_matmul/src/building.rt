@@ -9,7 +9,7 @@ ghost use Rattle.sc_matmul.specs.MatmulReports.{entry_fault, result_in};
 ghost use Rattle.sc_matmul.specs.MatmulAudits.{IsAnswered};
 ghost use Rattle.sc_matmul.specs.MatmulPlays.{LeavesBuilt};
 
-use crate::checking::replay;
+use crate::checking::replay_at;
 use crate::drawing::draw_point;
 use crate::error::MatmulError;
 use crate::matrix::Matrix;
@@ -25,8 +25,17 @@ use sc_table::VariableOrder;
 use sc_transcript::SumcheckData;
 use std::alloc::Global;
 
-// Builds the rounds of a claim on a copy of the challenger, unless an entry is false, and replays
-// them on the challenger itself.
+// Rounds that were built, their point, and a challenger that stands where the point was drawn.
+#[derive(Drop)]
+pub(crate) struct BuiltRounds<F, EF, C> {
+    pub(crate) point: EF,
+    pub(crate) at_point: C,
+    pub(crate) rounds: SumcheckData<F, EF>,
+}
+
+// Builds the rounds of a claim on copies of the challenger, unless an entry is false, and replays
+// them on the challenger itself. It takes the place of the copy that drew the point, so that the
+// entries are observed once.
 pub(crate) fn build<F: Field, EF: ExtensionField<F>, C: Challenger<F>>(
     alloc: Global,
     fitting: &FittingClaim<'_, F, EF>,
@@ -39,8 +48,14 @@ pub(crate) fn build<F: Field, EF: ExtensionField<F>, C: Challenger<F>>(
 {
     let product = product_of(alloc, fitting.left, fitting.right)?;
     check_entries(fitting.claimed, &product)?;
-    let rounds = play(alloc, fitting, challenger)?;
-    replay(alloc, fitting, &product, rounds, challenger)
+    let built = play(alloc, fitting, challenger)?;
+    let BuiltRounds {
+        point,
+        at_point,
+        rounds,
+    } = built;
+    *challenger = at_point;
+    replay_at(alloc, fitting, &product, point, rounds, challenger)
 }
 
 // Refuses a matrix with a false entry.
@@ -62,25 +77,27 @@ fn check_entries<F: Field>(claimed: &Matrix<F>, product: &[F]) -> Result<(), Mat
     }
 }
 
-// Builds the rounds of a claim whose entries are true, in the transcript of a copy of the
-// challenger.
+// Builds the rounds of a claim whose entries are true, in the transcript of a copy of the challenger
+// that drew the point.
 fn play<F: Field, EF: ExtensionField<F>, C: Challenger<F>>(
     alloc: Global,
     fitting: &FittingClaim<'_, F, EF>,
     challenger: &C,
-) -> Result<SumcheckData<F, EF>, MatmulError>
+) -> Result<BuiltRounds<F, EF, C>, MatmulError>
     requires difficulty { fitting.now.pow_bits ≤ (C.party challenger.now).rules.max_bits }
     requires all_true { false_entry (case_by fitting.now (C.party challenger.now)) ≡ None }
-    ensures { LeavesBuilt F.number EF.number (case_by fitting.now (C.party challenger.now)) result }
+    ensures { LeavesBuilt F.number EF.number C.party
+        (case_by fitting.now (C.party challenger.now)) result }
 {
-    let mut copied = challenger.copy(alloc)?;
-    let point = draw_point::<F, EF, C>(fitting, &mut copied)?;
+    let mut at_point = challenger.copy(alloc)?;
+    let point = draw_point::<F, EF, C>(fitting, &mut at_point)?;
     let claim = claim_at::<F, EF>(fitting.claimed.as_slice(), point);
     let left = left_table(alloc, fitting, point)?;
     let right = right_table(alloc, fitting, point)?;
     let pair = ProductPolynomial::new_unpacked(VariableOrder::Prefix, left, right);
     let mut prover = SumcheckProver::new(pair, claim);
     let mut rounds = SumcheckData::new(alloc);
+    let mut copied = at_point.copy(alloc)?;
     match prover.compute_sumcheck_polynomials(
         alloc,
         &mut rounds,
@@ -89,7 +106,11 @@ fn play<F: Field, EF: ExtensionField<F>, C: Challenger<F>>(
         fitting.pow_bits,
         None,
     ) {
-        Ok(_challenges) => Ok(rounds),
+        Ok(_challenges) => Ok(BuiltRounds {
+            point,
+            at_point,
+            rounds,
+        }),
         Err(error) => Err(refusal(error)),
     }
 }

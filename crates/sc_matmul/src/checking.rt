@@ -10,7 +10,7 @@ ghost use Rattle.sc_matmul.specs.FittingClaims.{case_by};
 ghost use Rattle.sc_matmul.specs.MatmulRounds.{counts_fault, rounds_given};
 ghost use Rattle.sc_matmul.specs.MatmulReports.{figures_in, result_in};
 ghost use Rattle.sc_matmul.specs.MatmulAudits.{IsAnswered};
-ghost use Rattle.sc_matmul.specs.MatmulPlays.{IsPlayedIn};
+ghost use Rattle.sc_matmul.specs.MatmulPlays.{IsDrawnAt, IsPlayedIn};
 
 use crate::drawing::draw_point;
 use crate::error::MatmulError;
@@ -77,7 +77,7 @@ fn check_rounds<F: Field, EF: ExtensionField<F>>(
 
 // Observes the entries, draws the point and replays rounds, of which there are as many as there
 // have to be, and reports on them.
-pub(crate) fn replay<F: Field, EF: ExtensionField<F>, C: Challenger<F>>(
+fn replay<F: Field, EF: ExtensionField<F>, C: Challenger<F>>(
     alloc: Global,
     fitting: &FittingClaim<'_, F, EF>,
     product: &[F],
@@ -95,6 +95,30 @@ pub(crate) fn replay<F: Field, EF: ExtensionField<F>, C: Challenger<F>>(
         (C.party challenger.new).history }
 {
     let point = draw_point::<F, EF, C>(fitting, challenger)?;
+    replay_at(alloc, fitting, product, point, rounds, challenger)
+}
+
+// Replays rounds, of which there are as many as there have to be, after the point was drawn, and
+// reports on them.
+pub(crate) fn replay_at<F: Field, EF: ExtensionField<F>, C: Challenger<F>>(
+    alloc: Global,
+    fitting: &FittingClaim<'_, F, EF>,
+    product: &[F],
+    point: EF,
+    rounds: SumcheckData<F, EF>,
+    challenger: &mut C,
+) -> Result<MatmulReport<F, EF>, MatmulError>
+    requires difficulty { fitting.now.pow_bits ≤ (C.party challenger.old).rules.max_bits }
+    requires product { map F.number product.now ≡ product_values F.ops
+        (matrix_in F.number fitting.now.left.now) (matrix_in F.number fitting.now.right.now) }
+    requires counted { counts_fault (side_variables (cols_in fitting.now.left.now))
+        fitting.now.pow_bits (wire_in F.number EF.number rounds) ≡ None }
+    ensures rules { (C.party challenger.new).rules ≡ (C.party challenger.old).rules }
+    ensures answered { (at : Party)
+        → IsDrawnAt EF.number (case_by fitting.now at) point (C.party challenger.old)
+        → IsAnswered (case_by fitting.now at) (Some (wire_in F.number EF.number rounds))
+        (result_in F.number EF.number result) (C.party challenger.new).history }
+{
     let claim = claim_at::<F, EF>(fitting.claimed.as_slice(), point);
     let mut residual = claim;
     let challenges = match rounds.verify_rounds(

@@ -41,12 +41,12 @@ check_entries-requires-clause-same g c =
     as-many g.F.Field.number g.F.Field.ops fitting.left.now fitting.right.now fitting.claimed.now c.in_ok-product.product.items fitting.fits c.in_ok-product.ensures
     ∙ sym (ap length c.deref.ensures.value)
 
-pub replay-requires-clause-counted : goal.replay-requires-clause-counted
-replay-requires-clause-counted g c =
+pub replay_at-requires-clause-counted : goal.replay_at-requires-clause-counted
+replay_at-requires-clause-counted g c =
     let B = g.F.Field.number in
     let N = g.EF.Field.number in
     let q : MatmulCase = case_by c.args.fitting.now (g.C.Challenger.party c.args.challenger.now) in
-    built-counted q g.met.EF.Field.is_field.ring (wire_in B N c.in_ok-rounds.rounds) c.in_ok-rounds.ensures
+    built-counted q g.met.EF.Field.is_field.ring (wire_in B N c.in_ok-built.built.rounds) c.in_ok-built.ensures.1
 
 -- what was built is answered as a build
 pub returns-clause-answered : goal.returns-clause-answered
@@ -58,5 +58,5 @@ returns-clause-answered g c =
     let none : false_entry q ≡ None =
     sym (ap (first_difference 0 (map B fitting.claimed.now.values.items)) (ap (map B) c.deref.ensures.value ∙ c.in_ok-product.ensures))
     ∙ entry-none fitting.claimed.now.cols _ c.in_ok-check_entries.ensures in
-    built-answered q g.met.EF.Field.is_field.ring (wire_in B N c.in_ok-rounds.rounds) c.in_ok-rounds.ensures none (result_in B N c.replay.result)
-    (g.C.Challenger.party c.replay.new.challenger).history c.replay.ensures.answered
+    built-answered q g.met.EF.Field.is_field.ring (wire_in B N c.in_ok-built.built.rounds) c.in_ok-built.ensures.1 none (result_in B N c.replay_at.result)
+    (g.C.Challenger.party c.replay_at.new.challenger).history (c.replay_at.ensures.answered (g.C.Challenger.party c.args.challenger.now) c.in_ok-built.ensures.0)

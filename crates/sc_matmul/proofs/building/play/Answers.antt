@@ -6,7 +6,7 @@ use Rattle.sc_transcript.specs.Data.{wire_in}
 use Rattle.sc_rounds.specs.ProverViews.{standing_of}
 use Rattle.sc_merge_definitions.specs.Matrices.{MatmulCase, IsMatmulCase, drawn_point, entries_claim}
 use Rattle.sc_matmul.specs.MatmulJobs.{Fields, ClaimedProduct, fields, claimed_in, case_of}
-use Rattle.sc_matmul.specs.MatmulPlays.{refusal_by, AreBuilt, LeavesBuilt}
+use Rattle.sc_matmul.specs.MatmulPlays.{refusal_by, AreBuilt, IsDrawnAt, LeavesBuilt}
 use Rattle.sc_matmul.proofs.AuditLaws.{case-is}
 use Rattle.sc_matmul.proofs.BuildLaws.{shown-pair, sum-pair, batch-is, built-played, built-refused, claim-true, case-copied, pair-made}
 use Rattle.sc_matmul.proofs.building.play.Goals as goal
@@ -18,7 +18,7 @@ new-prover-requires g c =
     let B = g.F.Field.number in
     let e = g.EF.Field in
     let ring = g.met.EF.Field.is_field.ring in
-    let copy = g.C.Challenger.party c.in_ok-copied.copied in
+    let copy = g.C.Challenger.party c.in_ok-at_point.at_point in
     let fs : Fields = fields g.F.Field.ops e.ops g.EF.Algebra.embedding g.EF.ExtensionField.extension in
     let m : ClaimedProduct = claimed_in B fitting.left.now fitting.right.now fitting.claimed.now in
     let q : MatmulCase = case_of fs m fitting.pow_bits copy in
@@ -42,7 +42,7 @@ returns-in-Ok g c =
     let B = g.F.Field.number in
     let e = g.EF.Field in
     let ring = g.met.EF.Field.is_field.ring in
-    let copy = g.C.Challenger.party c.in_ok-copied.copied in
+    let copy = g.C.Challenger.party c.in_ok-at_point.at_point in
     let fs : Fields = fields g.F.Field.ops e.ops g.EF.Algebra.embedding g.EF.ExtensionField.extension in
     let m : ClaimedProduct = claimed_in B fitting.left.now fitting.right.now fitting.claimed.now in
     let q : MatmulCase = case_of fs m fitting.pow_bits copy in
@@ -56,20 +56,25 @@ returns-in-Ok g c =
     made.evals made.weights (c.in_ok-left.ensures.table copy drawn) (c.in_ok-right.ensures.table copy drawn) in
     let after = standing_of c.compute_sumcheck_polynomials.new.self c.compute_sumcheck_polynomials.new.sumcheck_data
     (g.C.Challenger.party c.compute_sumcheck_polynomials.new.challenger).history in
-    let same = batch-is q ring c.in_ok-point.ensures.rules c.in_ok-point.ensures.after (c.new-prover.ensures.shown ∙ shown-pair q ring e.number pair c.claim_at-claim.result is claim)
+    let same = batch-is q ring (c.in_ok-copied.ensures.rules ∙ c.in_ok-point.ensures.rules) (c.in_ok-copied.ensures.history ∙ c.in_ok-point.ensures.after) (c.new-prover.ensures.shown ∙ shown-pair q ring e.number pair c.claim_at-claim.result is claim)
     c.new-rounds.ensures (sym g.met.EF.ExtensionField.degree_is) c.variables.ensures.number in
     let whole = subst (λ b. PlaysWhole b after (map e.number c.in-Ok._challenges)) same c.in-Ok.ensures.batch in
-    subst (λ k. AreBuilt k (wire_in B e.number c.compute_sumcheck_polynomials.new.sumcheck_data)) (case-copied fs m fitting.pow_bits _ copy c.in_ok-copied.ensures)
-    (built-played q ring after (map e.number c.in-Ok._challenges) (All-map (λ n. n < g.F.Field.ops.size) B _ (λ j d low. g.met.F.Field.number_below _)) whole)
+    let at : IsDrawnAt e.number q c.in_ok-point.point (g.C.Challenger.party c.draw_point.new.challenger) =
+    record { rules = c.in_ok-point.ensures.rules; point = drawn; history = c.in_ok-point.ensures.after } in
+    let built = built-played q ring after (map e.number c.in-Ok._challenges) (All-map (λ n. n < g.F.Field.ops.size) B _ (λ j d low. g.met.F.Field.number_below _)) whole in
+    let same_case = case-copied fs m fitting.pow_bits _ copy c.in_ok-at_point.ensures in (
+      subst (λ k. IsDrawnAt e.number k c.in_ok-point.point (g.C.Challenger.party c.draw_point.new.challenger)) same_case at,
+      subst (λ k. AreBuilt k (wire_in B e.number c.compute_sumcheck_polynomials.new.sumcheck_data)) same_case built,
+    )
 
 -- they were refused
-pub returns : goal.returns
-returns g c =
+pub returns-in-Err : goal.returns-in-Err
+returns-in-Err g c =
     let fitting = c.args.fitting.now in
     let B = g.F.Field.number in
     let e = g.EF.Field in
     let ring = g.met.EF.Field.is_field.ring in
-    let copy = g.C.Challenger.party c.in_ok-copied.copied in
+    let copy = g.C.Challenger.party c.in_ok-at_point.at_point in
     let fs : Fields = fields g.F.Field.ops e.ops g.EF.Algebra.embedding g.EF.ExtensionField.extension in
     let m : ClaimedProduct = claimed_in B fitting.left.now fitting.right.now fitting.claimed.now in
     let q : MatmulCase = case_of fs m fitting.pow_bits copy in
@@ -83,9 +88,9 @@ returns g c =
     made.evals made.weights (c.in_ok-left.ensures.table copy drawn) (c.in_ok-right.ensures.table copy drawn) in
     let after = standing_of c.compute_sumcheck_polynomials.new.self c.compute_sumcheck_polynomials.new.sumcheck_data
     (g.C.Challenger.party c.compute_sumcheck_polynomials.new.challenger).history in
-    let same = batch-is q ring c.in_ok-point.ensures.rules c.in_ok-point.ensures.after (c.new-prover.ensures.shown ∙ shown-pair q ring e.number pair c.claim_at-claim.result is claim)
+    let same = batch-is q ring (c.in_ok-copied.ensures.rules ∙ c.in_ok-point.ensures.rules) (c.in_ok-copied.ensures.history ∙ c.in_ok-point.ensures.after) (c.new-prover.ensures.shown ∙ shown-pair q ring e.number pair c.claim_at-claim.result is claim)
     c.new-rounds.ensures (sym g.met.EF.ExtensionField.degree_is) c.variables.ensures.number in
     let why = subst (λ b. BreaksOff b after c.in-Err.error) same c.in-Err.ensures.batch in
-    subst (λ x. LeavesBuilt {F = g.row.F.Denot} {EF = g.row.EF.Denot} B e.number (case_of fs m fitting.pow_bits (g.C.Challenger.party c.args.challenger.now)) (Err x)) (sym c.refusal.ensures)
-    (subst (λ k. LeavesBuilt {F = g.row.F.Denot} {EF = g.row.EF.Denot} B e.number k (Err (refusal_by c.in-Err.error))) (case-copied fs m fitting.pow_bits _ copy c.in_ok-copied.ensures)
-    (built-refused q ring B e.number after c.in-Err.error (All-map (λ n. n < g.F.Field.ops.size) B _ (λ j d low. g.met.F.Field.number_below _)) why))
+    subst (λ x. LeavesBuilt {F = g.row.F.Denot} {EF = g.row.EF.Denot} B e.number g.C.Challenger.party (case_of fs m fitting.pow_bits (g.C.Challenger.party c.args.challenger.now)) (Err x)) (sym c.refusal.ensures)
+    (subst (λ k. LeavesBuilt {F = g.row.F.Denot} {EF = g.row.EF.Denot} B e.number g.C.Challenger.party k (Err (refusal_by c.in-Err.error))) (case-copied fs m fitting.pow_bits _ copy c.in_ok-at_point.ensures)
+    (built-refused q ring B e.number g.C.Challenger.party after c.in-Err.error (All-map (λ n. n < g.F.Field.ops.size) B _ (λ j d low. g.met.F.Field.number_below _)) why))
