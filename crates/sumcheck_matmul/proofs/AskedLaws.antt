@@ -1,6 +1,8 @@
 -- What the elements of a job ask is what their numbers do.
-use Rattle.std.proofs.Common.{◌≡◌, ℕ, ◌+◌, ◌<◌, List, [], ◌∷◌, ◌++◌, get_or, take, map, length, Option, Result, Err, refl, sym, ap, ◌∙◌, ◌⊎◌, inl, inr, ⊎_elim}
+use Rattle.std.proofs.Common.{◌≡◌, ℕ, ◌+◌, ◌<◌, List, [], ◌∷◌, ◌++◌, get_or, take, map, length, Option, Some, None, Result, Err, refl, sym, ap, ◌∙◌, ◌⊎◌, ⊎_elim}
 use Rattle.std.specs.List.{concat}
+use Rattle.std.specs.Borrow.{Bor}
+use Rattle.std.specs.Option.{option_map, option_copied}
 use Rattle.std.proofs.lemmas.List.{take_more, append-nil}
 use Rattle.std.proofs.lemmas.List.Folds.{concat-append}
 use Rattle.sc_definitions.specs.declared.events.Event.{Event}
@@ -11,7 +13,7 @@ use Rattle.sc_matmul.specs.declared.error.MatmulError.{MatmulError}
 use Rattle.sc_matmul.specs.declared.error.MatmulError.TheVariants.{NoMemory}
 use Rattle.sc_matmul.specs.MatmulReports.{matmul_result}
 use Rattle.sumcheck_matmul.specs.declared.job.MatmulJob.{MatmulJob}
-use Rattle.sumcheck_matmul.specs.MatmulReplies.{matrix_given, came_given, case_under, figures_reply, matmul_refusal, matmul_result_reply, matmul_judged}
+use Rattle.sumcheck_matmul.specs.MatmulReplies.{matrix_given, came_given, case_under, matmul_result_reply, matmul_judged}
 use Rattle.sumcheck_replies.specs.Fields.{Fields}
 
 -- the entries of one row more
@@ -44,6 +46,12 @@ unfolding matmul_judged
 judged k job R h q came due is given answer =
     sym (ap matmul_result_reply answer) ∙ ap (λ t. matmul_result_reply (matmul_result t came)) is
     ∙ ap (λ t. matmul_result_reply (matmul_result (case_under k job R h) t)) given
+
+-- what came, by a reference to it
+pub came-same : {X Y : Type 0} (f : X → Y) (lent : Option (Bor X)) (came : Option X) (due : Option Y) → option_copied lent ≡ came → option_map f came ≡ due →
+    option_map (λ p. f p.now) lent ≡ due
+came-same f None came due is given = ap (option_map f) is ∙ given
+came-same f (Some p) came due is given = ap (option_map f) is ∙ given
 
 -- a refusal other than want of memory is due
 pub due-refusal : (due : Result MatmulFigures MatmulError) (e : MatmulError) → (e ≡ NoMemory → ⊥) → (e ≡ NoMemory) ⊎ (due ≡ Err e) → due ≡ Err e

@@ -22,11 +22,10 @@ use Rattle.sumcheck_members.specs.declared.mode.BuildOrCheck.{BuildOrCheck}
 use Rattle.sumcheck_members.specs.declared.mode.BuildOrCheck.TheVariants.{Build, Check}
 use Rattle.sumcheck_matmul.specs.declared.job.MatmulJob.{MatmulJob}
 use Rattle.sumcheck_matmul.specs.MatmulJob.{MatrixFits, MatmulJobFits}
-use Rattle.sumcheck_matmul.specs.MatmulReplies.{matrix_given, came_given, own_case, matmul_lines, matmul_finding_reply, figures_reply, matmul_refusal, matmul_result_reply, matmul_judged, matmul_answer}
+use Rattle.sumcheck_matmul.specs.MatmulReplies.{came_given, own_case, matmul_lines, matmul_finding_reply, figures_reply, matmul_refusal, matmul_result_reply, matmul_judged, matmul_answer}
 use Rattle.sumcheck_matmul.specs.PromisedProducts.{HasFigures, MatmulPromise, matmul_jobs}
 use Rattle.sumcheck_matmul.proofs.MatmulJobLaws.{even-count, matmul_job_of-fits}
 use Rattle.sumcheck_replies.specs.declared.reply.Outcome.TheVariants.{Holds, NoWitness}
-use Rattle.sumcheck_replies.specs.Fields.{fields_of}
 use Rattle.sumcheck_replies.specs.Kinds.{IsAnswer, AreLawful}
 use Rattle.sumcheck_replies.specs.Reply.{no_witness_at}
 use Rattle.sumcheck_replies.proofs.FieldLaws.{fields_field, fields_base, fields_map, base-sizes-are}
@@ -77,7 +76,7 @@ job-case job fits none =
     let q = own_case job in
     let fit = are-fitting q.left q.right q.claimed (none-first (shape_fault q.left q.right q.claimed) (difficulty_fault q.channel.bits q.channel.rules.max_bits) none) in
     let low = λ (rows : List (List ℕ)) (m : MatrixFits (sizes_of job.field).base rows).
-        subst (λ s. AreElements s (concat rows)) (base-sizes-are job.field) (all-concat (sizes_of job.field).base rows m.elements) in
+    subst (λ s. AreElements s (concat rows)) (base-sizes-are job.field) (all-concat (sizes_of job.field).base rows m.elements) in
     record {
       base_field = fields_base job.field;
       field = fields_field job.field;

@@ -1,5 +1,5 @@
 -- The job of `matmul` that a value describes, or the first member for which it describes none.
-use Rattle.std.specs.Prelude.{◌≡◌, ℕ, ◌<◌, ◌≤◌, ◌&&◌, ◌==◌, List, [], ◌∷◌, All, length, codes, nat_le, Bool, true, false, if◌then◌else◌, Option, Some, None, option_and_then, Result, Ok, Err}
+use Rattle.std.specs.Prelude.{◌≡◌, ℕ, ◌&&◌, ◌==◌, List, [], ◌∷◌, All, length, codes, nat_le, Bool, true, false, if◌then◌else◌, Option, Some, None, option_and_then, Result, Ok, Err}
 use Rattle.serde_json.specs.Data.{Data}
 use Rattle.sc_forms.specs.Forms.{at_most_form, is_object, list_form}
 use Rattle.sumcheck_members.specs.Members.{Name, whole_job, needed, unless_misfit}

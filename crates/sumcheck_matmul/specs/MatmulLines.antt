@@ -1,5 +1,5 @@
 -- The lines of a report on a claimed product, and the texts of its refusals, of the numbers in them. Each line ends with a line feed.
-use Rattle.std.specs.Prelude.{ℕ, zero, suc, List, ◌++◌, codes, decimal}
+use Rattle.std.specs.Prelude.{ℕ, ◌==◌, List, ◌++◌, codes, decimal, if◌then◌else◌}
 use Rattle.sc_definitions.specs.Lucky.{Luck, in_batch, in_round}
 use Rattle.sumcheck_replies.specs.Lines.{spaced, lucky_round_line}
 
@@ -13,13 +13,13 @@ left_line x = codes "left " ++ decimal x ++ codes "\n"
 unfoldable pub right_line : ℕ → List ℕ
 right_line x = codes "right " ++ decimal x ++ codes "\n"
 
--- the point was lucky: the number of roots of the polynomial that certifies it, and its coefficients
-unfoldable pub lucky_point_line : List ℕ → ℕ → List ℕ
-lucky_point_line polynomial roots = codes "verdict lucky-point vanishing " ++ decimal roots ++ codes " poly" ++ spaced polynomial ++ codes "\n"
-
--- the beginning of that line, up to the coefficients
+-- the beginning of the verdict that the point was lucky, up to the coefficients: the number of roots of the polynomial that certifies it
 unfoldable pub lucky_point_name : ℕ → List ℕ
 lucky_point_name roots = codes "verdict lucky-point vanishing " ++ decimal roots ++ codes " poly"
+
+-- that verdict with the polynomial's coefficients
+abbrev pub lucky_point_line : List ℕ → ℕ → List ℕ
+lucky_point_line polynomial roots = lucky_point_name roots ++ spaced polynomial ++ codes "\n"
 
 -- which challenge was lucky: the point, as what batches the entries, or that of a round
 abbrev pub matmul_luck_line : Luck → List ℕ
@@ -28,9 +28,7 @@ matmul_luck_line (in_round round polynomial roots) = lucky_round_line round poly
 
 -- a matrix by its number: the left one, the right one, and then the claimed one
 abbrev pub side_name : ℕ → List ℕ
-side_name zero = codes "left"
-side_name (suc zero) = codes "right"
-side_name (suc (suc i)) = codes "claimed"
+side_name i = if i == 0 then codes "left" else (if i == 1 then codes "right" else codes "claimed")
 
 -- a matrix with a side that does not fit
 unfoldable pub side_text : ℕ → ℕ → ℕ → List ℕ

@@ -18,10 +18,7 @@ use sumcheck_audit::{Proof, proof_data};
 use sumcheck_members::BuildOrCheck;
 
 /// The matrix of the elements with these numbers, row by row.
-pub(crate) fn matrix_of<F: Field>(
-    alloc: Global,
-    rows: &[Row<u64>],
-) -> Result<Matrix<F>, NoMemory>
+pub(crate) fn matrix_of<F: Field>(alloc: Global, rows: &[Row<u64>]) -> Result<Matrix<F>, NoMemory>
     requires { MatrixFits F.ops.size rows.now }
     ensures { IfOk result (λ m. matrix_in F.number m ≡ matrix_given rows.now) }
 {

@@ -59,7 +59,7 @@ fn push_lucky_point_name(text: &mut String, vanishing: u64) -> Result<(), AllocE
 }
 
 /// A matrix with a side that does not fit: which it is, and both its sides.
-#[tactic(auto, unfolding(crate::specs::MatmulLines::side_text, crate::specs::MatmulLines::side_name))]
+#[tactic(auto, unfolding(crate::specs::MatmulLines::side_text))]
 pub(crate) fn side_text(
     alloc: Global,
     which: usize,
@@ -68,10 +68,20 @@ pub(crate) fn side_text(
 ) -> Result<String, AllocError>
     ensures { IfOk result (λ s. string_bytes s ≡ side_text which rows cols) }
 {
-    match which {
-        0 => format!(in alloc; "matmul side left {rows} {cols}"),
-        1 => format!(in alloc; "matmul side right {rows} {cols}"),
-        _ => format!(in alloc; "matmul side claimed {rows} {cols}"),
+    let name = side_name(which);
+    format!(in alloc; "matmul side {name} {rows} {cols}")
+}
+
+// The word for a matrix by its number.
+fn side_name(which: usize) -> &'static str
+    ensures { result.now ≡ side_name which }
+{
+    if which == 0 {
+        "left"
+    } else if which == 1 {
+        "right"
+    } else {
+        "claimed"
     }
 }
 

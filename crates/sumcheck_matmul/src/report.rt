@@ -13,8 +13,10 @@ ghost use Rattle.sumcheck_replies.specs.Reply.{Replies};
 use crate::asked::{matrix_of, proof_came};
 use crate::job::MatmulJob;
 use crate::kind::MatmulJobs;
-use crate::lines::{false_entry_text, inner_text, outer_text, side_text};
-use crate::lines::{push_left, push_lucky_point, push_point, push_right};
+use crate::lines::{
+    false_entry_text, inner_text, outer_text, push_left, push_lucky_point, push_point, push_right,
+    side_text,
+};
 use sc_challenger::Challenger;
 use sc_field::{ExtensionField, Field, NoMemory};
 use sc_matmul::{MatmulError, MatmulReport, MatmulVerdict, audit_matmul};
@@ -52,7 +54,15 @@ pub(crate) fn answer_to<F: Field, EF: ExtensionField<F>, C: Challenger<F>>(
     let came = proof_came::<F, EF>(alloc, &job.mode)?;
     let bits = job.bits as usize;
     drop(job);
-    match audit_matmul(alloc, &left, &right, &claimed, bits, came.as_ref(), challenger) {
+    match audit_matmul(
+        alloc,
+        &left,
+        &right,
+        &claimed,
+        bits,
+        came.as_ref(),
+        challenger,
+    ) {
         Ok(report) => show_matmul(alloc, &report),
         Err(error) => refuse_matmul(alloc, error),
     }
