@@ -7,7 +7,7 @@ use Rattle.sc_definitions.specs.Tables.{value}
 use Rattle.sc_definitions.specs.Replays.{given_rounds}
 use Rattle.sc_definitions.specs.Transcript.{Round, rounds_events, round_events, challenge, challenges}
 use Rattle.sc_definitions.specs.Interpolation.{node_values}
-use Rattle.sc_definitions.specs.Channels.{Channel, Wire, IsBuilt, NoWitnessFound}
+use Rattle.sc_definitions.specs.Channels.{Channel, Wire, empty_wire, with_rounds, IsBuilt, NoWitnessFound}
 use Rattle.sc_definitions.proofs.BuiltLaws.{length-challenges}
 use Rattle.sc_transcript.proofs.GivenRounds.{given_played}
 use Rattle.sc_degree.specs.declared.error.GenericDegreeError.{GenericDegreeError}
@@ -60,6 +60,8 @@ module _ (r : LayerRun) (t : LayerTables) (rounds_is : r.rounds ≡ t.variables 
         count = ap length given ∙ ends.count;
         left = left ∙ ap (λ l. value r.ops t.below (take t.variables l)) drawn;
         right = right ∙ ap (λ l. value r.ops t.below (drop t.variables l)) drawn;
+        wire = ap (λ (w : Wire). record { wire = w; left = g.left; right = g.right })
+            (ends.wire ∙ ap (with_rounds r.channel.bits empty_wire) (sym given));
         history = ends.history ∙ ap (λ l. run_begun r ++ rounds_events r.channel.extension r.channel.bits l) (sym given);
       }
 
@@ -78,6 +80,7 @@ module _ (r : LayerRun) (t : LayerTables) (rounds_is : r.rounds ≡ t.variables 
         rounds = stops.rounds;
         built = subst (λ n. IsBuilt (honest_layer r.ops t) r.channel (run_begun r) [] n stops.rounds) (sym rounds_is) honest;
         count = stops.count;
+        low = stops.low;
         left = left;
         some = some;
         end = h';

@@ -29,13 +29,13 @@ or_first-more None i true later = refl
 or_first-more None i false later = refl
 
 -- a part of the first of two lists is one of both
-front-part : {A : Type 0} (n : ℕ) (xs ys : List A) → take n xs ≡ take (length (take n xs)) (xs ++ ys)
+pub front-part : {A : Type 0} (n : ℕ) (xs ys : List A) → take n xs ≡ take (length (take n xs)) (xs ++ ys)
 front-part n xs ys =
     sym (take-append_seam (take n xs) (drop n xs ++ ys))
     ∙ ap (take (length (take n xs))) (sym (append_assoc (take n xs) (drop n xs) ys) ∙ ap (λ l. l ++ ys) (take-append-drop n xs))
 
 -- and so is the first one with a part of the second
-back-part : {A : Type 0} (n : ℕ) (xs ys : List A) → xs ++ take n ys ≡ take (length (xs ++ take n ys)) (xs ++ ys)
+pub back-part : {A : Type 0} (n : ℕ) (xs ys : List A) → xs ++ take n ys ≡ take (length (xs ++ take n ys)) (xs ++ ys)
 back-part n xs ys =
     sym (take-append_seam (xs ++ take n ys) (drop n ys))
     ∙ ap (take (length (xs ++ take n ys))) (append_assoc xs (take n ys) (drop n ys) ∙ ap (λ l. xs ++ l) (take-append-drop n ys))
@@ -51,12 +51,13 @@ width-top (gates ∷ layers) inputs fits = fits.0
 
 -- no layer
 pub layers-none : {EF : Type 0} (number : EF → ℕ) (q : CircuitCase) (came : List GivenLayer) (at : LayerStart) (i : ℕ) (old : Reached EF) (h' : List Event) →
-    number old.claim ≡ at.claim → AreSame (length q.inputs) (entries number old.weights.items) at.weights → h' ≡ at.history →
+    number old.claim ≡ at.claim → length old.weights.items ≡ length q.inputs → AreSame (length q.inputs) (entries number old.weights.items) at.weights → h' ≡ at.history →
     TakesLayers number (record { case = q; layers = []; came = came; at = at; first = i }) old old h'
 unfolding first_disagreement
-layers-none number q came at i old h' claim weights history = record {
+layers-none number q came at i old h' claim count weights history = record {
   whole = tt;
   claim = claim;
+  count = count;
   weights = weights;
   history = history;
   challenges = sym (append-nil _);
@@ -104,6 +105,7 @@ module _ (q : CircuitCase) (gates : List Gate) (layers : List (List Gate)) (g : 
         record {
           whole = (first.whole, later.whole);
           claim = later.claim;
+          count = later.count;
           weights = later.weights;
           history = later.history;
           challenges = later.challenges ∙ ap (λ l. l ++ map (λ p. p.challenges) ps) first.takes.challenges

@@ -1,3 +1,11 @@
+pub mod AuditLaws
+pub mod AnswerLaws
+pub mod VerdictLaws
+pub mod LuckLaws
+pub mod SumLaws
+pub mod BuildsLaws
+pub mod BuiltLaws
+pub mod GivenLaws
 pub mod ShapeLaws
 pub mod EvaluationLaws
 pub mod ShareLaws

@@ -13,3 +13,10 @@ pub mod Stacks
 pub mod Provers
 pub mod TiedLaws
 pub mod Weights
+pub mod CircuitJobs
+pub mod CircuitRounds
+pub mod CircuitReports
+pub mod CircuitAudits
+pub mod BuiltLayers
+pub mod LuckyLayers
+pub mod ReplayedCircuits

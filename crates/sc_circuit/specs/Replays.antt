@@ -61,6 +61,7 @@ pub record LayersTask : Type 0 where
 pub record TakesLayers {EF : Type 0} (number : EF → ℕ) (t : LayersTask) (old new : Reached EF) (h' : List Event) : Type 0 where
   pub whole : AllReplayed t.case t.layers t.came t.at
   pub claim : number new.claim ≡ (end_from t.case t.layers (map sent_of t.came) t.at).claim
+  pub count : length new.weights.items ≡ length t.case.inputs
   pub weights : AreSame (length t.case.inputs) (entries number new.weights.items) (end_from t.case t.layers (map sent_of t.came) t.at).weights
   pub history : h' ≡ (end_from t.case t.layers (map sent_of t.came) t.at).history
   pub challenges : map (λ row. map number row) new.challenges.items

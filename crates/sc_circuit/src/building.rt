@@ -58,7 +58,7 @@ pub(crate) fn build_layer<F: Field, EF: ExtensionField<F>, C: Challenger<F>>(
 }
 
 // The values of a layer of so many variables at the two halves of a point.
-fn values_at<EF: Field>(below: &[EF], variables: usize, point: &[EF]) -> (EF, EF)
+pub(crate) fn values_at<EF: Field>(below: &[EF], variables: usize, point: &[EF]) -> (EF, EF)
     requires below { length below.now ≡ 2 ^ variables }
     requires point { length point.now ≡ variables + variables }
     ensures left { EF.number result.0 ≡ value EF.ops (entries EF.number below.now)

@@ -3,6 +3,7 @@ ghost use Rattle.std.specs.Prelude.{◌≡◌, IfOk, None, length, map};
 ghost use Rattle.sc_circuit.specs.Shapes.{circuit_fault};
 
 use crate::error::CircuitError;
+use crate::layers::Stack;
 use crate::shape::{test_depth, test_widths, test_wires};
 use crate::values::values_over;
 use sc_circuit_definitions::Gate;
@@ -23,6 +24,7 @@ pub struct Circuit {
 
 impl Circuit {
     ghost use Rattle.sc_circuit_definitions.specs.Circuits.{all_values, top_width};
+    ghost use Rattle.sc_circuit.specs.Stacks.{stack_layers};
     ghost use Rattle.sc_circuit.specs.Views.{layers_in, inputs_in, MakesCircuit};
 
     /// The circuit of these layers over so many inputs.
@@ -59,6 +61,19 @@ impl Circuit {
         ensures { result ≡ top_width (layers_in self.now) (inputs_in self.now) }
     {
         self.layers[0].len()
+    }
+
+    // All layers, numbered from 0 on.
+    pub(crate) fn stack(&self) -> Stack<'_>
+        ensures layers { stack_layers result ≡ layers_in self.now }
+        ensures inputs { result.inputs ≡ inputs_in self.now }
+        ensures first { result.first ≡ 0 }
+    {
+        Stack {
+            layers: self.layers.as_slice(),
+            inputs: self.inputs,
+            first: 0,
+        }
     }
 
     /// The values of each layer over these inputs, the outputs first, and then the inputs.

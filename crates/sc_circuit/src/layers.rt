@@ -37,7 +37,7 @@ pub(crate) struct Stack<'a> {
 }
 
 // Replays what came for a layer under the claim that was reached, and goes on to the layer below.
-fn replay_next<F: Field, EF: ExtensionField<F>, C: Challenger<F>>(
+pub(crate) fn replay_next<F: Field, EF: ExtensionField<F>, C: Challenger<F>>(
     alloc: Global,
     over: LayerOver<'_>,
     came: &LayerProof<F, EF>,
@@ -85,8 +85,8 @@ pub(crate) fn replay_from<F: Field, EF: ExtensionField<F>, C: Challenger<F>>(
     requires circuit { IsCircuit (map (λ gates. gates.items) stack.layers.now) stack.inputs }
     requires count { length came.now ≡ length stack.layers.now }
     requires few { stack.first + length came.now < 2 ^ 64 }
-    requires weights { top_width (map (λ gates. gates.items) stack.layers.now) stack.inputs
-        ≤ length reached.old.weights.items }
+    requires weights { length reached.old.weights.items
+        ≡ top_width (map (λ gates. gates.items) stack.layers.now) stack.inputs }
     requires difficulty { pow_bits ≤ (C.party challenger.old).rules.max_bits }
     ensures rules { (C.party challenger.new).rules ≡ (C.party challenger.old).rules }
     ensures left { (q : CircuitCase) (w : ℕ → ℕ) (drawn : ℕ) (excess : List ℕ)

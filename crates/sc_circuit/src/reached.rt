@@ -68,7 +68,7 @@ impl<EF: Field> Reached<EF> {
 }
 
 // The first disagreement, after a layer whose rounds left `rest` of its claim and sum `value`.
-fn first_of<EF: Field>(
+pub(crate) fn first_of<EF: Field>(
     disagreement: Option<usize>,
     layer: usize,
     rest: EF,

@@ -64,16 +64,28 @@ fn rounds_under<F: Field, EF: Field>(
     ensures came { IfOk result (λ p. proof_wire F.number EF.number p
         ≡ (layer_in F.number EF.number layer.now).wire) }
 {
-    let mut round_polys = with_room(alloc, layer.round_polys.len())?;
-    for values in &layer.round_polys {
-        round_polys.push(Vec::from_slice(alloc, values.as_slice())?)?;
-    }
+    let round_polys = copied_values(alloc, &layer.round_polys)?;
     let pow_witnesses = Vec::from_slice(alloc, &layer.pow_witnesses)?;
     Ok(GenericDegreeProof {
         claimed_sum: claim,
         round_polys,
         pow_witnesses,
     })
+}
+
+// The values of rounds again.
+pub(crate) fn copied_values<EF: Field>(
+    alloc: Global,
+    rounds: &[Vec<EF>],
+) -> Result<Vec<Vec<EF>>, NoMemory>
+    ensures { IfOk result (λ v. map (λ values. map EF.number values.items) v.items
+        ≡ map (λ values. map EF.number values.items) rounds.now) }
+{
+    let mut found = with_room(alloc, rounds.len())?;
+    for values in rounds {
+        found.push(Vec::from_slice(alloc, values.as_slice())?)?;
+    }
+    Ok(found)
 }
 
 // Observes the two values of a layer, and draws the challenge that merges them. A refusal leaves

@@ -91,7 +91,11 @@ fn excess<EF: Field>(
 }
 
 // A polynomial less another one, of no fewer coefficients.
-fn difference<EF: Field>(alloc: Global, coeffs: &[EF], others: &[EF]) -> Result<Vec<EF>, NoMemory>
+pub(crate) fn difference<EF: Field>(
+    alloc: Global,
+    coeffs: &[EF],
+    others: &[EF],
+) -> Result<Vec<EF>, NoMemory>
     requires { length coeffs.now ≤ length others.now }
     ensures { IfOk result (λ v. map EF.number v.items
         ≡ poly_minus EF.ops (map EF.number coeffs.now) (map EF.number others.now)) }

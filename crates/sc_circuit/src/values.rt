@@ -4,7 +4,7 @@ ghost use Rattle.sc_definitions.specs.Tables.{rows_of};
 ghost use Rattle.sc_circuit_definitions.specs.Circuits.{gate_value, PlacesBelow};
 
 use sc_circuit_definitions::Gate;
-use sc_field::Field;
+use sc_field::{ExtensionField, Field};
 use sc_memory::{NoMemory, with_room};
 use std::alloc::Global;
 
@@ -23,6 +23,21 @@ pub(crate) fn values_over<F: Field>(
         values.push(value_over(*gate, below))?;
     }
     Ok(values)
+}
+
+// The images of a layer's values.
+pub(crate) fn images<F: Field, EF: ExtensionField<F>>(
+    alloc: Global,
+    values: &[F],
+) -> Result<Vec<EF>, NoMemory>
+    ensures { IfOk result (λ v. map EF.number v.items
+        ≡ map EF.embedding (map F.number values.now)) }
+{
+    let mut images = with_room(alloc, values.len())?;
+    for value in values {
+        images.push(EF::embed(*value))?;
+    }
+    Ok(images)
 }
 
 // The value of a gate over those of the layer below.

@@ -1,16 +1,18 @@
 //! The weights of a layer's values, and what its rounds sum at their challenges.
 ghost use Rattle.std.specs.Prelude.{◌≡◌, ℕ, ◌+◌, ◌<◌, ◌≤◌, ◌^◌, All, IfOk, length, map};
-ghost use Rattle.std.specs.Prelude.{if◌then◌else◌};
+ghost use Rattle.std.specs.Prelude.{if◌then◌else◌, take, drop};
 ghost use Rattle.sc_definitions.specs.Ring.{power, ◌+⟨◌⟩◌, ◌*⟨◌⟩◌};
 ghost use Rattle.sc_definitions.specs.Tables.{entries, weight};
-ghost use Rattle.sc_circuit_definitions.specs.Circuits.{is_same_kind};
+ghost use Rattle.sc_circuit_definitions.specs.Circuits.{is_same_kind, weighted_sum};
+ghost use Rattle.sc_circuit_definitions.specs.Circuits.{merged_weight};
+ghost use Rattle.sc_circuit.specs.Steps.{AreSame};
 ghost use Rattle.sc_circuit.specs.Weights.{gates_sum};
 
 use crate::rows::zeros;
 use sc_circuit_definitions::Gate;
-use sc_field::Field;
+use sc_field::{ExtensionField, Field};
 use sc_memory::{NoMemory, with_room};
-use sc_table::add_equality;
+use sc_table::{add_equality, add_scaled};
 use std::alloc::Global;
 
 // So many powers of a challenge, from 1 on.
@@ -42,6 +44,38 @@ pub(crate) fn equality_weights<EF: Field>(alloc: Global, point: &[EF]) -> Result
     let mut weights = zeros(alloc, 1 << point.len())?;
     add_equality(weights.as_mut_slice(), point, EF::ONE);
     Ok(weights)
+}
+
+// The weights of the values below a layer: the equality weights of the first half of its challenges,
+// and those of the second half, each times the challenge that merges them.
+pub(crate) fn merged_weights<EF: Field>(
+    alloc: Global,
+    challenges: &[EF],
+    variables: usize,
+    merge: EF,
+) -> Result<Vec<EF>, NoMemory>
+    requires few { variables ≤ 8 }
+    requires halves { length challenges.now ≡ variables + variables }
+    ensures len { IfOk result (λ weights. length weights.items ≡ 2 ^ variables) }
+    ensures weights { IfOk result (λ weights. AreSame (2 ^ variables)
+        (entries EF.number weights.items) (merged_weight EF.ops (EF.number merge)
+        (take variables (map EF.number challenges.now))
+        (drop variables (map EF.number challenges.now)))) }
+{
+    let mut first = equality_weights(alloc, &challenges[..variables])?;
+    let second = equality_weights(alloc, &challenges[variables..])?;
+    add_scaled::<EF, EF>(first.as_mut_slice(), &second, merge);
+    Ok(first)
+}
+
+// The images of a layer's values, each times its weight, in sum.
+pub(crate) fn weighted<F: Field, EF: ExtensionField<F>>(values: &[F], weights: &[EF]) -> EF
+    requires same { length values.now ≡ length weights.now }
+    requires few { length values.now ≤ 256 }
+    ensures { EF.number result ≡ weighted_sum EF.ops (entries EF.number weights.now)
+        (map EF.embedding (map F.number values.now)) }
+{
+    EF::dot_base(values, weights)
 }
 
 // What the rounds of a layer sum at their challenges, by one walk over its gates: with the

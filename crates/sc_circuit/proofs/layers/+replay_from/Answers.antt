@@ -30,8 +30,9 @@ returns-in_default-clause-left g t c = λ q w drawn excess both.
     let nothing : map (λ gates. gates.items) all ≡ [] = ap (map (λ gates. gates.items)) none in
     let agree : AreSame (length q.inputs) (entries N old.weights.items) w =
     subst (λ n. AreSame n (entries N old.weights.items) w) (ap (λ ls. top_width ls c.args.stack.inputs) nothing ∙ sym inputs) same in
+    let count : length old.weights.items ≡ length q.inputs = c.requires.weights ∙ ap (λ ls. top_width ls c.args.stack.inputs) nothing ∙ sym inputs in
     subst (λ ls. TakesLayers N (record { case = Q; layers = ls; came = came; at = at; first = c.args.stack.first }) old old party.history) (sym nothing)
-    (layers-none N Q came at c.args.stack.first old party.history refl agree refl)
+    (layers-none N Q came at c.args.stack.first old party.history refl count agree refl)
 
 pub replay_next-requires-clause-width : goal.replay_next-requires-clause-width
 replay_next-requires-clause-width g t c =
@@ -62,7 +63,7 @@ replay_from-requires g t c κs within =
     let came_len : length c.args.came.now ≡ length (first ∷ M) = ap length split_came in
     let count : length M ≡ length L = omega (arith, all_len, came_len, c.requires.count) in
     let few : c.args.stack.first + 1 + length M < 18446744073709551616 = omega (arith, came_len, c.requires.few) in
-    let weights : top_width layers inputs ≤ length c.replay_next.new.reached.weights.items = omega (arith, many) in
+    let weights : length c.replay_next.new.reached.weights.items ≡ top_width layers inputs = many in
     let difficulty = subst (λ R. c.args.pow_bits ≤ R.max_bits) (sym c.in_ok-replay_next.ensures.rules) c.requires.difficulty in (
       omega (arith, c.decreases, came_len),
       (within.0, (within.1.0, (within.1.1, (circuit, (count, (few, (weights, difficulty))))))),
