@@ -1,0 +1,4 @@
+pub mod CircuitJobLaws
+pub mod LayerLines
+pub mod AskedLaws
+pub mod CircuitPromises

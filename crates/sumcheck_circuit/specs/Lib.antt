@@ -1,0 +1,4 @@
+pub mod CircuitJob
+pub mod CircuitLines
+pub mod CircuitReplies
+pub mod PromisedCircuits
