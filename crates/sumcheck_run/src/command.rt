@@ -30,6 +30,9 @@ pub enum Kind {
     /// Two matrices and what is claimed to be their product. The rounds of the claim are built or
     /// checked, and reported on.
     Matmul,
+    /// A layered circuit, its inputs and what is claimed to be its outputs. The layers' rounds are
+    /// built or checked, and reported on.
+    Circuit,
 }
 
 /// What the program is asked for.
@@ -75,6 +78,8 @@ fn read_kind(word: &str) -> Option<Kind>
         Some(Kind::Explain)
     } else if word == "matmul" {
         Some(Kind::Matmul)
+    } else if word == "circuit" {
+        Some(Kind::Circuit)
     } else {
         None
     }

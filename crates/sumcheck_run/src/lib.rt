@@ -12,6 +12,9 @@ pub use command::{Command, Kind, needs_input, read_command};
 pub use program::{Status, run};
 pub use sc_streams::{Failed, MemSink, MemSource, PlainSource, Sink, Source, StdSink, StdSource};
 pub use sumcheck_audit::{AuditJobs, Job, Mode, Proof, judge_job, read_job, show_report};
+pub use sumcheck_circuit::{
+    CircuitJob, CircuitJobs, LayerGiven, judge_circuit, read_circuit, show_circuit,
+};
 pub use sumcheck_explain::{ExplainJob, ExplainJobs, judge_explain, read_explain, show_masks};
 pub use sumcheck_make::{Recipe, make};
 pub use sumcheck_matmul::{MatmulJob, MatmulJobs, judge_matmul, read_matmul, show_matmul};

@@ -17,6 +17,7 @@ use sc_field::NoMemory;
 use sc_streams::{ReadFault, Sink, Source, read_all, write_all};
 use std::alloc::Global;
 use sumcheck_audit::AuditJobs;
+use sumcheck_circuit::CircuitJobs;
 use sumcheck_explain::ExplainJobs;
 use sumcheck_make::make;
 use sumcheck_matmul::MatmulJobs;
@@ -55,6 +56,7 @@ fn judge(alloc: Global, kind: Kind, input: Vec<u8>) -> Result<Answer, NoMemory>
         Kind::Veil => reply_to::<VeilJobs>(alloc, input),
         Kind::Explain => reply_to::<ExplainJobs>(alloc, input),
         Kind::Matmul => reply_to::<MatmulJobs>(alloc, input),
+        Kind::Circuit => reply_to::<CircuitJobs>(alloc, input),
     }
 }
 
