@@ -1,4 +1,8 @@
 //! Layered circuits, by values by hand.
+mod audits;
+mod built;
+mod checked;
+mod refused;
 mod shapes;
 
 use sc_circuit::{Circuit, CircuitError, Gate};
