@@ -1,5 +1,5 @@
-//! A permutation of pairs of elements: four rounds, each of which raises both to the fifth power and
-//! then mixes them; and the circuit that computes it.
+//! A permutation of pairs of elements: four rounds, each of which raises both to the fifth power
+//! and then mixes them; and the circuit that computes it.
 use sc_circuit::{Circuit, Gate};
 use sc_field::Field;
 use sc_small_fields::F65537 as F;

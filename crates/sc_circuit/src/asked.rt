@@ -5,7 +5,8 @@ ghost use Rattle.sc_circuit.specs.Views.{layers_in, inputs_in};
 
 use crate::circuit::Circuit;
 
-// Claimed outputs of a circuit over inputs, as many of both as it has, and the difficulty of rounds.
+// Claimed outputs of a circuit over inputs, as many of both as it has, and the difficulty of
+// rounds.
 #[derive(Drop)]
 pub(crate) struct Asked<'a, F> {
     pub circuit: &'a Circuit,

@@ -26,9 +26,9 @@ use std::alloc::Global;
 /// outputs' layer first, the seed of its rounds and its claim, the rounds, the two values, and the
 /// draw that merges them. A build plays on a copy of the challenger, which takes its place once all
 /// layers are built. A refusal leaves the challenger's history as it was, but for two: after
-/// [`CircuitError::Layer`] it has the layers before that one, and of its rounds those before the one
-/// that is refused, and the test of a witness that fails; after [`CircuitError::NoMemory`] it has a
-/// part of the transcript, from the front on, or nothing.
+/// [`CircuitError::Layer`] it has the layers before that one, and of its rounds those before the
+/// one that is refused, and the test of a witness that fails; after [`CircuitError::NoMemory`] it
+/// has a part of the transcript, from the front on, or nothing.
 ///
 /// It takes time linear in the gates and in the values of all layers, and memory for the values of
 /// all layers and for three tables as long as the longest one.
@@ -78,8 +78,8 @@ pub fn audit_circuit<F: Field, EF: ExtensionField<F>, C: Challenger<F>>(
         (option_map (λ p. proof_in F.number EF.number p.now) proof.entry)
         (result_in F.number EF.number result) }
 
-    // Where all layers agree although an output is false, a challenge is named lucky, and certified:
-    // by a polynomial that is not zero and vanishes there, and the number of its roots.
+    // Where all layers agree although an output is false, a challenge is named lucky, and
+    // certified: by a polynomial that is not zero and vanishes there, and the number of its roots.
     ensures certified { IfOk (result_in F.number EF.number result) (CertifiesCircuit
         (case_of (fields F.ops EF.ops EF.embedding EF.extension) (claimed_of (layers_in circuit.now)
         (map F.number inputs.now) (map F.number outputs.now)) pow_bits (C.party challenger.old))) }

@@ -56,8 +56,8 @@ pub(crate) struct Begun<EF> {
     pub excess: Vec<EF>,
 }
 
-// The verdict that names the first lucky challenge of these layers and of the inputs, if one is: the
-// challenge that made a claim which is the true one, or that of the first round after which a
+// The verdict that names the first lucky challenge of these layers and of the inputs, if one is:
+// the challenge that made a claim which is the true one, or that of the first round after which a
 // layer's claim is.
 pub(crate) fn luck_from<F: Field, EF: ExtensionField<F>>(
     alloc: Global,
@@ -200,8 +200,8 @@ fn layer_turn<EF: Field>(
     turn_from(alloc, &nodes, &mut prover, begun.claim, truth, rounds)
 }
 
-// Where the layer below begins, of so many values, which are these, after what came for a layer with
-// these challenges and the one that merges its two values.
+// Where the layer below begins, of so many values, which are these, after what came for a layer
+// with these challenges and the one that merges its two values.
 fn begin_below<F: Field, EF: ExtensionField<F>>(
     alloc: Global,
     width: usize,

@@ -1,5 +1,5 @@
-//! Where the layers begin: the outputs are observed, and the challenge that is drawn after them makes
-//! the claim on them.
+//! Where the layers begin: the outputs are observed, and the challenge that is drawn after them
+//! makes the claim on them.
 ghost use Rattle.std.specs.Prelude.{◌≡◌, ◌≤◌, [], IfOk, OnErr, OnOk, length, map};
 ghost use Rattle.sc_definitions.specs.Events.{words};
 ghost use Rattle.sc_definitions.specs.Ring.{power};

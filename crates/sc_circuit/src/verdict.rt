@@ -23,8 +23,8 @@ use sc_field::{ExtensionField, Field};
 use sc_memory::{NoMemory, Row};
 use std::alloc::Global;
 
-// Layers that were replayed: the challenge of the outputs and the claim that it makes, what came for
-// each layer, and what the replay has reached.
+// Layers that were replayed: the challenge of the outputs and the claim that it makes, what came
+// for each layer, and what the replay has reached.
 #[derive(Drop)]
 pub(crate) struct Replayed<F, EF> {
     pub challenge: EF,

@@ -46,8 +46,8 @@ pub(crate) fn equality_weights<EF: Field>(alloc: Global, point: &[EF]) -> Result
     Ok(weights)
 }
 
-// The weights of the values below a layer: the equality weights of the first half of its challenges,
-// and those of the second half, each times the challenge that merges them.
+// The weights of the values below a layer: the equality weights of the first half of its
+// challenges, and those of the second half, each times the challenge that merges them.
 pub(crate) fn merged_weights<EF: Field>(
     alloc: Global,
     challenges: &[EF],

@@ -77,8 +77,8 @@ fn check_entries<F: Field>(claimed: &Matrix<F>, product: &[F]) -> Result<(), Mat
     }
 }
 
-// Builds the rounds of a claim whose entries are true, in the transcript of a copy of the challenger
-// that drew the point.
+// Builds the rounds of a claim whose entries are true, in the transcript of a copy of the
+// challenger that drew the point.
 fn play<F: Field, EF: ExtensionField<F>, C: Challenger<F>>(
     alloc: Global,
     fitting: &FittingClaim<'_, F, EF>,

@@ -5,8 +5,9 @@ ghost use Rattle.sc_circuit.specs.Runs.{layer_in};
 ghost use Rattle.sumcheck_replies.specs.Lines.{Adds, lines_by};
 ghost use Rattle.sumcheck_circuit.specs.CircuitLines.{depth_text, false_output_text, input_line};
 ghost use Rattle.sumcheck_circuit.specs.CircuitLines.{layer_lines, layer_round_line, layers_lines};
-ghost use Rattle.sumcheck_circuit.specs.CircuitLines.{layer_round_text, layer_width_text, layers_text};
-ghost use Rattle.sumcheck_circuit.specs.CircuitLines.{lucky_layer_line, lucky_layer_name};
+ghost use Rattle.sumcheck_circuit.specs.CircuitLines.{layer_round_text, layer_width_text};
+ghost use Rattle.sumcheck_circuit.specs.CircuitLines.{layers_text, lucky_layer_line};
+ghost use Rattle.sumcheck_circuit.specs.CircuitLines.{lucky_layer_name};
 ghost use Rattle.sumcheck_circuit.specs.CircuitLines.{lucky_merge_name, merge_part, outputs_text};
 ghost use Rattle.sumcheck_circuit.specs.CircuitLines.{refuted_layer_line, wire_text};
 

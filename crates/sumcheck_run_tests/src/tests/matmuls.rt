@@ -1,5 +1,5 @@
-// Claimed products of two matrices: the text and the status that `matmul` answers. The texts are those
-// of a model in another language, which sums over all rows.
+// Claimed products of two matrices: the text and the status that `matmul` answers. The texts are
+// those of a model in another language, which sums over all rows.
 use super::{Case, Changed, assert_command, change};
 
 // Two matrices of two rows and columns, and their product.
@@ -153,7 +153,10 @@ verdict refuted
     ),
     (
         TWO,
-        (BUILD, r#"{"check":{"rounds":[[221,30],[1,2]],"witnesses":[]}}"#),
+        (
+            BUILD,
+            r#"{"check":{"rounds":[[221,30],[1,2]],"witnesses":[]}}"#,
+        ),
         4,
         "proof refused rounds expected 1 actual 2\n",
     ),
@@ -178,7 +181,10 @@ verdict refuted
     ),
     (
         TWO,
-        (r#""claimed":[[19,22],[43,50]]"#, r#""claimed":[[19],[22],[43]]"#),
+        (
+            r#""claimed":[[19,22],[43,50]]"#,
+            r#""claimed":[[19],[22],[43]]"#,
+        ),
         3,
         "refused matmul side claimed 3 1\n",
     ),
@@ -232,12 +238,7 @@ verdict refuted
         3,
         "refused bad-job claimed\n",
     ),
-    (
-        TWO,
-        (BUILD, r#""plain""#),
-        3,
-        "refused bad-job mode\n",
-    ),
+    (TWO, (BUILD, r#""plain""#), 3, "refused bad-job mode\n"),
 ];
 
 // Proofs of false entries that a challenge lets through: the entries, and the rounds.
