@@ -4,6 +4,7 @@ mod built;
 mod checked;
 mod refused;
 mod shapes;
+mod texts;
 
 use sc_circuit::{Circuit, CircuitError, Gate};
 use sc_field::Field;

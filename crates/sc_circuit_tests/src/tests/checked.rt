@@ -145,7 +145,7 @@ pub static CHECKED: [Case; 14] = [
         last: &[Event::Word(8), Event::Word(8), Event::Draw],
     },
     Case {
-        name: "the same, and the challenge that merges them lets them through: the outputs are true",
+        name: "the same, which the challenge that merges them lets through",
         layers: &[&[(false, 0, 1)]],
         inputs: &[3, 5],
         outputs: &[8],
