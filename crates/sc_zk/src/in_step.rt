@@ -96,8 +96,8 @@ pub fn layout_in_step<
 /// A simulator of recorded claims, and the verifier that has recorded them, stay in step: the
 /// rounds are simulated on a copy of the challenger, and what was sent is replayed on the
 /// challenger itself. The verifier refuses nothing that was simulated, whether its claims are true
-/// or not. It draws the same challenges, and its history is the simulator's. What is answered of the
-/// simulation is what the simulator drew.
+/// or not. It draws the same challenges, and its history is the simulator's. What is answered of
+/// the simulation is what the simulator drew.
 ///
 /// # Conditions
 ///
