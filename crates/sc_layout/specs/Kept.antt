@@ -17,6 +17,10 @@ use Rattle.sc_layout.specs.declared.multi_claim.ProverMultiClaim.{ProverMultiCla
 use Rattle.sc_layout.specs.Openings.{Laid}
 
 module _ {F EF : Type 0} {f : FieldOf F} {p : PartialEqOf F} {x : ExtensionOf EF F} {a : AlgebraOf EF F} {e : FieldOf EF} {q : PartialEqOf EF} where
+  -- the point of a claim, in two parts
+  abbrev pub kept_point : ProverMultiClaim F EF f p x a e q → SvoPoint F EF f p x a e q
+  kept_point c = c.point
+
   -- the values of a claim at its point, each with what is kept of it
   abbrev pub current_in : ProverMultiClaim F EF f p x a e q → List (Claim EF ℕ (EqSvoPartials EF))
   current_in c = c.current
@@ -35,10 +39,10 @@ module _ {F EF : Type 0} {f : FieldOf F} {p : PartialEqOf F} {x : ExtensionOf EF
 
   -- A claim on a table keeps its point in two parts, of which so many coordinates are for rounds in this order, and each value with its partial tables.
   pub record KeepsPartials (o : Ops) (order : Order) (rounds : ℕ) (t : ℕ → ℕ) (c : ProverMultiClaim F EF f p x a e q) : Type 0 where
-    pub order_is : order_in c.point ≡ order
-    pub rounds_are : length (near_in c.point) ≡ rounds
-    pub current : All (HasSums o t c.point) (current_in c)
-    pub next : All (HasNextSums o t c.point) (next_in c)
+    pub order_is : order_in (kept_point c) ≡ order
+    pub rounds_are : length (near_in (kept_point c)) ≡ rounds
+    pub current : All (HasSums o t (kept_point c)) (current_in c)
+    pub next : All (HasNextSums o t (kept_point c)) (next_in c)
 
   -- each claim does, on a table that a prover shows
   abbrev pub AllKeep : Ops → Laid → List (ProverMultiClaim F EF f p x a e q) → Type 0

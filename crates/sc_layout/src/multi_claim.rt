@@ -27,11 +27,12 @@ pub struct ProverMultiClaim<F: Field, EF: ExtensionField<F>> {
 
 impl<F: Field, EF: ExtensionField<F>> ProverMultiClaim<F, EF> {
     ghost use Rattle.sc_layout.specs.Claimed.{prover_opened};
-    ghost use Rattle.sc_layout.specs.Kept.{current_in, next_in};
+    ghost use Rattle.sc_layout.specs.Kept.{current_in, next_in, kept_point};
 
-    /// The point.
+    /// The point, in the two parts that small-value rounds use.
     pub fn point(&self) -> &SvoPoint<F, EF>
-        ensures { point_in result.now ≡ (prover_opened self.now).point }
+        ensures kept { result.now ≡ kept_point self.now }
+        ensures point { point_in result.now ≡ (prover_opened self.now).point }
     {
         &self.point
     }
