@@ -6,9 +6,7 @@ use Rattle.std.proofs.lemmas.List.Elements.{All-nil, All-cons, All-head, All-tai
 use Rattle.sc_definitions.specs.Ring.{Ops}
 use Rattle.sc_definitions.specs.Statements.{Kind, Statement, claims, claimed_values, powers_sum, batched_claim}
 use Rattle.sc_claims.specs.declared.claim.Claim.{Claim}
-use Rattle.sc_layout.specs.declared.sums.BatchedSum.{BatchedSum}
 use Rattle.sc_layout.specs.declared.book.Book.{Book}
-use Rattle.sc_layout.specs.Sums.{IsBatchOf}
 use Rattle.sc_layout.specs.Books.{recorded_by, virtual_statements}
 use Rattle.sc_layout.specs.Openings.{Opened, opened_statements, current_at, next_at, statements_of}
 
@@ -29,11 +27,11 @@ claimed-opened x =
     ∙ ap (λ l. x.current ++ l) (claimed-at (next_at x.point) x.next)
 
 pub claimed-concrete : {M : Type 0} (of : M → Opened) (ms : List M) →
-    claimed_values (flat_map (λ ss. ss) (map (λ m. opened_statements (of m)) ms)) ≡ flat_map (λ m. opened_values (of m)) ms
+    claimed_values (flat_map opened_statements (map of ms)) ≡ flat_map (λ m. opened_values (of m)) ms
 claimed-concrete of [] = refl
 claimed-concrete of (m ∷ ms) =
-    map-append (λ (s : Statement). s.claimed) (opened_statements (of m)) (flat_map (λ ss. ss) (map (λ k. opened_statements (of k)) ms))
-    ∙ ap (λ l. l ++ claimed_values (flat_map (λ ss. ss) (map (λ k. opened_statements (of k)) ms))) (claimed-opened (of m))
+    map-append (λ (s : Statement). s.claimed) (opened_statements (of m)) (flat_map opened_statements (map of ms))
+    ∙ ap (λ l. l ++ claimed_values (flat_map opened_statements (map of ms))) (claimed-opened (of m))
     ∙ ap (λ l. opened_values (of m) ++ l) (claimed-concrete of ms)
 
 pub claimed-virtual : {EF : Type 0} (number : EF → ℕ) (cs : List (Claim EF (List EF) Unit)) → claimed_values (virtual_statements number cs) ≡ map (λ c. number c.eval) cs
@@ -48,13 +46,12 @@ flat-more f ms i m low is =
     ∙ ap (λ l. flat_map f (take i ms) ++ l) (append-nil (f m))
 
 -- a batch of all values is that of the book's statements
-pub batched-book : {M EF : Type 0} (o : Ops) (number : EF → ℕ) (a : ℕ) (of : M → Opened) (b : Book M EF) (s : BatchedSum EF) →
-    IsBatchOf o number a (flat_map (λ m. opened_values (of m)) b.concrete.items ++ map (λ c. number c.eval) b.virtual_claims.items) s →
-    number s.sum ≡ batched_claim o a 0 (statements_of (recorded_by of number b))
+pub batched-book : {M EF : Type 0} (o : Ops) (number : EF → ℕ) (a : ℕ) (of : M → Opened) (b : Book M EF) →
+    powers_sum o a 0 (flat_map (λ m. opened_values (of m)) b.concrete.items ++ map (λ c. number c.eval) b.virtual_claims.items)
+    ≡ batched_claim o a 0 (statements_of (recorded_by of number b))
 unfolding batched_claim
-batched-book o number a of b s is =
-    is.sum_is
-    ∙ ap (powers_sum o a 0) (sym (map-append (λ (t : Statement). t.claimed) (flat_map (λ ss. ss) (map (λ m. opened_statements (of m)) b.concrete.items)) (virtual_statements number b.virtual_claims.items)
+batched-book o number a of b =
+    ap (powers_sum o a 0) (sym (map-append (λ (t : Statement). t.claimed) (flat_map opened_statements (map of b.concrete.items)) (virtual_statements number b.virtual_claims.items)
     ∙ ap (λ l. l ++ claimed_values (virtual_statements number b.virtual_claims.items)) (claimed-concrete of b.concrete.items)
     ∙ ap (λ l. flat_map (λ m. opened_values (of m)) b.concrete.items ++ l) (claimed-virtual number b.virtual_claims.items)))
 
@@ -71,10 +68,11 @@ module _ (P : Statement → Type 0) where
   all-claims k v (suc m) is = All-cons P (claims k v) (map (claims k) (replicate m v)) is (all-claims k v m is)
 
 -- the statements of a book with one concrete claim more
-pub concrete-more : (cs : List (List Statement)) (ss vs : List Statement) → flat_map (λ l. l) (cs ++ ss ∷ []) ++ vs ≡ flat_map (λ l. l) cs ++ ss ++ vs
-concrete-more cs ss vs =
-    ap (λ l. l ++ vs) (flat_map-append (λ l. l) cs (ss ∷ []) ∙ ap (λ l. flat_map (λ k. k) cs ++ l) (append-nil ss))
+pub concrete-more : (cs : List Opened) (x : Opened) (vs : List Statement) →
+    flat_map opened_statements (cs ++ x ∷ []) ++ vs ≡ flat_map opened_statements cs ++ opened_statements x ++ vs
+concrete-more cs x vs =
+    ap (λ l. l ++ vs) (flat_map-append opened_statements cs (x ∷ []) ∙ ap (λ l. flat_map opened_statements cs ++ l) (append-nil (opened_statements x)))
 
 -- and with one virtual claim more
-pub virtual-more : (cs : List (List Statement)) (vs : List Statement) (s : Statement) → flat_map (λ l. l) cs ++ (vs ++ s ∷ []) ≡ flat_map (λ l. l) cs ++ vs ++ s ∷ []
-virtual-more cs vs s = sym (append_assoc (flat_map (λ l. l) cs) vs (s ∷ []))
+pub virtual-more : (cs : List Opened) (vs : List Statement) (s : Statement) → flat_map opened_statements cs ++ (vs ++ s ∷ []) ≡ flat_map opened_statements cs ++ vs ++ s ∷ []
+virtual-more cs vs s = sym (append_assoc (flat_map opened_statements cs) vs (s ∷ []))

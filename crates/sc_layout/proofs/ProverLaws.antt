@@ -18,15 +18,15 @@ module _ (P : Statement → Type 0) (before after : Recorded) where
   gained-virtual : (s : Statement) → GainsVirtual s before after → P s → All P (statements_of before) → All P (statements_of after)
   gained-virtual s gains here all =
       let is : statements_of after ≡ statements_of before ++ s ∷ [] =
-      ap (λ l. flat_map (λ k. k) l ++ after.virtual) gains.concrete ∙ ap (λ l. flat_map (λ k. k) before.concrete ++ l) gains.virtual ∙ virtual-more before.concrete before.virtual s in
+      ap (λ l. flat_map opened_statements l ++ after.virtual) gains.concrete ∙ ap (λ l. flat_map opened_statements before.concrete ++ l) gains.virtual ∙ virtual-more before.concrete before.virtual s in
       subst (All P) (sym is) (All-append P (statements_of before) (s ∷ []) all (All-cons P s [] here (All-nil P)))
 
-  gained-concrete : (ss : List Statement) → GainsConcrete ss before after → All P ss → All P (statements_of before) → All P (statements_of after)
-  gained-concrete ss gains here all =
-      let is : statements_of after ≡ flat_map (λ k. k) before.concrete ++ ss ++ before.virtual =
-      ap (λ l. flat_map (λ k. k) l ++ after.virtual) gains.concrete ∙ ap (λ l. flat_map (λ k. k) (before.concrete ++ ss ∷ []) ++ l) gains.virtual
-      ∙ concrete-more before.concrete ss before.virtual in
-      subst (All P) (sym is) (all-between P (flat_map (λ k. k) before.concrete) ss before.virtual all here)
+  gained-concrete : (x : Opened) → GainsConcrete x before after → All P (opened_statements x) → All P (statements_of before) → All P (statements_of after)
+  gained-concrete x gains here all =
+      let is : statements_of after ≡ flat_map opened_statements before.concrete ++ opened_statements x ++ before.virtual =
+      ap (λ l. flat_map opened_statements l ++ after.virtual) gains.concrete ∙ ap (λ l. flat_map opened_statements (before.concrete ++ x ∷ []) ++ l) gains.virtual
+      ∙ concrete-more before.concrete x before.virtual in
+      subst (All P) (sym is) (all-between P (flat_map opened_statements before.concrete) (opened_statements x) before.virtual all here)
 
   -- by the answer of a call that adds to the book, or leaves it as it was
   all-virtual : {X E : Type 0} (s : Statement) (result : Result X E) → OnOk result (GainsVirtual s before after) → OnErr result (after ≡ before) → P s →
@@ -34,10 +34,10 @@ module _ (P : Statement → Type 0) (before after : Recorded) where
   all-virtual s (Ok x) gains same here all = gained-virtual s gains here all
   all-virtual s (Err e) gains same here all = subst (λ b. All P (statements_of b)) (sym same) all
 
-  all-concrete : {X E : Type 0} (ss : List Statement) (result : Result X E) → OnOk result (GainsConcrete ss before after) → OnErr result (after ≡ before) → All P ss →
-      All P (statements_of before) → All P (statements_of after)
-  all-concrete ss (Ok x) gains same here all = gained-concrete ss gains here all
-  all-concrete ss (Err e) gains same here all = subst (λ b. All P (statements_of b)) (sym same) all
+  all-concrete : {X E : Type 0} (x : Opened) (result : Result X E) → OnOk result (GainsConcrete x before after) → OnErr result (after ≡ before) →
+      All P (opened_statements x) → All P (statements_of before) → All P (statements_of after)
+  all-concrete x (Ok y) gains same here all = gained-concrete x gains here all
+  all-concrete x (Err e) gains same here all = subst (λ b. All P (statements_of b)) (sym same) all
 
 -- what holds of the values of an opening holds of all that it claims
 all-opened : (P : Statement → Type 0) (x : Opened) (zs : List ℕ) (asked : Counts) (v w : ℕ) → x.point ≡ zs → x.current ≡ replicate asked.current v → x.next ≡ replicate asked.next w →
@@ -59,16 +59,16 @@ module _ {X E : Type 0} (o : Ops) (n : ℕ) (f : ℕ → ℕ) (zs : List ℕ) (s
     true-virtual is all = all-virtual (λ (s : Statement). true_value o n f s.kind ≡ s.claimed) before after (claims (current_at zs) v) result gains same (sym is) all
 
   module _ (x : Opened) (asked : Counts) (at : x.point ≡ zs) (currents : x.current ≡ replicate asked.current (true_value o n f (current_at zs)))
-      (nexts : x.next ≡ replicate asked.next (true_value o n f (next_at zs))) (gains : OnOk result (GainsConcrete (opened_statements x) before after)) where
+      (nexts : x.next ≡ replicate asked.next (true_value o n f (next_at zs))) (gains : OnOk result (GainsConcrete x before after)) where
     pub arity-concrete : HaveArity n (statements_of before) → HaveArity n (statements_of after)
     arity-concrete all =
         let P : Statement → Type 0 = λ s. arity_of n s.kind ≡ n in
-        all-concrete P before after (opened_statements x) result gains same (all-opened P x zs asked _ _ at currents nexts size (omega (arith, size))) all
+        all-concrete P before after x result gains same (all-opened P x zs asked _ _ at currents nexts size (omega (arith, size))) all
 
     pub true-concrete : AreTrue o n f (statements_of before) → AreTrue o n f (statements_of after)
     true-concrete all =
         let P : Statement → Type 0 = λ s. true_value o n f s.kind ≡ s.claimed in
-        all-concrete P before after (opened_statements x) result gains same (all-opened P x zs asked _ _ at currents nexts refl refl) all
+        all-concrete P before after x result gains same (all-opened P x zs asked _ _ at currents nexts refl refl) all
 
 -- ---- what was opened
 
@@ -94,7 +94,7 @@ module _ (o : Ops) (E : Extension) (p p₁ p₂ : Party) (l l' : Laid) (n r r' :
 
   pub opens-concrete : (x : Opened) (asked : Counts) (v : Values) → x.point ≡ zs → v.current ≡ x.current → v.next ≡ x.next →
       x.current ≡ replicate asked.current (true_value o l.variables l.rows (current_at zs)) → x.next ≡ replicate asked.next (true_value o l.variables l.rows (next_at zs)) →
-      Appends (sent E (x.current ++ x.next)) r' p₁ p₂ → GainsConcrete (opened_statements x) l.recorded l'.recorded → Opens o E asked v (laid_at p l) (laid_at p₂ l')
+      Appends (sent E (x.current ++ x.next)) r' p₁ p₂ → GainsConcrete x l.recorded l'.recorded → Opens o E asked v (laid_at p l) (laid_at p₂ l')
   opens-concrete x asked v at same_current same_next currents nexts observed gains =
       let ys = drawn_point p.rules E p.history l.variables in
       let current_is = same_current ∙ currents ∙ ap (λ q. replicate asked.current (true_value o l.variables l.rows (current_at q))) point-is in
@@ -106,7 +106,7 @@ module _ (o : Ops) (E : Extension) (p p₁ p₂ : Party) (l l' : Laid) (n r r' :
           history = grown (x.current ++ x.next) observed
               ∙ ap (λ t. p.history ++ (point_events E l.variables ++ sent E t)) (ap (λ t. t ++ x.next) (sym same_current) ∙ ap (λ t. v.current ++ t) (sym same_next));
           concrete = gains.concrete
-              ∙ ap (λ t. l.recorded.concrete ++ opened_statements t ∷ [])
+              ∙ ap (λ t. l.recorded.concrete ++ t ∷ [])
               (ap (λ z. opened z x.current x.next) (at ∙ point-is) ∙ ap (λ t. opened ys t x.next) (sym same_current) ∙ ap (opened ys v.current) (sym same_next));
           virtual = gains.virtual;
         };

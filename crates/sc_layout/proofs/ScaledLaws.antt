@@ -47,9 +47,9 @@ module _ {EF : Type 0} (o : Ops) (ring : IsRing o) (number : EF → ℕ) where
 
 -- ---- all openings of a book
 
-pub flat-is : {X Y : Type 0} (f : X → List Y) (xs : List X) → flat_map (λ l. l) (map f xs) ≡ flat_map f xs
-flat-is f [] = refl
-flat-is f (x ∷ xs) = ap (λ l. f x ++ l) (flat-is f xs)
+pub flat-is : {X Y Z : Type 0} (g : Y → List Z) (f : X → Y) (xs : List X) → flat_map g (map f xs) ≡ flat_map (λ x. g (f x)) xs
+flat-is g f [] = refl
+flat-is g f (x ∷ xs) = ap (λ l. g (f x) ++ l) (flat-is g f xs)
 
 -- a claim of such a kind is at a point of as many coordinates
 kind-on : (n : ℕ) (successor : Bool) (zs : List ℕ) → arity_of n (kind_by successor zs) ≡ n → length zs ≡ n

@@ -1,7 +1,9 @@
 -- The values of openings are the true ones.
 use mathlib.Core.Path.{fun_ext}
-use Rattle.std.proofs.Common.{◌≡◌, ℕ, ◌+◌, List, [], ◌∷◌, ◌++◌, length, map, replicate, refl, ap, sym, ◌∙◌}
+use Rattle.std.specs.Prelude.{OnOk, OnErr}
+use Rattle.std.proofs.Common.{Result, Ok, Err, ◌≡◌, ℕ, ◌+◌, All, List, [], ◌∷◌, ◌++◌, length, map, replicate, refl, ap, sym, subst, ◌∙◌}
 use Rattle.std.proofs.lemmas.List.{map-append, replicate-append-replicate}
+use Rattle.std.proofs.lemmas.List.Elements.{All-nil, All-cons, All-append}
 use Rattle.sc_definitions.specs.Ring.{Ops, IsRing}
 use Rattle.sc_definitions.specs.Tables.{Order, prefix, entries}
 use Rattle.sc_definitions.specs.Statements.{Kind, true_value, weight_of, successor_weight}
@@ -31,6 +33,15 @@ pub claims-more : {EF P D : Type 0} (number : EF → ℕ) (v i : ℕ) (cs ds : L
 claims-more number v i cs ds c is before put =
     ap (map (λ k. number k.eval)) put ∙ map-append (λ k. number k.eval) cs (c ∷ []) ∙ ap (λ l. l ++ number c.eval ∷ []) before ∙ ap (λ x. replicate i v ++ x ∷ []) is
     ∙ replicate-append-replicate i 1 v
+
+-- what holds of all items, and of one more
+pub all-more : {X : Type 0} (P : X → Type 0) (xs ys : List X) (x : X) → P x → All P xs → ys ≡ xs ++ x ∷ [] → All P ys
+all-more P xs ys x is before put = subst (All P) (sym put) (All-append P xs (x ∷ []) before (All-cons P x [] is (All-nil P)))
+
+-- by the answer of a call that adds the item, or adds none
+pub all-added : {X Y E : Type 0} (P : X → Type 0) (xs ys : List X) (x : X) (result : Result Y E) → P x → All P xs → OnOk result (ys ≡ xs ++ x ∷ []) → OnErr result (ys ≡ xs) → All P ys
+all-added P xs ys x (Ok y) is before put same = all-more P xs ys x is before put
+all-added P xs ys x (Err r) is before put same = subst (All P) (sym same) before
 
 -- the entries of a table's images are the images of its entries
 pub images : {X : Type 0} (h : ℕ → ℕ) (number : X → ℕ) (xs : List X) (t : ℕ → ℕ) → h 0 ≡ 0 → entries number xs ≡ t → entries (λ x. h (number x)) xs ≡ (λ b. h (t b))

@@ -3,6 +3,7 @@ pub mod Requests
 pub mod Openings
 pub mod Sums
 pub mod Claimed
+pub mod Kept
 pub mod Scaled
 pub mod Books
 pub mod Provers

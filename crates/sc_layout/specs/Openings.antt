@@ -41,9 +41,9 @@ true_values_at o n f asked zs =
 
 -- ---- what is recorded
 
--- Claims that are recorded: the concrete ones, each with its statements, and the virtual ones.
+-- Claims that are recorded: the concrete ones, each with its point and its values, and the virtual ones.
 pub record Recorded : Type 0 where
-  pub concrete : List (List Statement)
+  pub concrete : List Opened
   pub virtual : List Statement
 
 -- nothing yet
@@ -52,7 +52,7 @@ none_recorded = record { concrete = []; virtual = [] }
 
 -- all statements: those of the concrete claims in order, and then the virtual ones
 abbrev pub statements_of : Recorded → List Statement
-statements_of b = flat_map (λ ss. ss) b.concrete ++ b.virtual
+statements_of b = flat_map opened_statements b.concrete ++ b.virtual
 
 -- each is on a table of n variables
 abbrev pub HaveArity : ℕ → List Statement → Type 0
@@ -104,7 +104,7 @@ place h b = record { history = h; recorded = b }
 pub record AddsConcrete (t : Taking) (x : Opened) (before after : Place) : Type 0 where
   pub point : x.point ≡ point_at t before.history
   pub history : after.history ≡ before.history ++ opening_events t.extension t.variables (x.current ++ x.next)
-  pub concrete : after.recorded.concrete ≡ before.recorded.concrete ++ opened_statements x ∷ []
+  pub concrete : after.recorded.concrete ≡ before.recorded.concrete ++ x ∷ []
   pub virtual : after.recorded.virtual ≡ before.recorded.virtual
 
 -- A virtual claim of this value was added: its point was drawn, the value was observed, and it stands after the others.

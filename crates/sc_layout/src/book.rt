@@ -8,7 +8,7 @@ ghost use Rattle.sc_definitions.specs.Transcript.{sent};
 ghost use Rattle.sc_challenger.specs.Parties.{MayAppend};
 ghost use Rattle.sc_table.specs.Polys.{variables_of, table_of};
 ghost use Rattle.sc_table.specs.Strategy.{order_of};
-ghost use Rattle.sc_layout.specs.Openings.{opened_statements, statements_of};
+ghost use Rattle.sc_layout.specs.Openings.{statements_of};
 ghost use Rattle.sc_layout.specs.Openings.{none_recorded, HaveArity};
 ghost use Rattle.sc_definitions.specs.Statements.{claims};
 ghost use Rattle.sc_svo.specs.Claims.{claims_in, AreOn};
@@ -44,12 +44,13 @@ pub struct Book<M, EF: Field> {
 pub type ClaimBook<F, EF> = Book<ProverMultiClaim<F, EF>, EF>;
 
 impl<M: OpenedClaim<EF>, EF: Field> Book<M, EF> {
-    ghost use Rattle.sc_layout.specs.Books.{recorded_by, virtual_statements};
+    ghost use Rattle.sc_layout.specs.Books.{concrete_in, recorded_by, virtual_statements};
     ghost use Rattle.sc_layout.specs.Books.{GainsConcrete, GainsVirtual};
 
     /// No claims yet.
     pub(crate) fn new(alloc: Global) -> Self
-        ensures { recorded_by M.opened EF.number result ≡ none_recorded }
+        ensures none { concrete_in result ≡ [] }
+        ensures recorded { recorded_by M.opened EF.number result ≡ none_recorded }
     {
         Book {
             concrete: Vec::new(alloc),
@@ -59,7 +60,8 @@ impl<M: OpenedClaim<EF>, EF: Field> Book<M, EF> {
 
     /// The concrete claims, in order.
     pub fn concrete_claims(&self) -> &[M]
-        ensures { map (λ m. opened_statements (M.opened m)) result.now
+        ensures items { result.now ≡ concrete_in self.now }
+        ensures opened { map M.opened result.now
             ≡ (recorded_by M.opened EF.number self.now).concrete }
     {
         &self.concrete
@@ -88,7 +90,7 @@ impl<M: OpenedClaim<EF>, EF: Field> Book<M, EF> {
 }
 
 impl<M: OpenedClaim<EF>, EF: Field> Book<M, EF> {
-    ghost use Rattle.sc_layout.specs.Books.{recorded_by, virtual_statements};
+    ghost use Rattle.sc_layout.specs.Books.{concrete_in, recorded_by, virtual_statements};
     ghost use Rattle.sc_layout.specs.Books.{GainsConcrete, GainsVirtual};
 
     // Observes the values of a claim, and records it after the others. A refusal leaves the history
@@ -107,10 +109,12 @@ impl<M: OpenedClaim<EF>, EF: Field> Book<M, EF> {
             ((M.opened claim).current ++ (M.opened claim).next))
             ((length evals.now.current + length evals.now.next) * EF.DEGREE)
             (C.party challenger.old) (C.party challenger.new) result }
-        ensures gains { OnOk result (GainsConcrete (opened_statements (M.opened claim))
+        ensures gains { OnOk result (GainsConcrete (M.opened claim)
             (recorded_by M.opened EF.number self.old) (recorded_by M.opened EF.number self.new)) }
         ensures kept { OnErr result (recorded_by M.opened EF.number self.new
             ≡ recorded_by M.opened EF.number self.old) }
+        ensures last { OnOk result (concrete_in self.new ≡ concrete_in self.old ++ claim ∷ []) }
+        ensures all { OnErr result (concrete_in self.new ≡ concrete_in self.old) }
     {
         self.concrete.reserve(1)?;
         observe_opening::<F, EF, C>(challenger, evals.current.as_slice(), evals.next.as_slice())?;
@@ -135,6 +139,7 @@ impl<M: OpenedClaim<EF>, EF: Field> Book<M, EF> {
             (recorded_by M.opened EF.number self.old) (recorded_by M.opened EF.number self.new)) }
         ensures kept { OnErr result (recorded_by M.opened EF.number self.new
             ≡ recorded_by M.opened EF.number self.old) }
+        ensures all { concrete_in self.new ≡ concrete_in self.old }
     {
         self.virtual_claims.reserve(1)?;
         observe_ext::<F, EF, C>(challenger, value)?;

@@ -17,7 +17,8 @@ pub trait Layout<F: Field, EF: ExtensionField<F>>: Drop {
     ghost use Rattle.sc_layout.specs.Openings.{Opens, OpensVirtual, OpensNothing};
     ghost use Rattle.sc_layout.specs.Openings.{HaveArity, statements_of};
     ghost use Rattle.sc_layout.specs.Requests.{asked_in, values_in};
-    ghost use Rattle.sc_layout.specs.Books.{prover_recorded};
+    ghost use Rattle.sc_layout.specs.Books.{concrete_in, prover_recorded};
+    ghost use Rattle.sc_layout.specs.Kept.{AllKeep};
 
     // What it shows of the table, and of what is recorded.
     ghost laid: { Self → Laid };
@@ -44,11 +45,13 @@ pub trait Layout<F: Field, EF: ExtensionField<F>>: Drop {
         ensures rows { (λ b. EF.embedding (table_of F.number result.now b))
             ≡ (laid self.now).rows };
 
-    /// What is recorded: each claim is on the table.
+    /// What is recorded: each claim is on the table, and each concrete one keeps the partial tables
+    /// by which its values were made, for as many rounds as the folding.
     fn claims(&self) -> &ClaimBook<F, EF>
         ensures recorded { prover_recorded result.now ≡ (laid self.now).recorded }
         ensures arity { HaveArity (laid self.now).variables
-            (statements_of (prover_recorded result.now)) };
+            (statements_of (prover_recorded result.now)) }
+        ensures kept { AllKeep EF.ops (laid self.now) (concrete_in result.now) };
 
     /// Opens the columns of a request at a point that is drawn: answers and observes the values
     /// there and those through the successor map, and records them as one concrete claim, after

@@ -1,5 +1,5 @@
 //! What a prover opened at one point.
-ghost use Rattle.std.specs.Prelude.{◌≡◌, ◌+◌, ◌<◌, ◌^◌, ℕ, List, ◌++◌, IfOk, length, map};
+ghost use Rattle.std.specs.Prelude.{◌≡◌, ◌+◌, ◌<◌, ◌^◌, ℕ, List, ◌++◌, All, IfOk, length, map};
 ghost use Rattle.sc_svo.specs.Points.{point_in};
 ghost use Rattle.sc_layout.specs.Sums.{IsBatchOf};
 
@@ -21,14 +21,18 @@ pub struct ProverMultiClaim<F: Field, EF: ExtensionField<F>> {
     pub(crate) current: Row<Claim<EF, usize, EqSvoPartials<EF>>>,
     pub(crate) next: Row<Claim<EF, usize, NextSvoPartials<EF>>>,
     ghost same: { point_in point ≡ map EF.number coordinates },
+    ghost columns: { All (λ c. c.point ≡ 0) current },
+    ghost next_columns: { All (λ c. c.point ≡ 0) next },
 }
 
 impl<F: Field, EF: ExtensionField<F>> ProverMultiClaim<F, EF> {
     ghost use Rattle.sc_layout.specs.Claimed.{prover_opened};
+    ghost use Rattle.sc_layout.specs.Kept.{current_in, next_in, kept_point};
 
-    /// The point.
+    /// The point, in the two parts that small-value rounds use.
     pub fn point(&self) -> &SvoPoint<F, EF>
-        ensures { point_in result.now ≡ (prover_opened self.now).point }
+        ensures kept { result.now ≡ kept_point self.now }
+        ensures point { point_in result.now ≡ (prover_opened self.now).point }
     {
         &self.point
     }
@@ -40,16 +44,21 @@ impl<F: Field, EF: ExtensionField<F>> ProverMultiClaim<F, EF> {
         &self.coordinates
     }
 
-    /// The values at the point, each with its column as the claim's point.
+    /// The values at the point, each with its column as the claim's point, which is 0.
     pub fn current_openings(&self) -> &[Claim<EF, usize, EqSvoPartials<EF>>]
-        ensures { map (λ c. EF.number c.eval) result.now ≡ (prover_opened self.now).current }
+        ensures kept { result.now ≡ current_in self.now }
+        ensures values { map (λ c. EF.number c.eval) result.now ≡ (prover_opened self.now).current }
+        ensures columns { All (λ c. c.point ≡ 0) result.now }
     {
         self.current.as_slice()
     }
 
-    /// The values through the successor map there, each with its column as the claim's point.
+    /// The values through the successor map there, each with its column as the claim's point, which
+    /// is 0.
     pub fn next_openings(&self) -> &[Claim<EF, usize, NextSvoPartials<EF>>]
-        ensures { map (λ c. EF.number c.eval) result.now ≡ (prover_opened self.now).next }
+        ensures kept { result.now ≡ next_in self.now }
+        ensures values { map (λ c. EF.number c.eval) result.now ≡ (prover_opened self.now).next }
+        ensures columns { All (λ c. c.point ≡ 0) result.now }
     {
         self.next.as_slice()
     }

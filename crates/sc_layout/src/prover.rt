@@ -1,16 +1,17 @@
 //! The holder of a table.
-ghost use Rattle.std.specs.Prelude.{◌≡◌, ◌≤◌, ◌^◌, ℕ, IfOk, OnErr, length, map, replicate};
+ghost use Rattle.std.specs.Prelude.{◌≡◌, ◌≤◌, ◌^◌, ℕ, All, IfOk, OnErr, length, map, replicate};
 ghost use Rattle.sc_definitions.specs.Tables.{entries, value};
 ghost use Rattle.sc_definitions.specs.Statements.{true_value};
 ghost use Rattle.sc_table.specs.Polys.{variables_of, table_of};
 ghost use Rattle.sc_table.specs.Strategy.{order_of};
-ghost use Rattle.sc_svo.specs.Points.{point_in};
+ghost use Rattle.sc_svo.specs.Points.{point_in, near_in, order_in};
 ghost use Rattle.sc_layout.specs.Openings.{Laid, IsSound, KeepsTable, laid_at};
 ghost use Rattle.sc_layout.specs.Openings.{Opens, OpensVirtual, OpensNothing};
 ghost use Rattle.sc_layout.specs.Openings.{current_at, next_at, none_recorded};
 ghost use Rattle.sc_layout.specs.Openings.{statements_of, HaveArity, AreTrue};
 ghost use Rattle.sc_layout.specs.Requests.{asked_in, values_in};
-ghost use Rattle.sc_layout.specs.Books.{prover_recorded};
+ghost use Rattle.sc_layout.specs.Books.{concrete_in, prover_recorded};
+ghost use Rattle.sc_layout.specs.Kept.{HasSums, HasNextSums, KeepsPartials};
 
 use crate::book::{Book, ClaimBook};
 use crate::drawn::draw_point;
@@ -68,7 +69,7 @@ impl BindingOrder for SuffixFirst {
 
 /// A table, and what was answered of it. Rounds over it bind its variables in the order `O`.
 #[derive(Drop)]
-pub struct TableProver<F: Field, EF: ExtensionField<F>, O> {
+pub struct TableProver<F: Field, EF: ExtensionField<F>, O: BindingOrder> {
     alloc: Global,
     folding: usize,
     table: Poly<F>,
@@ -81,6 +82,8 @@ pub struct TableProver<F: Field, EF: ExtensionField<F>, O> {
     ghost arity: { HaveArity (variables_of table) (statements_of (prover_recorded claims)) },
     ghost truth: { AreTrue EF.ops (variables_of table)
         (λ b. EF.embedding (table_of F.number table b)) (statements_of (prover_recorded claims)) },
+    ghost kept: { All (KeepsPartials EF.ops O.binds folding
+        (λ b. EF.embedding (table_of F.number table b))) (concrete_in claims) },
 }
 
 /// A table whose first variable is bound first.
@@ -100,12 +103,12 @@ impl<F: Field, EF: ExtensionField<F>, O: BindingOrder> TableProver<F, EF, O> {
         requires few { folding ≤ 12 }
         requires within { folding ≤ variables_of poly }
         requires variables { variables_of poly ≤ 40 }
-        ensures order { (laid_by O.binds result).order ≡ O.binds }
-        ensures folding { (laid_by O.binds result).folding ≡ folding }
-        ensures variables { (laid_by O.binds result).variables ≡ variables_of poly }
-        ensures rows { (laid_by O.binds result).rows
+        ensures order { (laid_by result).order ≡ O.binds }
+        ensures folding { (laid_by result).folding ≡ folding }
+        ensures variables { (laid_by result).variables ≡ variables_of poly }
+        ensures rows { (laid_by result).rows
             ≡ (λ b. EF.embedding (table_of F.number poly b)) }
-        ensures recorded { (laid_by O.binds result).recorded ≡ none_recorded }
+        ensures recorded { (laid_by result).recorded ≡ none_recorded }
     {
         TableProver {
             alloc,
@@ -119,7 +122,9 @@ impl<F: Field, EF: ExtensionField<F>, O: BindingOrder> TableProver<F, EF, O> {
     // A point in two parts: the coordinates that small-value rounds bind, and the others.
     fn in_parts(&self, point: &Point<EF>) -> Result<SvoPoint<F, EF>, NoMemory>
         requires { length point.now ≡ variables_of self.now.table }
-        ensures { IfOk result (λ p. point_in p ≡ map EF.number point.now) }
+        ensures order { IfOk result (λ p. order_in p ≡ O.binds) }
+        ensures near { IfOk result (λ p. length (near_in p) ≡ self.now.folding) }
+        ensures point { IfOk result (λ p. point_in p ≡ map EF.number point.now) }
     {
         SvoPoint::new_unpacked(self.alloc, self.folding, point, O::variable_order())
     }
@@ -140,6 +145,8 @@ impl<F: Field, EF: ExtensionField<F>, O: BindingOrder> TableProver<F, EF, O> {
             ≡ replicate (asked_in batch.now).next (true_value EF.ops (variables_of self.now.table)
             (λ b. EF.embedding (table_of F.number self.now.table b))
             (next_at (map EF.number coordinates)))) }
+        ensures kept { IfOk result (KeepsPartials EF.ops O.binds self.now.folding
+            (λ b. EF.embedding (table_of F.number self.now.table b))) }
     {
         let point = self.in_parts(&coordinates)?;
         let rows = self.table.as_slice();
@@ -162,9 +169,13 @@ fn current_claims<F: Field, EF: ExtensionField<F>>(
     columns: &[usize],
 ) -> Result<Vec<Claim<EF, usize, EqSvoPartials<EF>>>, NoMemory>
     requires rows { length rows.now ≡ 2 ^ length (point_in point.now) }
-    ensures { IfOk result (λ v. map (λ c. EF.number c.eval) v.items ≡ replicate
+    requires columns { All (λ c. c ≡ 0) columns.now }
+    ensures values { IfOk result (λ v. map (λ c. EF.number c.eval) v.items ≡ replicate
         (length columns.now) (true_value EF.ops (length (point_in point.now))
         (entries (λ x. EF.embedding (F.number x)) rows.now) (current_at (point_in point.now)))) }
+    ensures columns { IfOk result (λ v. All (λ c. c.point ≡ 0) v.items) }
+    ensures kept { IfOk result (λ v. All (HasSums EF.ops
+        (entries (λ x. EF.embedding (F.number x)) rows.now) point.now) v.items) }
 {
     let mut claims = with_room(alloc, columns.len())?;
     for column in columns {
@@ -182,9 +193,13 @@ fn next_claims<F: Field, EF: ExtensionField<F>>(
     columns: &[usize],
 ) -> Result<Vec<Claim<EF, usize, NextSvoPartials<EF>>>, NoMemory>
     requires rows { length rows.now ≡ 2 ^ length (point_in point.now) }
-    ensures { IfOk result (λ v. map (λ c. EF.number c.eval) v.items ≡ replicate
+    requires columns { All (λ c. c ≡ 0) columns.now }
+    ensures values { IfOk result (λ v. map (λ c. EF.number c.eval) v.items ≡ replicate
         (length columns.now) (true_value EF.ops (length (point_in point.now))
         (entries (λ x. EF.embedding (F.number x)) rows.now) (next_at (point_in point.now)))) }
+    ensures columns { IfOk result (λ v. All (λ c. c.point ≡ 0) v.items) }
+    ensures kept { IfOk result (λ v. All (HasNextSums EF.ops
+        (entries (λ x. EF.embedding (F.number x)) rows.now) point.now) v.items) }
 {
     let mut claims = with_room(alloc, columns.len())?;
     for column in columns {
@@ -197,7 +212,7 @@ fn next_claims<F: Field, EF: ExtensionField<F>>(
 impl<F: Field, EF: ExtensionField<F>, O: BindingOrder> Layout<F, EF> for TableProver<F, EF, O> {
     ghost use Rattle.sc_layout.specs.Provers.{laid_by};
 
-    ghost laid = { laid_by O.binds };
+    ghost laid = { laid_by };
 
     ghost sound = { λ s. record {
       some = s.some;

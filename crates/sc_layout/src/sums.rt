@@ -1,5 +1,6 @@
 //! The batch of values: each times the next power of a challenge, in sum.
 ghost use Rattle.std.specs.Prelude.{◌≡◌, ℕ, List, [], ◌∷◌, ◌++◌, map};
+ghost use Rattle.sc_definitions.specs.Statements.{powers_sum};
 ghost use Rattle.sc_layout.specs.Sums.{IsBatchOf};
 
 use sc_claims::Claim;
@@ -64,7 +65,8 @@ impl<EF: Field> BatchedSum<EF> {
 
     /// The sum.
     pub fn sum(self) -> EF
-        ensures { result ≡ self.sum }
+        ensures { (a : ℕ) (xs : List ℕ) → IsBatchOf EF.ops EF.number a xs self
+            → EF.number result ≡ powers_sum EF.ops a 0 xs }
     {
         self.sum
     }

@@ -4,9 +4,10 @@ ghost use Rattle.sc_table.specs.Polys.{variables_of};
 ghost use Rattle.sc_layout.specs.Requests.{asked_in, counts};
 
 mod batches;
+mod claims;
 mod verifier;
 
-use sc_challenger::{Challenger, ScriptedChallenger};
+use sc_challenger::{Challenger, Event, ScriptedChallenger};
 use sc_field::{ExtensionField, Field, NoMemory};
 use sc_layout::{
     BindingOrder, Layout, OpeningEvals, OpeningRequest, PrefixFirst, SuffixFirst, TableProver,
@@ -75,8 +76,14 @@ fn assert_two<A: Abort, O: BindingOrder>(rt: &A, alloc: Global) {
     assert_eq!(rt; prover.claims().sum(of(10)).index(), 524);
     assert_eq!(rt; prover.claims().concrete_claims().len(), 1);
     assert_eq!(rt; prover.claims().virtual_claims().len(), 1);
-    // a draw, the words 4 and 2, a draw, the word 5
-    assert_eq!(rt; challenger.events().len(), 5);
+    let events = [
+        Event::Draw,
+        Event::Word(4),
+        Event::Word(2),
+        Event::Draw,
+        Event::Word(5),
+    ];
+    assert!(rt; challenger.events() == &events[..]);
 }
 
 #[test]

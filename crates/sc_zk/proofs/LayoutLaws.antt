@@ -1,5 +1,5 @@
 -- A batch of all that a layout has recorded, beside a verifier that has recorded the same.
-use Rattle.std.proofs.Common.{◌≡◌, ℕ, List, map, Result, Err, inl, refl, ap, sym, subst, ◌∙◌}
+use Rattle.std.proofs.Common.{◌≡◌, ℕ, List, Result, Err, inl, refl, ap, sym, subst, ◌∙◌}
 use Rattle.sc_definitions.specs.declared.events.Event.{Event}
 use Rattle.sc_definitions.specs.Ring.{Ops, IsRing, plus, times, power}
 use Rattle.sc_definitions.specs.Tables.{Order, prefix, suffix}

@@ -1,10 +1,11 @@
 //! What is sent for recorded claims, and the verifier that has recorded them, in step.
-ghost use Rattle.std.specs.Prelude.{◌≡◌, ◌≤◌};
+ghost use Rattle.std.specs.Prelude.{◌≡◌, ◌≤◌, IfOk};
 ghost use Rattle.sc_zk_transcript.specs.Shapes.{IsFit};
 ghost use Rattle.sc_zk_rounds.specs.InStep.{StaysInStep, run_in};
-ghost use Rattle.sc_zk_simulators.specs.Drafts.{draft_from};
+ghost use Rattle.sc_zk_simulators.specs.Drafts.{draft_from, IsDrawn};
 ghost use Rattle.sc_zk_simulators.specs.InStep.{SimulatesInStep};
 ghost use Rattle.sc_zk_simulators.specs.InStep.{run_in as simulated_in};
+ghost use Rattle.sc_zk_rounds.specs.Data.{sent_in};
 ghost use Rattle.sc_zk_rounds.specs.Heads.{recorded_shape};
 ghost use Rattle.sc_zk_layout.specs.Recorded.{recorded_batch};
 ghost use Rattle.sc_zk_layout.specs.Provers.{layout_in, encoding_in, scheme_in, masks_by};
@@ -95,7 +96,8 @@ pub fn layout_in_step<
 /// A simulator of recorded claims, and the verifier that has recorded them, stay in step: the
 /// rounds are simulated on a copy of the challenger, and what was sent is replayed on the
 /// challenger itself. The verifier refuses nothing that was simulated, whether its claims are true
-/// or not. It draws the same challenges, and its history is the simulator's.
+/// or not. It draws the same challenges, and its history is the simulator's. What is answered of
+/// the simulation is what the simulator drew.
 ///
 /// # Conditions
 ///
@@ -127,6 +129,9 @@ pub fn recorded_simulation_in_step<
     requires fit { IsFit F.ops
         (recorded_shape folding_factor (Enc.message_length encoding.now) pow_bits) }
     ensures rules { (C.party challenger.new).rules ≡ (C.party challenger.old).rules }
+    ensures drawn { IfOk result (λ r. IsDrawn (draft_from ⟦<Enc as ZkEncoding<EF>>⟧
+        ⟦<M as Mmcs<EF>>⟧ EF.ops encoding.now mmcs.now folding_factor (G.stream rng.old))
+        r.mask_commitment (sent_in F.number EF.number r.zk_data) (G.stream rng.new)) }
     ensures steps { SimulatesInStep (simulated_in F.number EF.number) EF.ops
         (recorded_simulation (C.party challenger.old) EF.extension F.ops.size
         (recorded_shape folding_factor (Enc.message_length encoding.now) pow_bits) verifier

@@ -1,9 +1,10 @@
 //! What a masked prover reads of a layout, and what its rounds leave.
 ghost use Rattle.std.specs.Prelude.{◌≡◌, IfOk, length, map};
 ghost use Rattle.sc_definitions.specs.Statements.{batched_claim};
-ghost use Rattle.sc_layout.specs.Openings.{opened_statements, statements_of};
+ghost use Rattle.sc_layout.specs.Openings.{statements_of};
 ghost use Rattle.sc_layout.specs.Claimed.{prover_opened};
 ghost use Rattle.sc_layout.specs.Books.{virtual_statements};
+ghost use Rattle.sc_layout.specs.Kept.{AllKeep};
 ghost use Rattle.sc_zk_layout.specs.Grids.{IsScaledPair};
 ghost use Rattle.sc_zk_layout.specs.Recorded.{laid_after};
 
@@ -17,10 +18,10 @@ use std::alloc::Global;
 /// A layout, as a prover of masked rounds reads it: its claims, their batch, and the two tables
 /// that its rounds leave.
 pub trait ZkLayout<F: Field, EF: ExtensionField<F>>: Layout<F, EF> {
-    /// The concrete claims, in order.
+    /// The concrete claims, in order, each with the partial tables by which its values were made.
     fn concrete_claims(&self) -> &[ProverMultiClaim<F, EF>]
-        ensures { map (λ m. opened_statements (prover_opened m)) result.now
-            ≡ (Self.laid self.now).recorded.concrete };
+        ensures opened { map prover_opened result.now ≡ (Self.laid self.now).recorded.concrete }
+        ensures kept { AllKeep EF.ops (Self.laid self.now) result.now };
 
     /// The virtual claims, in order.
     fn virtual_claims(&self) -> &[ProverVirtualClaim<EF>]
@@ -76,9 +77,9 @@ impl<F: Field, EF: ExtensionField<F>, O: BindingOrder> ZkLayout<F, EF> for Table
         alpha: EF,
         eps: EF,
     ) -> Result<ProductPolynomial<F, EF>, NoMemory>
-        requires { length rs.now ≡ (laid_by O.binds self).folding }
+        requires { length rs.now ≡ (laid_by self).folding }
         ensures { IfOk result (IsScaledPair EF.number EF.ops
-            (laid_after EF.ops (laid_by O.binds self) (EF.number alpha) (map EF.number rs.now))
+            (laid_after EF.ops (laid_by self) (EF.number alpha) (map EF.number rs.now))
             (EF.number eps)) }
     {
         let (table, order) = (self.table(), self.order());

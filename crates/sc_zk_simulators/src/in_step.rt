@@ -1,9 +1,10 @@
 //! A simulator and a verifier of masked rounds, in step.
-ghost use Rattle.std.specs.Prelude.{◌≡◌, ◌≤◌};
+ghost use Rattle.std.specs.Prelude.{◌≡◌, ◌≤◌, IfOk};
 ghost use Rattle.sc_zk_transcript.specs.Shapes.{IsFit};
-ghost use Rattle.sc_zk_simulators.specs.Drafts.{draft_from};
+ghost use Rattle.sc_zk_simulators.specs.Drafts.{draft_from, IsDrawn};
 ghost use Rattle.sc_zk_simulators.specs.Simulations.{simulation_by};
 ghost use Rattle.sc_zk_simulators.specs.InStep.{run_in, SimulatesInStep};
+ghost use Rattle.sc_zk_rounds.specs.Data.{sent_in};
 ghost use Rattle.sc_zk_rounds.specs.Heads.{inherited_shape};
 
 use crate::simulators::simulate_classic_unpacked_claim;
@@ -34,7 +35,7 @@ pub struct SimulatedRun<F, EF, K> {
 /// A simulator and a verifier of masked rounds stay in step: rounds are simulated on a copy of the
 /// challenger, and what was sent is replayed on the challenger itself, under the same claim. The
 /// verifier refuses nothing that was simulated. It draws the same challenges, and its history is
-/// the simulator's.
+/// the simulator's. What is answered of the simulation is what the simulator drew.
 ///
 /// # Conditions
 ///
@@ -66,6 +67,9 @@ pub fn simulation_in_step<
     requires fit { IsFit F.ops (inherited_shape folding_factor
         (Enc.message_length encoding.now) pow_bits) }
     ensures rules { (C.party challenger.new).rules ≡ (C.party challenger.old).rules }
+    ensures drawn { IfOk result (λ r. IsDrawn (draft_from ⟦<Enc as ZkEncoding<EF>>⟧
+        ⟦<M as Mmcs<EF>>⟧ EF.ops encoding.now mmcs.now folding_factor (G.stream rng.old))
+        r.mask_commitment (sent_in F.number EF.number r.zk_data) (G.stream rng.new)) }
     ensures steps { SimulatesInStep (run_in F.number EF.number) EF.ops
         (simulation_by (C.party challenger.old) EF.extension F.ops.size
         (inherited_shape folding_factor (Enc.message_length encoding.now)

@@ -2,6 +2,7 @@
 ghost use Rattle.std.specs.Prelude.{◌≡◌, All, IfOk, length};
 ghost use Rattle.sc_layout.specs.Requests.{asked_in, counts};
 
+mod accepted;
 mod prover;
 mod recorded;
 

@@ -42,7 +42,7 @@ returns-clause-claims g c =
     let all = take_all c.loop-virtual_claim.virtual_claim-index c.deref-virtual_claim-items.result.now (omega (arith, c.loop-virtual_claim-test.false)) ∙ c.deref-virtual_claim-items.ensures.value in
     c.loop-virtual_claim.invariant.claims_are
     ∙ ap (λ vs. scaled_from e.ops a 0 (opened ++ virtual_statements e.number vs)) all
-    ∙ ap (λ l. scaled_from e.ops a 0 (l ++ virtual_statements e.number b.virtual_claims.items)) (sym (flat-is (λ k. opened_statements (prover_opened k)) b.concrete.items))
+    ∙ ap (λ l. scaled_from e.ops a 0 (l ++ virtual_statements e.number b.virtual_claims.items)) (sym (flat-is opened_statements prover_opened b.concrete.items))
 
 pub returns-clause-on : goal.returns-clause-on
 returns-clause-on g c n on =
@@ -54,5 +54,5 @@ returns-clause-on g c n on =
     scaled-on e.ops e.number a 0 n c.loop-virtual_claim.scaled.claims.items (statements_of (prover_recorded b))
     (c.loop-virtual_claim.invariant.claims_are
     ∙ ap (λ vs. scaled_from e.ops a 0 (opened ++ virtual_statements e.number vs)) all
-    ∙ ap (λ l. scaled_from e.ops a 0 (l ++ virtual_statements e.number b.virtual_claims.items)) (sym (flat-is (λ k. opened_statements (prover_opened k)) b.concrete.items)))
+    ∙ ap (λ l. scaled_from e.ops a 0 (l ++ virtual_statements e.number b.virtual_claims.items)) (sym (flat-is opened_statements prover_opened b.concrete.items)))
     on

@@ -1,16 +1,15 @@
-use Rattle.std.proofs.Common.{rules, ◌≡◌, ℕ, List, length, map, Ok, Err, refl, ap, sym, subst, ◌∙◌}
+use Rattle.std.proofs.Common.{rules, ◌≡◌, length, map, Ok, Err, refl, ap, sym, subst, ◌∙◌}
 use Rattle.std.proofs.lemmas.List.{length-map}
-use Rattle.sc_definitions.specs.Ring.{plus, times}
 use Rattle.sc_definitions.specs.Shown.{Shown}
 use Rattle.sc_commitments.specs.Draws.{Drawn, masks_from}
 use Rattle.sc_commitments.specs.Matrices.{lists_in}
 use Rattle.sc_zk_definitions.specs.declared.prelude.ZkPrelude.TheVariants.{RecordedClaims}
-use Rattle.sc_zk_definitions.specs.Masks.{masks_at, aux_after}
+use Rattle.sc_zk_definitions.specs.Masks.{masks_at}
 use Rattle.sc_zk_definitions.specs.MaskedTranscripts.{head}
 use Rattle.sc_zk_definitions.specs.MaskedBatches.{MaskedBatch, head_of}
-use Rattle.sc_zk_transcript.specs.Shapes.{fixed_by, IsFit}
+use Rattle.sc_zk_transcript.specs.Shapes.{fixed_by}
 use Rattle.sc_zk_rounds.specs.declared.in_step.MaskedRun.{MaskedRun}
-use Rattle.sc_zk_rounds.specs.Data.{sent_in, masked_wire_in}
+use Rattle.sc_zk_rounds.specs.Data.{sent_in}
 use Rattle.sc_zk_rounds.specs.Heads.{recorded_shape}
 use Rattle.sc_zk_rounds.specs.Handoffs.{AskedMasks, EndsMaskedBy}
 use Rattle.sc_zk_rounds.specs.Verified.{told_by, claim_by, LeavesMaskedReplay}

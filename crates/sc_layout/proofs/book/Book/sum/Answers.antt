@@ -1,4 +1,4 @@
-use Rattle.std.proofs.Common.{◌++◌, flat_map, map, take, take_all, append_assoc, sym, ap, ◌∙◌, subst, arith}
+use Rattle.std.proofs.Common.{◌++◌, flat_map, map, take, take_all, append_assoc, sym, ◌∙◌, subst, arith}
 use Rattle.sc_layout.specs.Sums.{IsBatchOf}
 use Rattle.sc_layout.proofs.BookLaws.{opened_values, flat-more, batched-book}
 use Rattle.sc_layout.proofs.book.Book.sum.Goals as goal
@@ -21,7 +21,8 @@ returns g c =
     let ms = c.args.self.now.concrete.items in
     let given = c.deref-claim-items.result.now in
     let all = take_all c.loop-claim.claim-index given (omega (arith, c.loop-claim-test.false)) ∙ c.deref-claim-items.ensures.value in
-    ap e.number c.sum.ensures
-    ∙ batched-book e.ops e.number (e.number c.args.alpha) g.M.OpenedClaim.opened c.args.self.now c.with_claims.result
-    (subst (λ vs. IsBatchOf e.ops e.number (e.number c.args.alpha) (flat_map of ms ++ map (λ v. e.number v.eval) vs) c.with_claims.result) c.deref.ensures.value
-    (c.with_claims.ensures (e.number c.args.alpha) (flat_map of ms) (subst (λ l. IsBatchOf e.ops e.number (e.number c.args.alpha) (flat_map of l) c.loop-claim.batch) all c.loop-claim.invariant)))
+    let a = e.number c.args.alpha in
+    c.sum.ensures a (flat_map of ms ++ map (λ v. e.number v.eval) c.args.self.now.virtual_claims.items)
+    (subst (λ vs. IsBatchOf e.ops e.number a (flat_map of ms ++ map (λ v. e.number v.eval) vs) c.with_claims.result) c.deref.ensures.value
+    (c.with_claims.ensures a (flat_map of ms) (subst (λ l. IsBatchOf e.ops e.number a (flat_map of l) c.loop-claim.batch) all c.loop-claim.invariant)))
+    ∙ batched-book e.ops e.number a g.M.OpenedClaim.opened c.args.self.now

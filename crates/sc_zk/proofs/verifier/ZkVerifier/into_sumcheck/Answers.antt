@@ -1,8 +1,7 @@
-use Rattle.std.proofs.Common.{rules, ◌≡◌, ◌<◌, ℕ, All, length, sym, ap, ◌∙◌, subst}
+use Rattle.std.proofs.Common.{rules, ◌≡◌, ◌<◌, All, length, sym, ap, ◌∙◌, subst}
 use Rattle.sc_definitions.specs.Statements.{batched_claim}
 use Rattle.sc_layout.specs.Openings.{statements_of}
 use Rattle.sc_zk_definitions.specs.MaskedTranscripts.{head}
-use Rattle.sc_zk_transcript.specs.declared.shape.ZkSumcheckShape.{ZkSumcheckShape}
 use Rattle.sc_zk_transcript.specs.Shapes.{fixed_by}
 use Rattle.sc_zk_rounds.specs.Data.{masked_wire_in}
 use Rattle.sc_zk_rounds.specs.Verified.{claim_by, told_by, LeavesMaskedReplay}

@@ -1,4 +1,4 @@
-use Rattle.std.proofs.Common.{◌≡◌, ℕ, map, sym, ap, ◌∙◌, subst}
+use Rattle.std.proofs.Common.{ℕ, map, sym, ap, ◌∙◌, subst}
 use Rattle.sc_definitions.specs.Combined.{combined_weight}
 use Rattle.sc_definitions.specs.Shown.{IsTrueClaim}
 use Rattle.sc_table.specs.Polys.{table_of}

@@ -1,4 +1,4 @@
-use Rattle.std.proofs.Common.{◌≡◌, ℕ, map, length, ap, ◌∙◌, sym, subst}
+use Rattle.std.proofs.Common.{ℕ, map, length, ap, ◌∙◌, sym, subst}
 use Rattle.sc_definitions.specs.Combined.{combined_weight, scaled_from}
 use Rattle.sc_definitions.proofs.Lengths.{pow-same}
 use Rattle.sc_table.specs.Polys.{variables_of, table_of}
@@ -27,7 +27,7 @@ returns g c = λ claim scaled is.
     let e = g.EF.Field in
     let o = e.ops in
     let N = e.number in
-    let l = laid_by g.O.BindingOrder.binds c.args.self in
+    let l = laid_by c.args.self in
     let b = batch_in c.in_ok-batch.batch in
     let made = c.in_ok-batch.ensures.made in
     let a = N c.args.alpha in
