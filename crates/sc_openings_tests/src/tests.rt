@@ -1,8 +1,10 @@
 //! Claims on tables, by figures by hand.
 mod figures;
+mod refused;
 mod texts;
 
-use figures::{CHECKED, HASHED, IN_PARTS, OF_SIXTEEN, PLAYED, REFUSED};
+use figures::{CHECKED, HASHED, IN_PARTS, OF_SIXTEEN, PLAYED};
+use refused::REFUSED;
 use sc_challenger::{Challenger, Event, HashChallenger};
 use sc_field::{ExtensionField, Field, NoMemory};
 use sc_openings::{
@@ -124,14 +126,24 @@ fn answered<F: Field, EF: ExtensionField<F>, C: Challenger<F>>(
         None => None,
         Some(wanted) => Some(made_proof(alloc, wanted)?),
     };
+    audited(alloc, case, &tables, &claims, proof.as_ref(), challenger)
+}
+
+// The same with tables, of which there is one or more, claims and a proof in memory.
+fn audited<F: Field, EF: ExtensionField<F>, C: Challenger<F>>(
+    alloc: Global,
+    case: &Case,
+    tables: &[Vec<F>],
+    claims: &[OpeningClaim<EF>],
+    proof: Option<&MergeProof<F, EF>>,
+    challenger: &mut C,
+) -> Result<MergeReport<F, EF>, MergeError> {
+    if tables.is_empty() {
+        return Err(MergeError::NoMemory);
+    }
+    let (variables, pow_bits) = (case.variables, case.pow_bits);
     audit_openings(
-        alloc,
-        case.variables,
-        &tables,
-        &claims,
-        case.pow_bits,
-        proof.as_ref(),
-        challenger,
+        alloc, variables, tables, claims, pow_bits, proof, challenger,
     )
 }
 
@@ -227,12 +239,12 @@ fn the_hash_challenger_with_bits(rt: HostRuntime) {
     let tables = tables::<F65537>(alloc, HASHED.tables).expect(&rt, "memory");
     let claims = claims::<F65537>(alloc, HASHED.claims).expect(&rt, "memory");
     let mut builder = HashChallenger::<F65537>::new(alloc);
-    let built = audit_openings(alloc, 2, &tables, &claims, 3, None, &mut builder);
+    let built = audited(alloc, &HASHED, &tables, &claims, None, &mut builder);
     let built = built.expect(&rt, "a report");
     assert!(&rt; is_found(&built.verdict, Found::Holds));
     let mut checker = HashChallenger::<F65537>::new(alloc);
     let proof = Some(&built.proof);
-    let checked = audit_openings(alloc, 2, &tables, &claims, 3, proof, &mut checker);
+    let checked = audited(alloc, &HASHED, &tables, &claims, proof, &mut checker);
     let checked = checked.expect(&rt, "a report");
     assert!(&rt; is_found(&checked.verdict, Found::Holds));
     assert!(&rt; checked.residual == built.residual);

@@ -1,12 +1,11 @@
 //! The figures of the tests.
 use super::{Case, Claim, Found, Proof, Shown};
 use sc_challenger::Event;
-use sc_openings::MergeError;
 
 // How many words the seed of one round has, without a test and with one, and that of two rounds.
 const ONE_ROUND: usize = 248;
 
-const ONE_TESTED_ROUND: usize = 318;
+pub const ONE_TESTED_ROUND: usize = 318;
 
 const TWO_ROUNDS: usize = 402;
 
@@ -15,21 +14,21 @@ const TWO_ROUNDS: usize = 402;
 //
 // Round 0 sends 1 * 1 + 3 * 0 = 1 and (2 - 1) (0 - 1) + (4 - 3) (2 - 0) = 1. At the challenge 3 the
 // tables are 1 + 3 = 4 and 3 + 3 = 6, the weights -2 and 6, and -2 * 4 + 6 * 6 = 28.
-const FIRST: Claim = Claim {
+pub const FIRST: Claim = Claim {
     table: 0,
     point: &[0],
     successor: false,
     value: 1,
 };
 
-const SECOND: Claim = Claim {
+pub const SECOND: Claim = Claim {
     table: 1,
     point: &[1],
     successor: false,
     value: 4,
 };
 
-const TRUE_PROOF: Proof = Proof {
+pub const TRUE_PROOF: Proof = Proof {
     rounds: &[(1, 1)],
     witnesses: &[],
     openings: &[4, 6],
@@ -44,7 +43,7 @@ const TRUE_SHOWN: Shown = Shown {
     found: Found::Holds,
 };
 
-const BUILT: Case = Case {
+pub const BUILT: Case = Case {
     name: "a claim on each of two tables",
     variables: 1,
     tables: &[&[1, 2], &[3, 4]],
@@ -65,7 +64,7 @@ const BUILT: Case = Case {
 };
 
 // Of one row each: no round is played, and the one weight is 1, of next rows too.
-const ONE_ROW: Case = Case {
+pub const ONE_ROW: Case = Case {
     name: "no variable",
     variables: 0,
     tables: &[&[5]],
@@ -88,7 +87,7 @@ const ONE_ROW: Case = Case {
     ..BUILT
 };
 
-const NO_ROUNDS: Proof = Proof {
+pub const NO_ROUNDS: Proof = Proof {
     rounds: &[],
     witnesses: &[],
     openings: &[5],
@@ -258,10 +257,10 @@ const TWO_VARIABLES: Case = Case {
 };
 
 // The values 3 and 3 differ from the true ones by 2 and -1, and 2 - 2 = 0 at the challenge 2.
-const LUCKY_CLAIMS: [Claim; 2] = [Claim { value: 3, ..FIRST }, Claim { value: 3, ..SECOND }];
+pub const LUCKY_CLAIMS: [Claim; 2] = [Claim { value: 3, ..FIRST }, Claim { value: 3, ..SECOND }];
 
 // Only the first value is false.
-const FALSE_CLAIMS: [Claim; 2] = [Claim { value: 2, ..FIRST }, SECOND];
+pub const FALSE_CLAIMS: [Claim; 2] = [Claim { value: 2, ..FIRST }, SECOND];
 
 const HANDED_IN: Case = Case {
     name: "the rounds and openings that are built",
@@ -375,215 +374,6 @@ pub static CHECKED: [Case; 7] = [
     },
 ];
 
-// The history of a refusal before an event is empty.
-const UNTOUCHED: Case = Case {
-    events: 0,
-    last: &[],
-    ..BUILT
-};
-
-const NO_TABLE: Claim = Claim {
-    table: 2,
-    point: &[0],
-    successor: false,
-    value: 1,
-};
-
-const NO_COORDINATE: Claim = Claim {
-    point: &[],
-    ..FIRST
-};
-
-const TWO_COORDINATES: Claim = Claim {
-    point: &[0, 1],
-    successor: true,
-    ..SECOND
-};
-
-const TWO_BITS: Case = Case {
-    pow_bits: 2,
-    good: &[&[5]],
-    ..UNTOUCHED
-};
-
-pub static REFUSED: [Case; 16] = [
-    Case {
-        name: "17 variables",
-        variables: 17,
-        tables: &[&[1, 2], &[3]],
-        claims: &[NO_TABLE],
-        answer: Err(MergeError::TableLength { table: 0, len: 2 }),
-        ..UNTOUCHED
-    },
-    Case {
-        name: "a length of the second table, before all claims",
-        tables: &[&[1, 2], &[3], &[]],
-        claims: &[NO_TABLE, NO_COORDINATE],
-        pow_bits: 17,
-        answer: Err(MergeError::TableLength { table: 1, len: 1 }),
-        ..UNTOUCHED
-    },
-    Case {
-        name: "a claim on no table, before an arity",
-        claims: &[NO_COORDINATE, NO_TABLE, NO_TABLE],
-        pow_bits: 17,
-        answer: Err(MergeError::ClaimTable { claim: 1, table: 2 }),
-        ..UNTOUCHED
-    },
-    Case {
-        name: "two coordinates, before the difficulty",
-        claims: &[FIRST, TWO_COORDINATES, NO_COORDINATE],
-        pow_bits: 17,
-        answer: Err(MergeError::ClaimArity {
-            claim: 1,
-            expected: 1,
-            actual: 2,
-        }),
-        ..UNTOUCHED
-    },
-    Case {
-        name: "no coordinate",
-        claims: &[NO_COORDINATE],
-        answer: Err(MergeError::ClaimArity {
-            claim: 0,
-            expected: 1,
-            actual: 0,
-        }),
-        ..UNTOUCHED
-    },
-    Case {
-        name: "a difficulty above the greatest one, before a false claim",
-        claims: &FALSE_CLAIMS,
-        pow_bits: 17,
-        answer: Err(MergeError::Difficulty {
-            bits: 17,
-            bound: 16,
-        }),
-        ..UNTOUCHED
-    },
-    Case {
-        name: "a difficulty above the greatest one, before the counts",
-        pow_bits: 17,
-        proof: Some(NO_ROUNDS),
-        answer: Err(MergeError::Difficulty {
-            bits: 17,
-            bound: 16,
-        }),
-        ..UNTOUCHED
-    },
-    Case {
-        name: "two false claims",
-        claims: &LUCKY_CLAIMS,
-        answer: Err(MergeError::FalseClaim {
-            claim: 0,
-            claimed: 3,
-            actual: 1,
-        }),
-        ..UNTOUCHED
-    },
-    Case {
-        name: "a false next row",
-        claims: &[
-            FIRST,
-            Claim {
-                table: 1,
-                point: &[0],
-                successor: true,
-                value: 3,
-            },
-        ],
-        answer: Err(MergeError::FalseClaim {
-            claim: 1,
-            claimed: 3,
-            actual: 4,
-        }),
-        ..UNTOUCHED
-    },
-    Case {
-        name: "one opening, before the rounds",
-        proof: Some(NO_ROUNDS),
-        answer: Err(MergeError::OpeningCount {
-            expected: 2,
-            actual: 1,
-        }),
-        ..UNTOUCHED
-    },
-    Case {
-        name: "no round, before the witnesses",
-        proof: Some(Proof {
-            rounds: &[],
-            witnesses: &[5],
-            ..TRUE_PROOF
-        }),
-        answer: Err(MergeError::RoundCountMismatch {
-            expected: 1,
-            actual: 0,
-        }),
-        ..UNTOUCHED
-    },
-    Case {
-        name: "a round for no variable",
-        proof: Some(Proof {
-            rounds: &[(1, 1)],
-            ..NO_ROUNDS
-        }),
-        answer: Err(MergeError::RoundCountMismatch {
-            expected: 0,
-            actual: 1,
-        }),
-        events: 0,
-        last: &[],
-        ..ONE_ROW
-    },
-    Case {
-        name: "a witness without a difficulty",
-        proof: Some(Proof {
-            witnesses: &[5],
-            ..TRUE_PROOF
-        }),
-        answer: Err(MergeError::PowWitnessCountMismatch {
-            expected: 0,
-            actual: 1,
-        }),
-        ..UNTOUCHED
-    },
-    Case {
-        name: "a difficulty without a witness",
-        proof: Some(TRUE_PROOF),
-        answer: Err(MergeError::PowWitnessCountMismatch {
-            expected: 1,
-            actual: 0,
-        }),
-        ..TWO_BITS
-    },
-    // the history ends with the test
-    Case {
-        name: "a witness that does not pass",
-        proof: Some(Proof {
-            witnesses: &[6],
-            ..TRUE_PROOF
-        }),
-        answer: Err(MergeError::InvalidPowWitness {
-            round: 0,
-            difficulty: 2,
-        }),
-        events: 3 + ONE_TESTED_ROUND + 4,
-        last: &[
-            Event::Word(1),
-            Event::Word(1),
-            Event::Word(6),
-            Event::Test(2),
-        ],
-        ..TWO_BITS
-    },
-    Case {
-        name: "no witness passes",
-        good: &[&[]],
-        answer: Err(MergeError::NoWitness { round: 0 }),
-        ..TWO_BITS
-    },
-];
-
 // The same over elements of two parts: the draws are 2 and 3, each with the second part 0, and the
 // figures are those above, modulo 257. Elements have the number of their first part then.
 pub static IN_PARTS: [Case; 2] = [
@@ -641,4 +431,7 @@ pub static OF_SIXTEEN: Case = Case {
     ..BUILT
 };
 
-pub static HASHED: Case = TWO_VARIABLES;
+pub static HASHED: Case = Case {
+    pow_bits: 3,
+    ..TWO_VARIABLES
+};
