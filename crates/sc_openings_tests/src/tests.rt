@@ -1,0 +1,252 @@
+//! Claims on tables, by figures by hand.
+mod figures;
+mod refused;
+mod texts;
+
+use figures::{CHECKED, HASHED, IN_PARTS, OF_SIXTEEN, PLAYED};
+use refused::REFUSED;
+use sc_challenger::{Challenger, Event, HashChallenger};
+use sc_field::{ExtensionField, Field, NoMemory};
+use sc_openings::{
+    MergeError, MergeProof, MergeReport, MergeVerdict, OpeningClaim, SumcheckData, audit_openings,
+};
+use sc_sixteen::Tower16;
+use sc_small_fields::{F257, F257x2, F65537};
+use sc_table::RoundMessage;
+use sc_tests_common::{are_pairs, elements, have_numbers, of, point, scripted};
+use std::alloc::Global;
+use std::process::Abort;
+
+// The value of a table at a point is claimed, or that of the table of its next rows.
+#[derive(Clone, Copy)]
+struct Claim {
+    table: usize,
+    point: &'static [u64],
+    successor: bool,
+    value: u64,
+}
+
+// The values of the rounds, the witnesses and the openings of a proof.
+#[derive(Clone, Copy)]
+struct Proof {
+    rounds: &'static [(u64, u64)],
+    witnesses: &'static [u64],
+    openings: &'static [u64],
+}
+
+// What rounds and openings say of the claims: of a lucky batch the polynomial and the number of its
+// roots, and of a lucky round its number too.
+#[derive(Clone, Copy)]
+enum Found {
+    Holds,
+    Refuted,
+    Batch(&'static [u64], u64),
+    Round(usize, &'static [u64], u64),
+}
+
+// A report.
+#[derive(Clone, Copy)]
+struct Shown {
+    claim: u64,
+    proof: Proof,
+    challenges: &'static [u64],
+    residual: u64,
+    weights: &'static [u64],
+    found: Found,
+}
+
+// What is asked, which is a build without a proof, the draws and the witnesses that pass, the
+// answer, and how many events are the history after it, with the last of them.
+#[derive(Clone, Copy)]
+struct Case {
+    name: &'static str,
+    variables: usize,
+    tables: &'static [&'static [u64]],
+    claims: &'static [Claim],
+    pow_bits: usize,
+    proof: Option<Proof>,
+    draws: &'static [u64],
+    good: &'static [&'static [u64]],
+    answer: Result<Shown, MergeError>,
+    events: usize,
+    last: &'static [Event],
+}
+
+fn tables<F: Field>(alloc: Global, entries: &[&[u64]]) -> Result<Vec<Vec<F>>, NoMemory> {
+    let mut tables = Vec::new(alloc);
+    for numbers in entries {
+        tables.push(elements(alloc, numbers)?)?;
+    }
+    Ok(tables)
+}
+
+fn claims<EF: Field>(alloc: Global, wanted: &[Claim]) -> Result<Vec<OpeningClaim<EF>>, NoMemory> {
+    let mut claims = Vec::new(alloc);
+    for claim in wanted {
+        claims.push(OpeningClaim {
+            table: claim.table,
+            point: point(alloc, claim.point)?,
+            successor: claim.successor,
+            value: of(claim.value),
+        })?;
+    }
+    Ok(claims)
+}
+
+fn made_proof<F: Field, EF: ExtensionField<F>>(
+    alloc: Global,
+    proof: &Proof,
+) -> Result<MergeProof<F, EF>, NoMemory> {
+    let mut polynomial_evaluations = Vec::new(alloc);
+    for (c_a, c_inf) in proof.rounds {
+        polynomial_evaluations.push(RoundMessage {
+            c_a: of(*c_a),
+            c_inf: of(*c_inf),
+        })?;
+    }
+    let pow_witnesses = elements(alloc, proof.witnesses)?;
+    Ok(MergeProof {
+        rounds: SumcheckData {
+            polynomial_evaluations,
+            pow_witnesses,
+        },
+        openings: elements(alloc, proof.openings)?,
+    })
+}
+
+// The answer to a case.
+fn answered<F: Field, EF: ExtensionField<F>, C: Challenger<F>>(
+    alloc: Global,
+    case: &Case,
+    challenger: &mut C,
+) -> Result<MergeReport<F, EF>, MergeError> {
+    let tables = tables(alloc, case.tables)?;
+    let claims = claims(alloc, case.claims)?;
+    let proof = match &case.proof {
+        None => None,
+        Some(wanted) => Some(made_proof(alloc, wanted)?),
+    };
+    audited(alloc, case, &tables, &claims, proof.as_ref(), challenger)
+}
+
+// The same with tables, of which there is one or more, claims and a proof in memory.
+fn audited<F: Field, EF: ExtensionField<F>, C: Challenger<F>>(
+    alloc: Global,
+    case: &Case,
+    tables: &[Vec<F>],
+    claims: &[OpeningClaim<EF>],
+    proof: Option<&MergeProof<F, EF>>,
+    challenger: &mut C,
+) -> Result<MergeReport<F, EF>, MergeError> {
+    if tables.is_empty() {
+        return Err(MergeError::NoMemory);
+    }
+    let (variables, pow_bits) = (case.variables, case.pow_bits);
+    audit_openings(
+        alloc, variables, tables, claims, pow_bits, proof, challenger,
+    )
+}
+
+fn is_found<EF: Field>(verdict: &MergeVerdict<EF>, wanted: Found) -> bool {
+    match (verdict, wanted) {
+        (MergeVerdict::Holds, Found::Holds) => true,
+        (MergeVerdict::Refuted, Found::Refuted) => true,
+        (MergeVerdict::LuckyBatch { poly, vanishing }, Found::Batch(numbers, roots)) => {
+            have_numbers(poly.as_slice(), numbers) && *vanishing == roots
+        }
+        (
+            MergeVerdict::LuckyRound {
+                round,
+                poly,
+                vanishing,
+            },
+            Found::Round(i, numbers, roots),
+        ) => *round == i && have_numbers(poly.as_slice(), numbers) && *vanishing == roots,
+        _ => false,
+    }
+}
+
+fn is_shown<F: Field, EF: ExtensionField<F>>(report: &MergeReport<F, EF>, shown: &Shown) -> bool {
+    let rounds = &report.proof.rounds;
+    report.claim.index() == shown.claim
+        && are_pairs(&rounds.polynomial_evaluations, shown.proof.rounds)
+        && have_numbers(&rounds.pow_witnesses, shown.proof.witnesses)
+        && have_numbers(&report.proof.openings, shown.proof.openings)
+        && have_numbers(report.challenges.as_slice(), shown.challenges)
+        && report.residual.index() == shown.residual
+        && have_numbers(report.weights.as_slice(), shown.weights)
+        && is_found(&report.verdict, shown.found)
+}
+
+fn is_answer<F: Field, EF: ExtensionField<F>>(
+    answer: &Result<MergeReport<F, EF>, MergeError>,
+    wanted: &Result<Shown, MergeError>,
+) -> bool {
+    match (answer, wanted) {
+        (Ok(report), Ok(shown)) => is_shown(report, shown),
+        (Err(error), Err(refusal)) => *error == *refusal,
+        _ => false,
+    }
+}
+
+fn assert_scripted<F: Field, EF: ExtensionField<F>, A: Abort>(rt: &A, alloc: Global, case: &Case) {
+    let mut challenger = scripted::<F>(alloc, case.draws, case.good).expect(rt, "an answer");
+    let answer = answered::<F, EF, _>(alloc, case, &mut challenger);
+    assert!(rt; is_answer(&answer, &case.answer), "{}", case.name);
+    assert_eq!(rt; challenger.events().len(), case.events, "{}", case.name);
+    assert!(rt; challenger.events().ends_with(case.last), "{}", case.name);
+}
+
+#[test]
+fn rounds_that_are_built(rt: HostRuntime) {
+    for case in &PLAYED {
+        assert_scripted::<F65537, F65537, _>(&rt, rt.alloc(), case);
+    }
+}
+
+#[test]
+fn rounds_that_are_checked(rt: HostRuntime) {
+    for case in &CHECKED {
+        assert_scripted::<F65537, F65537, _>(&rt, rt.alloc(), case);
+    }
+}
+
+#[test]
+fn tables_claims_and_proofs_that_are_refused(rt: HostRuntime) {
+    for case in &REFUSED {
+        assert_scripted::<F65537, F65537, _>(&rt, rt.alloc(), case);
+    }
+}
+
+#[test]
+fn challenges_in_an_extension(rt: HostRuntime) {
+    for case in &IN_PARTS {
+        assert_scripted::<F257, F257x2, _>(&rt, rt.alloc(), case);
+    }
+}
+
+#[test]
+fn a_field_of_16_elements(rt: HostRuntime) {
+    let mut challenger = scripted::<Tower16>(rt.alloc(), &[1, 1], &[]).expect(&rt, "an answer");
+    let answer = answered::<Tower16, Tower16, _>(rt.alloc(), &OF_SIXTEEN, &mut challenger);
+    assert!(&rt; is_answer(&answer, &OF_SIXTEEN.answer));
+}
+
+// What is built under the hash challenger holds, and so it does when it is handed in.
+#[test]
+fn the_hash_challenger_with_bits(rt: HostRuntime) {
+    let alloc = rt.alloc();
+    let tables = tables::<F65537>(alloc, HASHED.tables).expect(&rt, "memory");
+    let claims = claims::<F65537>(alloc, HASHED.claims).expect(&rt, "memory");
+    let mut builder = HashChallenger::<F65537>::new(alloc);
+    let built = audited(alloc, &HASHED, &tables, &claims, None, &mut builder);
+    let built = built.expect(&rt, "a report");
+    assert!(&rt; is_found(&built.verdict, Found::Holds));
+    let mut checker = HashChallenger::<F65537>::new(alloc);
+    let proof = Some(&built.proof);
+    let checked = audited(alloc, &HASHED, &tables, &claims, proof, &mut checker);
+    let checked = checked.expect(&rt, "a report");
+    assert!(&rt; is_found(&checked.verdict, Found::Holds));
+    assert!(&rt; checked.residual == built.residual);
+    assert!(&rt; checker.sample() == builder.sample());
+}
