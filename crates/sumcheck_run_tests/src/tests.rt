@@ -1,6 +1,7 @@
 //! Whole runs over memory.
 mod cases;
 mod challengers;
+mod circuits;
 mod explains;
 mod fields;
 mod jobs;
