@@ -2,7 +2,7 @@
 ghost use Rattle.std.specs.Prelude.{◌≡◌, ℕ, ◌+◌, ◌<◌, ◌≤◌, ◌^◌, List, length, map};
 ghost use Rattle.std.specs.Prelude.{◌∷◌, ◌++◌, [], OnOk};
 ghost use Rattle.sc_definitions.specs.Tables.{entries, rows_of};
-ghost use Rattle.sc_challenger.specs.Parties.{channel_by};
+ghost use Rattle.sc_challenger.specs.Parties.{IsCopyOf, channel_by};
 ghost use Rattle.sc_circuit_definitions.specs.Circuits.{IsWidth, PlacesBelow};
 ghost use Rattle.sc_circuit_definitions.specs.Circuits.{top_width, IsCircuit};
 ghost use Rattle.sc_circuit_definitions.specs.CircuitPlays.{CircuitCase};
@@ -18,6 +18,7 @@ use crate::error::CircuitError;
 use crate::layers::{LayerOver, Stack, replay_next};
 use crate::proof::LayerProof;
 use crate::reached::Reached;
+use crate::replay::merge_values;
 use crate::values::images;
 use sc_challenger::Challenger;
 use sc_degree::GenericDegreeError;
@@ -32,14 +33,16 @@ pub(crate) struct Building<F, EF> {
     pub reached: Reached<EF>,
 }
 
-// Builds a layer over the values below on a copy of the challenger, under the claim that was
-// reached, and goes on to the layer below by a replay of it.
+// Builds a layer over the values below, under the claim that was reached, and goes on to the layer
+// below by a replay of it. The prover is a challenger that stands where the other one does, before
+// and after: so no history is copied for a layer.
 fn build_next<F: Field, EF: ExtensionField<F>, C: Challenger<F>>(
     alloc: Global,
     over: LayerOver<'_>,
     below: &[F],
     pow_bits: usize,
     reached: &mut Reached<EF>,
+    prover: &mut C,
     challenger: &mut C,
 ) -> Result<LayerProof<F, EF>, CircuitError>
     requires width { IsWidth over.below }
@@ -47,7 +50,9 @@ fn build_next<F: Field, EF: ExtensionField<F>, C: Challenger<F>>(
     requires weights { length over.gates.now ≤ length reached.old.weights.items }
     requires below { length below.now ≡ over.below }
     requires difficulty { pow_bits ≤ (C.party challenger.old).rules.max_bits }
+    requires same { IsCopyOf (C.party challenger.old) (C.party prover.old) }
     ensures rules { (C.party challenger.new).rules ≡ (C.party challenger.old).rules }
+    ensures in_step { OnOk result (IsCopyOf (C.party challenger.new) (C.party prover.new)) }
     ensures left { LeavesBuildStep F.number EF.number (build_of
         (run_by EF.ops (C.party challenger.old) EF.extension F.ops.size pow_bits
         (rounds_above over.entry.below) (EF.number reached.old.claim)) over.entry
@@ -56,7 +61,6 @@ fn build_next<F: Field, EF: ExtensionField<F>, C: Challenger<F>>(
         (C.party challenger.new).history }
 {
     let values = images::<F, EF>(alloc, below)?;
-    let mut copied = challenger.copy(alloc)?;
     let weights = reached.weights.as_slice();
     match build_layer(
         alloc,
@@ -65,10 +69,11 @@ fn build_next<F: Field, EF: ExtensionField<F>, C: Challenger<F>>(
         &values,
         reached.claim,
         pow_bits,
-        &mut copied,
+        prover,
     ) {
         Ok(layer) => {
             replay_next(alloc, over, &layer, pow_bits, reached, challenger)?;
+            let _merge = merge_values(prover, layer.left, layer.right)?;
             Ok(layer)
         }
         Err(error) => Err(build_refusal(over.layer, error)),
@@ -103,13 +108,14 @@ fn put_layer<F: Drop, EF: Drop>(
 }
 
 // Builds these layers over the values of the layers below them, each under the claim that was
-// reached, and puts them after those that were built.
+// reached, and puts them after those that were built. The prover stands where the challenger does.
 pub(crate) fn build_from<F: Field, EF: ExtensionField<F>, C: Challenger<F>>(
     alloc: Global,
     stack: Stack<'_>,
     below: &[Row<F>],
     pow_bits: usize,
     building: &mut Building<F, EF>,
+    prover: &mut C,
     challenger: &mut C,
 ) -> Result<(), CircuitError>
     requires circuit { IsCircuit (stack_layers stack) stack.inputs }
@@ -119,6 +125,7 @@ pub(crate) fn build_from<F: Field, EF: ExtensionField<F>, C: Challenger<F>>(
     requires weights { length building.old.reached.weights.items
         ≡ top_width (stack_layers stack) stack.inputs }
     requires difficulty { pow_bits ≤ (C.party challenger.old).rules.max_bits }
+    requires same { IsCopyOf (C.party challenger.old) (C.party prover.old) }
     ensures rules { (C.party challenger.new).rules ≡ (C.party challenger.old).rules }
     ensures left { (q : CircuitCase) (w : ℕ → ℕ) (drawn : ℕ) (excess : List ℕ)
         → IsReachedBy EF.number q stack.entry building.old.reached w
@@ -148,6 +155,7 @@ pub(crate) fn build_from<F: Field, EF: ExtensionField<F>, C: Challenger<F>>(
         values.as_slice(),
         pow_bits,
         reached,
+        prover,
         challenger,
     )?;
     put_layer(&mut building.built, layer)?;
@@ -156,5 +164,5 @@ pub(crate) fn build_from<F: Field, EF: ExtensionField<F>, C: Challenger<F>>(
         inputs: stack.inputs,
         first: stack.first + 1,
     };
-    build_from(alloc, rest, deeper, pow_bits, building, challenger)
+    build_from(alloc, rest, deeper, pow_bits, building, prover, challenger)
 }

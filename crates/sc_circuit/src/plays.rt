@@ -20,8 +20,9 @@ use sc_field::{ExtensionField, Field};
 use sc_memory::{NoMemory, with_room};
 use std::alloc::Global;
 
-// Builds the layers of claimed outputs, unless one of these is false. Each layer is built on a copy
-// of a challenger, and then replayed on it; that challenger is a copy too, until all are built.
+// Builds the layers of claimed outputs, unless one of these is false. Each layer is built on one
+// challenger, and then replayed on another one, which stands where the first does. Both are copies,
+// until all layers are built.
 pub(crate) fn build<F: Field, EF: ExtensionField<F>, C: Challenger<F>>(
     alloc: Global,
     asked: &Asked<'_, F>,
@@ -46,12 +47,14 @@ pub(crate) fn build<F: Field, EF: ExtensionField<F>, C: Challenger<F>>(
         reached,
     };
     let stack = asked.circuit.stack();
+    let mut prover = playing.copy(alloc)?;
     build_from(
         alloc,
         stack,
         &values[1..],
         asked.pow_bits,
         &mut building,
+        &mut prover,
         &mut playing,
     )?;
     let Building { built, reached } = building;

@@ -90,7 +90,7 @@ pub(crate) fn copied_values<EF: Field>(
 
 // Observes the two values of a layer, and draws the challenge that merges them. A refusal leaves
 // the history as it was.
-fn merge_values<F: Field, EF: ExtensionField<F>, C: Challenger<F>>(
+pub(crate) fn merge_values<F: Field, EF: ExtensionField<F>, C: Challenger<F>>(
     challenger: &mut C,
     left: EF,
     right: EF,
