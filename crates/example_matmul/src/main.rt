@@ -26,7 +26,12 @@ fn main(rt: HostRuntime) -> anyhow::Result<()> {
         Ok(_) => println!(rt; "a false entry is not told")?,
         Err(error) => println!(rt; "with a false entry: {error}")?,
     }
-    let report = audit(alloc, &claim, Some(&built.rounds), &mut HashChallenger::new(alloc))?;
+    let report = audit(
+        alloc,
+        &claim,
+        Some(&built.rounds),
+        &mut HashChallenger::new(alloc),
+    )?;
     println!(rt; "its rounds, handed in: {}", told(&report.verdict))?;
 
     // under a script the point is known, and two entries can be chosen by it
@@ -50,7 +55,15 @@ fn audit<C: Challenger<F>>(
     rounds: Option<&SumcheckData<F, F>>,
     challenger: &mut C,
 ) -> Report {
-    audit_matmul(alloc, &claim.left, &claim.right, &claim.claimed, 0, rounds, challenger)
+    audit_matmul(
+        alloc,
+        &claim.left,
+        &claim.right,
+        &claim.claimed,
+        0,
+        rounds,
+        challenger,
+    )
 }
 
 // A challenger whose first draw, the point, is 2.

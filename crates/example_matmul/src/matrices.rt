@@ -56,7 +56,10 @@ pub fn changed(alloc: Global, claim: Claim, place: usize, by: F) -> anyhow::Resu
 // The matrix of these entries, of which there have to be as many as it has.
 fn square(entries: Vec<F>) -> anyhow::Result<Matrix<F>> {
     if entries.len() != SIDE * SIDE {
-        anyhow::bail!("{} entries are no square matrix of {SIDE} rows", entries.len());
+        anyhow::bail!(
+            "{} entries are no square matrix of {SIDE} rows",
+            entries.len()
+        );
     }
     Ok(Matrix::new(SIDE, SIDE, entries))
 }
