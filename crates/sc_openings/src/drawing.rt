@@ -1,6 +1,7 @@
 //! What is observed and drawn around the rounds: the claimed values and the challenge that merges
 //! them, and the openings.
-ghost use Rattle.std.specs.Prelude.{◌≡◌, ◌+◌, ◌*◌, ◌++◌, IfOk, IfSome, OnOk, OnErr, length, map, replicate};
+ghost use Rattle.std.specs.Prelude.{◌≡◌, ◌+◌, ◌*◌, ◌++◌, IfOk, IfSome, OnOk, OnErr};
+ghost use Rattle.std.specs.Prelude.{length, map, replicate};
 ghost use Rattle.sc_definitions.specs.declared.events.Event.TheVariants.{Draw};
 ghost use Rattle.sc_definitions.specs.Events.{extension_draw};
 ghost use Rattle.sc_definitions.specs.Transcript.{sent};

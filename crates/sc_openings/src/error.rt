@@ -3,7 +3,8 @@ use sc_memory::NoMemory;
 use thiserror::Error;
 
 /// Why there is no report. The refusals are tested in this order, but that
-/// [`MergeError::NoMemory`] may come before any other. Tables, claims and rounds are counted from 0.
+/// [`MergeError::NoMemory`] may come before any other. Tables, claims and rounds are counted from
+/// 0.
 #[derive(Clone, Copy, Debug, PartialEq, Eq, Error)]
 pub enum MergeError {
     /// This table, the first such one, has not one entry for each row of the variables. Where there

@@ -1,8 +1,10 @@
 //! Whether tables, the claims on them and the difficulty fit.
 ghost use Rattle.std.specs.Prelude.{◌≡◌, ℕ, ◌≤◌, ◌^◌, None, IfOk, OnOk, length, map};
 ghost use Rattle.sc_challenger.specs.Parties.{Party};
-ghost use Rattle.sc_openings.specs.OpeningsJobs.{fields, claim_in, claimed_in, case_of, AreFieldsOf};
-ghost use Rattle.sc_openings.specs.Shapes.{or_later, fault_in, first_fault, tables_fault, length_fault};
+ghost use Rattle.sc_openings.specs.OpeningsJobs.{fields, claim_in, claimed_in, case_of};
+ghost use Rattle.sc_openings.specs.OpeningsJobs.{AreFieldsOf};
+ghost use Rattle.sc_openings.specs.Shapes.{or_later, fault_in, first_fault, tables_fault};
+ghost use Rattle.sc_openings.specs.Shapes.{length_fault};
 ghost use Rattle.sc_openings.specs.Shapes.{name_fault, arity_fault, difficulty_fault, shape_fault};
 
 use crate::claim::OpeningClaim;
@@ -19,7 +21,8 @@ pub(crate) struct FittingClaims<'a, F: Field, EF: ExtensionField<F>> {
     pub(crate) tables: &'a [Vec<F>],
     pub(crate) claims: &'a [OpeningClaim<EF>],
     pub(crate) pow_bits: usize,
-    // It says nothing but which fields the claims are over, so that contracts need not say it again.
+    // It says nothing but which fields the claims are over, so that contracts need not say it
+    // again.
     ghost over: { AreFieldsOf F.number EF.number EF.embedding EF.extension },
     ghost some: { 1 ≤ length tables.now },
     ghost fits: { shape_fault num_variables (map (λ t. length t.items) tables.now)

@@ -213,8 +213,8 @@ pub static PLAYED: [Case; 8] = [
 ];
 
 // The weights are 0, 1, 2 and 0: those of row 1, and twice those of the row after it. Round 0 sends
-// 1 * 0 + 2 * 1 = 2 and 2 * 2 + 2 * -1 = 2. At 3 the rows are 7 and 8 with the weights 6 and -2; round
-// 1 sends 42 and 1 * -8. At 5 the opening is 12 and the weight -34.
+// 1 * 0 + 2 * 1 = 2 and 2 * 2 + 2 * -1 = 2. At 3 the rows are 7 and 8 with the weights 6 and -2;
+// round 1 sends 42 and 1 * -8. At 5 the opening is 12 and the weight -34.
 const TWO_VARIABLES: Case = Case {
     name: "a row and a next row of two variables",
     variables: 2,
@@ -412,7 +412,8 @@ pub static IN_PARTS: [Case; 2] = [
 ];
 
 // At the challenge 1 the claim is 1 + 4 = 5, where a sum is the exclusive or. Round 0 sends 1 and
-// (2 + 1) (0 + 1) + (4 + 3) (1 + 0) = 3 + 7 = 4. At the challenge 1 the openings are the second rows.
+// (2 + 1) (0 + 1) + (4 + 3) (1 + 0) = 3 + 7 = 4. At the challenge 1 the openings are the second
+// rows.
 pub static OF_SIXTEEN: Case = Case {
     name: "sixteen elements",
     draws: &[1, 1],
