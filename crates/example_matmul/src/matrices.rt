@@ -87,7 +87,8 @@ fn product_entry(row: usize, col: usize) -> F
 {
     let mut sum = F::ZERO;
     for x in 0..SIDE {
-        sum = sum.add(left_entry(row, x).mul(right_entry(x, col)));
+        let share = left_entry(row, x).mul(right_entry(x, col));
+        sum = sum.add(share);
     }
     sum
 }
