@@ -1,9 +1,14 @@
 //! Claims on tables, by figures by hand.
+mod checked;
+mod fields;
 mod figures;
+mod many;
 mod refused;
 mod texts;
 
-use figures::{CHECKED, HASHED, IN_PARTS, OF_SIXTEEN, PLAYED};
+use checked::CHECKED;
+use fields::{HASHED, HASHED_IN_PARTS, IN_PARTS, OF_SIXTEEN};
+use figures::PLAYED;
 use refused::REFUSED;
 use sc_challenger::{Challenger, Event, HashChallenger};
 use sc_field::{ExtensionField, Field, NoMemory};
@@ -56,7 +61,7 @@ struct Shown {
 }
 
 // What is asked, which is a build without a proof, the draws and the witnesses that pass, the
-// answer, and how many events are the history after it, with the last of them.
+// answer, and how many events are the history after it, with the first and the last of them.
 #[derive(Clone, Copy)]
 struct Case {
     name: &'static str,
@@ -69,6 +74,7 @@ struct Case {
     good: &'static [&'static [u64]],
     answer: Result<Shown, MergeError>,
     events: usize,
+    first: &'static [Event],
     last: &'static [Event],
 }
 
@@ -122,26 +128,25 @@ fn answered<F: Field, EF: ExtensionField<F>, C: Challenger<F>>(
 ) -> Result<MergeReport<F, EF>, MergeError> {
     let tables = tables(alloc, case.tables)?;
     let claims = claims(alloc, case.claims)?;
-    let proof = match &case.proof {
-        None => None,
-        Some(wanted) => Some(made_proof(alloc, wanted)?),
-    };
-    audited(alloc, case, &tables, &claims, proof.as_ref(), challenger)
+    audited(alloc, case, &tables, &claims, challenger)
 }
 
-// The same with tables, of which there is one or more, claims and a proof in memory.
+// The same with tables, of which there is one or more, and claims in memory.
 fn audited<F: Field, EF: ExtensionField<F>, C: Challenger<F>>(
     alloc: Global,
     case: &Case,
     tables: &[Vec<F>],
     claims: &[OpeningClaim<EF>],
-    proof: Option<&MergeProof<F, EF>>,
     challenger: &mut C,
 ) -> Result<MergeReport<F, EF>, MergeError> {
     if tables.is_empty() {
         return Err(MergeError::NoMemory);
     }
-    let (variables, pow_bits) = (case.variables, case.pow_bits);
+    let proof = match &case.proof {
+        None => None,
+        Some(wanted) => Some(made_proof(alloc, wanted)?),
+    };
+    let (variables, pow_bits, proof) = (case.variables, case.pow_bits, proof.as_ref());
     audit_openings(
         alloc, variables, tables, claims, pow_bits, proof, challenger,
     )
@@ -189,12 +194,29 @@ fn is_answer<F: Field, EF: ExtensionField<F>>(
     }
 }
 
+// The answer is that of the case, and so is the history after it.
+fn assert_answer<F: Field, EF: ExtensionField<F>, A: Abort>(
+    rt: &A,
+    case: &Case,
+    answer: &Result<MergeReport<F, EF>, MergeError>,
+    events: &[Event],
+) {
+    assert!(rt; is_answer(answer, &case.answer), "{}", case.name);
+    assert_eq!(rt; events.len(), case.events, "{}", case.name);
+    assert!(rt; events.starts_with(case.first), "{}", case.name);
+    assert!(rt; events.ends_with(case.last), "{}", case.name);
+}
+
 fn assert_scripted<F: Field, EF: ExtensionField<F>, A: Abort>(rt: &A, alloc: Global, case: &Case) {
     let mut challenger = scripted::<F>(alloc, case.draws, case.good).expect(rt, "an answer");
     let answer = answered::<F, EF, _>(alloc, case, &mut challenger);
-    assert!(rt; is_answer(&answer, &case.answer), "{}", case.name);
-    assert_eq!(rt; challenger.events().len(), case.events, "{}", case.name);
-    assert!(rt; challenger.events().ends_with(case.last), "{}", case.name);
+    assert_answer(rt, case, &answer, challenger.events());
+}
+
+fn assert_hashed<F: Field, EF: ExtensionField<F>, A: Abort>(rt: &A, alloc: Global, case: &Case) {
+    let mut challenger = HashChallenger::<F>::new(alloc);
+    let answer = answered::<F, EF, _>(alloc, case, &mut challenger);
+    assert_answer(rt, case, &answer, challenger.events());
 }
 
 #[test]
@@ -227,26 +249,21 @@ fn challenges_in_an_extension(rt: HostRuntime) {
 
 #[test]
 fn a_field_of_16_elements(rt: HostRuntime) {
-    let mut challenger = scripted::<Tower16>(rt.alloc(), &[1, 1], &[]).expect(&rt, "an answer");
-    let answer = answered::<Tower16, Tower16, _>(rt.alloc(), &OF_SIXTEEN, &mut challenger);
-    assert!(&rt; is_answer(&answer, &OF_SIXTEEN.answer));
+    for case in &OF_SIXTEEN {
+        assert_scripted::<Tower16, Tower16, _>(&rt, rt.alloc(), case);
+    }
 }
 
-// What is built under the hash challenger holds, and so it does when it is handed in.
 #[test]
 fn the_hash_challenger_with_bits(rt: HostRuntime) {
-    let alloc = rt.alloc();
-    let tables = tables::<F65537>(alloc, HASHED.tables).expect(&rt, "memory");
-    let claims = claims::<F65537>(alloc, HASHED.claims).expect(&rt, "memory");
-    let mut builder = HashChallenger::<F65537>::new(alloc);
-    let built = audited(alloc, &HASHED, &tables, &claims, None, &mut builder);
-    let built = built.expect(&rt, "a report");
-    assert!(&rt; is_found(&built.verdict, Found::Holds));
-    let mut checker = HashChallenger::<F65537>::new(alloc);
-    let proof = Some(&built.proof);
-    let checked = audited(alloc, &HASHED, &tables, &claims, proof, &mut checker);
-    let checked = checked.expect(&rt, "a report");
-    assert!(&rt; is_found(&checked.verdict, Found::Holds));
-    assert!(&rt; checked.residual == built.residual);
-    assert!(&rt; checker.sample() == builder.sample());
+    for case in &HASHED {
+        assert_hashed::<F65537, F65537, _>(&rt, rt.alloc(), case);
+    }
+}
+
+#[test]
+fn the_hash_challenger_in_an_extension(rt: HostRuntime) {
+    for case in &HASHED_IN_PARTS {
+        assert_hashed::<F257, F257x2, _>(&rt, rt.alloc(), case);
+    }
 }

@@ -1,7 +1,7 @@
 -- How the replies to commands end, and what the commands promise.
 use Rattle.std.proofs.Common.{◌≡◌, ℕ, List, Option, Some, None, refl}
 use Rattle.sumcheck_run.specs.declared.command.Kind.{Kind}
-use Rattle.sumcheck_run.specs.declared.command.Kind.TheVariants.{Audit, Product, Veil, Explain, Matmul, Circuit}
+use Rattle.sumcheck_run.specs.declared.command.Kind.TheVariants.{Audit, Product, Veil, Explain, Matmul, Circuit, Openings}
 use Rattle.sumcheck_run.specs.declared.command.Command.{Command}
 use Rattle.sumcheck_run.specs.declared.command.Command.TheVariants.{Judge, Make}
 use Rattle.sumcheck_replies.specs.Reply.{code_of, usage}
@@ -12,6 +12,7 @@ use Rattle.sumcheck_veil.proofs.VeilPromises.{veil-lawful}
 use Rattle.sumcheck_explain.proofs.ExplainPromises.{explain-lawful}
 use Rattle.sumcheck_matmul.proofs.MatmulPromises.{matmul-lawful}
 use Rattle.sumcheck_circuit.proofs.CircuitPromises.{circuit-lawful}
+use Rattle.sumcheck_openings.proofs.OpeningsPromises.{openings-lawful}
 use Rattle.sumcheck_make.specs.Made.{made_asked}
 use Rattle.sumcheck_run.specs.Words.{CommandFits}
 use Rattle.sumcheck_run.specs.Program.{jobs_of, reply_of, CommandPromise}
@@ -27,6 +28,7 @@ kind-lawful Veil = veil-lawful
 kind-lawful Explain = explain-lawful
 kind-lawful Matmul = matmul-lawful
 kind-lawful Circuit = circuit-lawful
+kind-lawful Openings = openings-lawful
 
 -- ---- commands
 

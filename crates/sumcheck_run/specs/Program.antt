@@ -7,6 +7,7 @@ use Rattle.sumcheck_veil.specs.declared.job.VeilJob.{VeilJob}
 use Rattle.sumcheck_explain.specs.declared.job.ExplainJob.{ExplainJob}
 use Rattle.sumcheck_matmul.specs.declared.job.MatmulJob.{MatmulJob}
 use Rattle.sumcheck_circuit.specs.declared.job.CircuitJob.{CircuitJob}
+use Rattle.sumcheck_openings.specs.declared.job.OpeningsJob.{OpeningsJob}
 use Rattle.sumcheck_replies.specs.declared.reply.Outcome.TheVariants.{Holds}
 use Rattle.sumcheck_replies.specs.Reply.{Reply, usage}
 use Rattle.sumcheck_replies.specs.Kinds.{AnyJobs, KeepsPromise, json_reply, jobs_reply}
@@ -15,11 +16,12 @@ use Rattle.sumcheck_veil.specs.PromisedVeils.{veil_jobs}
 use Rattle.sumcheck_explain.specs.PromisedMasks.{explain_jobs}
 use Rattle.sumcheck_matmul.specs.PromisedProducts.{matmul_jobs}
 use Rattle.sumcheck_circuit.specs.PromisedCircuits.{circuit_jobs}
+use Rattle.sumcheck_openings.specs.PromisedOpenings.{openings_jobs}
 use Rattle.sumcheck_audit.specs.CertifiedJobs.{audit_jobs}
 use Rattle.sumcheck_run.specs.Words.{recipe_of}
 use Rattle.sumcheck_make.specs.Made.{made_reply}
 use Rattle.sumcheck_run.specs.declared.command.Kind.{Kind}
-use Rattle.sumcheck_run.specs.declared.command.Kind.TheVariants.{Audit, Product, Veil, Explain, Matmul, Circuit}
+use Rattle.sumcheck_run.specs.declared.command.Kind.TheVariants.{Audit, Product, Veil, Explain, Matmul, Circuit, Openings}
 use Rattle.sumcheck_run.specs.declared.command.Command.{Command}
 use Rattle.sumcheck_run.specs.declared.command.Command.TheVariants.{Judge, Make}
 
@@ -33,7 +35,8 @@ kind_named w =
     else (if bytes_eq w (codes "veil") then Some Veil
     else (if bytes_eq w (codes "explain") then Some Explain
     else (if bytes_eq w (codes "matmul") then Some Matmul
-    else (if bytes_eq w (codes "circuit") then Some Circuit else None)))))
+    else (if bytes_eq w (codes "circuit") then Some Circuit
+    else (if bytes_eq w (codes "openings") then Some Openings else None))))))
 
 -- what the jobs of each are
 abbrev pub jobs_of : Kind → AnyJobs
@@ -43,6 +46,7 @@ jobs_of Veil = record { Job = VeilJob; jobs = veil_jobs }
 jobs_of Explain = record { Job = ExplainJob; jobs = explain_jobs }
 jobs_of Matmul = record { Job = MatmulJob; jobs = matmul_jobs }
 jobs_of Circuit = record { Job = CircuitJob; jobs = circuit_jobs }
+jobs_of Openings = record { Job = OpeningsJob; jobs = openings_jobs }
 
 -- ---- commands
 

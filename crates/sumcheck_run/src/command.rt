@@ -33,6 +33,9 @@ pub enum Kind {
     /// A layered circuit, its inputs and what is claimed to be its outputs. The layers' rounds are
     /// built or checked, and reported on.
     Circuit,
+    /// Several tables and claims on them, merged into one opening of each table. The rounds and
+    /// openings are built or checked, and reported on.
+    Openings,
 }
 
 /// What the program is asked for.
@@ -80,6 +83,8 @@ fn read_kind(word: &str) -> Option<Kind>
         Some(Kind::Matmul)
     } else if word == "circuit" {
         Some(Kind::Circuit)
+    } else if word == "openings" {
+        Some(Kind::Openings)
     } else {
         None
     }

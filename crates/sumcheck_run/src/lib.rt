@@ -22,6 +22,9 @@ pub use sumcheck_members::{
     BuildOrCheck, Challenger, EqualityClaim, FieldName, Group, Member, ProductClaim, ScalarClaim,
     Script, Sizes, Stated, SuccessorClaim, Unread,
 };
+pub use sumcheck_openings::{
+    ClaimGiven, OpeningsJob, OpeningsJobs, ProofGiven, judge_openings, read_openings, show_openings,
+};
 pub use sumcheck_product::{ProductJob, ProductJobs, ProductProof, judge_product, read_product};
 pub use sumcheck_replies::{Answer, JobKind, Outcome, reply_to};
 pub use sumcheck_veil::{

@@ -21,6 +21,7 @@ use sumcheck_circuit::CircuitJobs;
 use sumcheck_explain::ExplainJobs;
 use sumcheck_make::make;
 use sumcheck_matmul::MatmulJobs;
+use sumcheck_openings::OpeningsJobs;
 use sumcheck_product::ProductJobs;
 use sumcheck_replies::{Answer, MAX_INPUT, reply_to};
 use sumcheck_veil::VeilJobs;
@@ -57,6 +58,7 @@ fn judge(alloc: Global, kind: Kind, input: Vec<u8>) -> Result<Answer, NoMemory>
         Kind::Explain => reply_to::<ExplainJobs>(alloc, input),
         Kind::Matmul => reply_to::<MatmulJobs>(alloc, input),
         Kind::Circuit => reply_to::<CircuitJobs>(alloc, input),
+        Kind::Openings => reply_to::<OpeningsJobs>(alloc, input),
     }
 }
 

@@ -1,15 +1,17 @@
 //! Tables, claims and proofs that are refused.
+use super::checked::{FALSE_CLAIMS, LUCKY_CLAIMS};
 use super::figures::{
-    BUILT, FALSE_CLAIMS, FIRST, LUCKY_CLAIMS, NO_ROUNDS, ONE_ROW, ONE_TESTED_ROUND, SECOND,
-    TRUE_PROOF,
+    BUILT, FIRST, NO_ROUNDS, ONE_ROW, ONE_TESTED_ROUND, SECOND, TRUE_PROOF, TWO_ROUNDS_PROOF,
+    TWO_TESTED_ROUNDS, TWO_VARIABLES,
 };
 use super::{Case, Claim, Proof};
 use sc_challenger::Event;
 use sc_openings::MergeError;
 
 // The history of a refusal before an event is empty.
-const UNTOUCHED: Case = Case {
+pub const UNTOUCHED: Case = Case {
     events: 0,
+    first: &[],
     last: &[],
     ..BUILT
 };
@@ -38,13 +40,26 @@ const TWO_BITS: Case = Case {
     ..UNTOUCHED
 };
 
-pub static REFUSED: [Case; 16] = [
+pub static REFUSED: [Case; 24] = [
     Case {
         name: "17 variables",
         variables: 17,
         tables: &[&[1, 2], &[3]],
         claims: &[NO_TABLE],
         answer: Err(MergeError::TableLength { table: 0, len: 2 }),
+        ..UNTOUCHED
+    },
+    Case {
+        name: "the most variables that a number can tell",
+        variables: usize::MAX,
+        answer: Err(MergeError::TableLength { table: 0, len: 2 }),
+        ..UNTOUCHED
+    },
+    Case {
+        name: "no row",
+        variables: 0,
+        tables: &[&[5], &[]],
+        answer: Err(MergeError::TableLength { table: 1, len: 0 }),
         ..UNTOUCHED
     },
     Case {
@@ -132,6 +147,29 @@ pub static REFUSED: [Case; 16] = [
         ..UNTOUCHED
     },
     Case {
+        name: "a false claim, before a round without a witness",
+        claims: &FALSE_CLAIMS,
+        good: &[&[]],
+        answer: Err(MergeError::FalseClaim {
+            claim: 0,
+            claimed: 2,
+            actual: 1,
+        }),
+        ..TWO_BITS
+    },
+    Case {
+        name: "three openings",
+        proof: Some(Proof {
+            openings: &[4, 6, 0],
+            ..TRUE_PROOF
+        }),
+        answer: Err(MergeError::OpeningCount {
+            expected: 2,
+            actual: 3,
+        }),
+        ..UNTOUCHED
+    },
+    Case {
         name: "one opening, before the rounds",
         proof: Some(NO_ROUNDS),
         answer: Err(MergeError::OpeningCount {
@@ -154,6 +192,18 @@ pub static REFUSED: [Case; 16] = [
         ..UNTOUCHED
     },
     Case {
+        name: "two rounds, before the witnesses",
+        proof: Some(Proof {
+            rounds: &[(1, 1), (1, 1)],
+            ..TRUE_PROOF
+        }),
+        answer: Err(MergeError::RoundCountMismatch {
+            expected: 1,
+            actual: 2,
+        }),
+        ..TWO_BITS
+    },
+    Case {
         name: "a round for no variable",
         proof: Some(Proof {
             rounds: &[(1, 1)],
@@ -164,6 +214,7 @@ pub static REFUSED: [Case; 16] = [
             actual: 1,
         }),
         events: 0,
+        first: &[],
         last: &[],
         ..ONE_ROW
     },
@@ -188,6 +239,18 @@ pub static REFUSED: [Case; 16] = [
         }),
         ..TWO_BITS
     },
+    Case {
+        name: "two witnesses, before the test of the first",
+        proof: Some(Proof {
+            witnesses: &[6, 6],
+            ..TRUE_PROOF
+        }),
+        answer: Err(MergeError::PowWitnessCountMismatch {
+            expected: 1,
+            actual: 2,
+        }),
+        ..TWO_BITS
+    },
     // the history ends with the test
     Case {
         name: "a witness that does not pass",
@@ -200,6 +263,7 @@ pub static REFUSED: [Case; 16] = [
             difficulty: 2,
         }),
         events: 3 + ONE_TESTED_ROUND + 4,
+        first: &[Event::Word(1), Event::Word(4), Event::Draw],
         last: &[
             Event::Word(1),
             Event::Word(1),
@@ -214,4 +278,38 @@ pub static REFUSED: [Case; 16] = [
         answer: Err(MergeError::NoWitness { round: 0 }),
         ..TWO_BITS
     },
+    Case {
+        name: "a witness of the second round that does not pass",
+        proof: Some(Proof {
+            witnesses: &[5, 6],
+            ..TWO_ROUNDS_PROOF
+        }),
+        answer: Err(MergeError::InvalidPowWitness {
+            round: 1,
+            difficulty: 2,
+        }),
+        events: 3 + TWO_TESTED_ROUNDS + 9,
+        last: &[
+            Event::Word(42),
+            Event::Word(65529),
+            Event::Word(6),
+            Event::Test(2),
+        ],
+        ..TWO_TESTS
+    },
+    Case {
+        name: "no witness passes in the second round",
+        good: &[&[5], &[]],
+        answer: Err(MergeError::NoWitness { round: 1 }),
+        events: 0,
+        first: &[],
+        last: &[],
+        ..TWO_TESTS
+    },
 ];
+
+const TWO_TESTS: Case = Case {
+    pow_bits: 2,
+    good: &[&[5], &[7]],
+    ..TWO_VARIABLES
+};

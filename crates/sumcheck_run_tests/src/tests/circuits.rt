@@ -3,8 +3,17 @@
 use super::{Case, Changed, assert_command, change};
 
 // The product of two inputs.
-const ONE: &str = r#"{"field":"65537","challenger":{"draws":[1,2,3,4],"witnesses":[]},"bits":0,
+pub(super) const ONE: &str =
+    r#"{"field":"65537","challenger":{"draws":[1,2,3,4],"witnesses":[]},"bits":0,
         "inputs":[3,5],"layers":[[[1,0,1]]],"outputs":[15],"mode":"build"}"#;
+
+pub(super) const ONE_TEXT: &str = "claim 15
+layer 0 round 0: 15 65502 challenge 2
+layer 0 round 1: 0 65439 challenge 3
+layer 0 left 7 right 9 merge 4
+input 43
+verdict holds
+";
 
 // What is done with it, and the layer that is built.
 const BUILD: &str = r#""build""#;
@@ -13,17 +22,7 @@ const HONEST: &str =
     r#"{"check":{"layers":[{"rounds":[[15,65502],[0,65439]],"witnesses":[],"left":7,"right":9}]}}"#;
 
 static WHOLE: [Case; 8] = [
-    (
-        ONE,
-        0,
-        "claim 15
-layer 0 round 0: 15 65502 challenge 2
-layer 0 round 1: 0 65439 challenge 3
-layer 0 left 7 right 9 merge 4
-input 43
-verdict holds
-",
-    ),
+    (ONE, 0, ONE_TEXT),
     // two layers, the second one of two gates
     (
         r#"{"field":"65537","challenger":{"draws":[1,2,3,4,5,6,7,8,9],"witnesses":[]},"bits":0,

@@ -6,12 +6,14 @@ type Change = (&'static str, &'static str, u8, &'static str);
 
 // One round under the mask 2 + 3 X + 5 X^2: its wire is 2 + 31 7 and 5 + 31 13, and the mask's sum
 // over one bit is 12.
-const ONE: &str = r#"{"field":"65537","eps":31,"plain":[[7,13]],"challenges":[2],"mu":12,
+pub(super) const ONE: &str = r#"{"field":"65537","eps":31,"plain":[[7,13]],"challenges":[2],"mu":12,
 "wires":[[219,408]],"endpoints":[]}"#;
+
+pub(super) const ONE_TEXT: &str = "mask 0: 2 3 5\n";
 
 // The masks are those of which a model in another language made the views, by sums over all bits.
 static VIEWS: [Case; 4] = [
-    (ONE, 0, "mask 0: 2 3 5\n"),
+    (ONE, 0, ONE_TEXT),
     // two masks without a plain part
     (
         r#"{"field":"65537","eps":1,"plain":[[0,0],[0,0]],"challenges":[2,3],"mu":52,

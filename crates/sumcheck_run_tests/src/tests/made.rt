@@ -7,20 +7,18 @@ use std::process::Abort;
 // Words, and the report in short.
 type Made = (&'static [&'static str], &'static str);
 
+// The report in short on the least table, made of 7.
+pub(super) const ONE_TEXT: &str =
+    "rows 2\nstatements 2\nclaim 4264\npairs 22026\nresidual 60300\nverdict holds\n";
+
 // The figures are those of a program in another language that goes by the definitions alone: each
 // value that a round sends is a sum over all rows of the variables that are left.
 static MADE: [Made; 18] = [
     // The values are 599, 44999, 32612, 21105, 10061 and 33742; the claims 64458 and 44999, the
     // weights [32926, 42673], the round's values 61574 and 25989; at the challenge the table is
     // 35116, and the weights are 51534.
-    (
-        &["make", "1", "7", "plain"],
-        "rows 2\nstatements 2\nclaim 4264\npairs 22026\nresidual 60300\nverdict holds\n",
-    ),
-    (
-        &["make", "1", "7", "represented"],
-        "rows 2\nstatements 2\nclaim 4264\npairs 22026\nresidual 60300\nverdict holds\n",
-    ),
+    (&["make", "1", "7", "plain"], ONE_TEXT),
+    (&["make", "1", "7", "represented"], ONE_TEXT),
     (
         &["make", "1", "0", "plain"],
         "rows 2\nstatements 2\nclaim 15878\npairs 18408\nresidual 10620\nverdict holds\n",
@@ -63,10 +61,7 @@ static MADE: [Made; 18] = [
         "rows 4096\nstatements 2\nclaim 6526\npairs 58366\nresidual 27027\nverdict holds\n",
     ),
     // Small-value rounds, of as many variables as there are and of the first 8: the same reports.
-    (
-        &["make", "1", "7", "small-value"],
-        "rows 2\nstatements 2\nclaim 4264\npairs 22026\nresidual 60300\nverdict holds\n",
-    ),
+    (&["make", "1", "7", "small-value"], ONE_TEXT),
     (
         &["make", "2", "7", "small-value"],
         "rows 4\nstatements 2\nclaim 1503\npairs 9097\nresidual 53246\nverdict holds\n",

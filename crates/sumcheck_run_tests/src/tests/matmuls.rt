@@ -3,25 +3,24 @@
 use super::{Case, Changed, assert_command, change};
 
 // Two matrices of two rows and columns, and their product.
-const TWO: &str = r#"{"field":"65537","challenger":{"draws":[2,3],"witnesses":[]},"bits":0,
+pub(super) const TWO: &str =
+    r#"{"field":"65537","challenger":{"draws":[2,3],"witnesses":[]},"bits":0,
         "left":[[1,2],[3,4]],"right":[[5,6],[7,8]],"claimed":[[19,22],[43,50]],"mode":"build"}"#;
 
-// What is done with it.
-const BUILD: &str = r#""build""#;
-
-static WHOLE: [Case; 7] = [
-    (
-        TWO,
-        0,
-        "point 2
+pub(super) const TWO_TEXT: &str = "point 2
 claim 635
 round 0: 221 30 challenge 3
 residual 980
 left 28
 right 35
 verdict holds
-",
-    ),
+";
+
+// What is done with it.
+const BUILD: &str = r#""build""#;
+
+static WHOLE: [Case; 7] = [
+    (TWO, 0, TWO_TEXT),
     // a side of four, and two witnesses
     (
         r#"{"field":"65537","challenger":{"draws":[7,11,13],"witnesses":[[5,9],[6]]},"bits":3,

@@ -3,10 +3,10 @@ use super::lucky_products::LUCKY;
 use super::{Case, Changed, assert_command, change};
 
 // Two tables of one variable.
-const TWO: &str = r#"{"field":"65537","challenger":{"draws":[5],"witnesses":[]},
+pub(super) const TWO: &str = r#"{"field":"65537","challenger":{"draws":[5],"witnesses":[]},
         "bits":0,"tables":[[1,2],[3,4]],"mode":"build"}"#;
 
-const TWO_TEXT: &str =
+pub(super) const TWO_TEXT: &str =
     "claim 11\nround 0: 3 15 challenge 5\nresidual 48\nproduct 48\nverdict holds\n";
 
 // Three tables of two variables under the hash challenger; FIELD, BITS and MODE stand for what they

@@ -1,4 +1,5 @@
-// Sources and sinks that fail, are full or move few bytes at a call.
+// Sources and sinks that fail, are full or move few bytes at a call; those of every command are in
+// `failing.rt`.
 use super::jobs::{FIRST, FIRST_TEXT};
 use super::{assert_written, code_of, sink_with};
 use std::alloc::Global;
@@ -28,13 +29,13 @@ static NO_COMMANDS: [Reads; 9] = [
 
 static EMPTY_READ: [Reads; 1] = [(&["audit"], FIRST, &[2], (0, 2, 1, FIRST_TEXT))];
 
-static FAILING_READS: [Reads; 2] = [
-    (&["audit"], FIRST, &[0], (6, 1, 0, "")),
-    (&["audit"], FIRST, &[1], (6, 2, 0, "")),
-];
-
 // The bytes as a source that fails at these calls.
-fn source_with<A: Abort>(rt: &A, alloc: Global, input: Vec<u8>, fails: &[u64]) -> MemSource {
+pub(super) fn source_with<A: Abort>(
+    rt: &A,
+    alloc: Global,
+    input: Vec<u8>,
+    fails: &[u64],
+) -> MemSource {
     MemSource::new(input, fails.to_vec(alloc).expect(rt, "memory"))
 }
 
@@ -69,11 +70,6 @@ fn words_that_are_no_command_leave_the_source_unread(rt: HostRuntime) {
 #[test]
 fn the_empty_read_is_the_last(rt: HostRuntime) {
     assert_reads(&rt, rt.alloc(), &EMPTY_READ);
-}
-
-#[test]
-fn a_source_that_fails(rt: HostRuntime) {
-    assert_reads(&rt, rt.alloc(), &FAILING_READS);
 }
 
 // A room, the calls of the sink that fail, the status, how often something is written, and what of the report on the first job.

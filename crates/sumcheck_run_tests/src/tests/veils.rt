@@ -2,13 +2,14 @@
 use super::{Case, assert_command, change};
 
 // A table of one variable under one mask.
-const ONE: &str = r#"{"field":"65537","challenger":{"draws":[31,2],"witnesses":[]},"order":"prefix",
+pub(super) const ONE: &str =
+    r#"{"field":"65537","challenger":{"draws":[31,2],"witnesses":[]},"order":"prefix",
 "bits":0,"table":[1,2],"variables":1,
 "groups":[{"kind":"eq","claims":[{"point":[0],
 "value":1}]}],"batching":1,"rounds":1,"masks":{"messages":[[2,3,5]],"randomness":[[1,1]]},
 "aux":4}"#;
 
-const ONE_TEXT: &str = "claim 5
+pub(super) const ONE_TEXT: &str = "claim 5
 mu 12
 eps 31
 round 0: 95 65511 challenge 2

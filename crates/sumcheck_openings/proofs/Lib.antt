@@ -1,0 +1,4 @@
+pub mod AskedLaws
+pub mod OpeningsJobLaws
+pub mod OpeningsPromises
+pub mod NumberedLines

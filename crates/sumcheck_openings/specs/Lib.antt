@@ -1,0 +1,4 @@
+pub mod OpeningsJob
+pub mod OpeningsLines
+pub mod OpeningsReplies
+pub mod PromisedOpenings
