@@ -20,7 +20,9 @@ STRANGE = ["claim 2\n", "claim 2\nround 1: 2 3 challenge 4\nverdict holds\n", "c
            "point 2\nclaim 3\nverdict lucky-point 0 vanishing 1 poly 1\n", "refused matmul side middle 2 3\n", "refused matmul inner 4\n",
            "claim 2\nlayer 1 round 0: 2 3 challenge 4\nverdict holds\n", "claim 2\nlayer 0 left 1 right 2 merge 3\nlayer 0 round 0: 2 3 challenge 4\nverdict holds\n",
            "claim 2\nlayer 0 round 0: 2 3 challenge 4\nlayer 1 left 1 right 2 merge 3\nverdict holds\n", "claim 2\nverdict holds layer 0\n",
-           "claim 2\nverdict lucky-merge layer 0 round 1 vanishing 1 poly 1\n", "proof refused layer 0 layers expected 1 actual 2\n"]
+           "claim 2\nverdict lucky-merge layer 0 round 1 vanishing 1 poly 1\n", "proof refused layer 0 layers expected 1 actual 2\n",
+           "claim 2\nopen 0: 3\nverdict holds\n", "claim 2\nopen 1: 3\nweight 1: 4\nverdict holds\n", "claim 2\nweight 0: 3\nopen 0: 4\nverdict holds\n",
+           "refused openings claim 1 length 2\n", "refused openings table 1\n", "proof refused openings expected 1\n"]
 
 PLACES = [(b"\xef\xbb\xbf{}", 1, 1), (b'{"a":1,\n"b":01}', 2, 5), (b"[1,\n 1e400]", 2, 2), (b'["\\ud800"]', 1, 3), (b'["a\x01"]', 1, 4),
           (b'["\xff"]', 1, 3), (b"[1.]", 1, 3), (b'{"a" 1}', 1, 6), (b"[1] 2", 1, 5), (b"[tru]", 1, 2), (b"[" * 128, 1, 128), (b"", 1, 1),
@@ -42,11 +44,13 @@ REFUSALS = {
     "matmul side": " {matrix} {rows} {columns}", "matmul inner": " {left} {right}", "matmul outer": " {rows} {columns}",
     "circuit depth": " {layers}", "circuit width": " layer {layer} len {length}", "circuit wire": " layer {layer} gate {gate}",
     "circuit outputs": " expected {expected} actual {actual}", "false-output": " {output} claimed {claimed} true {true}",
+    "openings table": " {table} length {length}", "openings claim": " {claim}",
     "false-entry": " {row} {column} claimed {claimed} true {true}",
     "strategy-unfit select": " {statement}", "strategy-unfit selector": " {statement}",
 }
 PROOFS = {
-    "missing": " {variables}", "layers": " expected {expected} actual {actual}", "rounds": " expected {expected} actual {actual}", "witnesses": " expected {expected} actual {actual}",
+    "missing": " {variables}", "layers": " expected {expected} actual {actual}", "openings": " expected {expected} actual {actual}",
+    "rounds": " expected {expected} actual {actual}", "witnesses": " expected {expected} actual {actual}",
     "width": " round {round} expected {expected} actual {actual}", "witness": " round {round} bits {bits}",
 }
 
@@ -85,6 +89,7 @@ def report(told):
         yield f"{layer}left {it['left']} right {it['right']} merge {it['merge']}"
     yield from (f"{name} {told[name]}" for name in ("input", "residual", "eval", "weight", "product", "left", "right", "scaled", "carried", "mask-residual")
                if name in told)
+    yield from (f"{name} {number}: {value}" for name, all in (("open", "openings"), ("weight", "weights")) for number, value in enumerate(told.get(all, [])))
     for it in told.get("grids", []):
         yield from (f"grid {it['grid']} {part} {words(it[part])}" for part in ("zero", "infinity"))
     yield verdict(told)
@@ -93,7 +98,8 @@ def report(told):
 def lines(told):
     cause = f"{told.get('cause')} {told['fault']}" if "fault" in told else told.get("cause")
     if told["outcome"] == "refused":
-        return ["refused " + (cause + REFUSALS[cause]).format(**told)]
+        more = "" if cause != "openings claim" else " table {table}" if "table" in told else " variables {variables}"
+        return ["refused " + (cause + REFUSALS[cause] + more).format(**told)]
     if told["outcome"] == "proof-refused":
         return ["proof refused " + ("layer {layer} " if "layer" in told else "").format(**told) + (cause + PROOFS[cause]).format(**told)]
     if told["outcome"] == "report":

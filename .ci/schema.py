@@ -9,6 +9,9 @@ JSON Schema (2020-12) this has the keywords that the schema uses; another one is
 """
 import json, os, subprocess, sys
 
+sys.path.insert(0, os.path.join(os.path.dirname(os.path.abspath(__file__)), "..", "tools"))
+from fill import named_command
+
 SILENT = {"$schema", "$comment", "$defs", "title", "then", "else"}
 TYPES = {"object": dict, "array": list, "string": str, "null": type(None)}
 
@@ -78,9 +81,7 @@ def edited(job, path, value):
 
 
 def answer(job):
-    command = ("explain" if "wires" in job else "matmul" if "left" in job else "circuit" if "layers" in job else "product" if "tables" in job
-               else "veil" if "masks" in job and "mode" not in job else "audit")
-    return subprocess.run([os.environ["SUMCHECK_PROGRAM"], command], input=json.dumps(job).encode(), capture_output=True).stdout.decode()
+    return subprocess.run([os.environ["SUMCHECK_PROGRAM"], named_command(job)], input=json.dumps(job).encode(), capture_output=True).stdout.decode()
 
 
 def load(file):

@@ -15,15 +15,13 @@ bits: 1 to 4 layers of 1 to 8 gates, true and false outputs, built and checked, 
 without; merges and rounds that are lucky on purpose, broken proofs, circuits that do not fit, and members that are not of
 their form (tools/forms.py). Status and text have to be the same. --ready holds the texts of the ready jobs against the model.
 """
-import argparse, collections, copy, glob, json, os, random, shlex, subprocess, sys, tempfile
+import copy, json, os, random, sys
 
 sys.path.insert(0, os.path.join(os.path.dirname(os.path.abspath(__file__)), "..", "tools"))
-import fields, forms, layered, scan
+import fields, layered
 from masked import polynomial
-from matmul import element, kind_of, lucky_error, mutated
-from measured import beside, compare, run, wants
-
-TOP = os.path.join(os.path.dirname(os.path.abspath(__file__)), "..")
+from matmul import lucky_error
+from modelled import Modelled, element
 
 
 # ---- provers of false outputs
@@ -187,38 +185,6 @@ def random_job(rng):
     return misfitting(rng, job) if rng.random() < 0.08 else job
 
 
-# ---- the program beside the model
-
-def modelled(text):
-    """The status and the text that some JSON has to be answered by."""
-    found = forms.misfit(scan.read(text), "circuit")
-    return (3, f"refused bad-job {found[0]}\n") if found else layered.answer(json.loads(text))
-
-
-def compared(program, count, seed):
-    rng, kinds = random.Random(seed), collections.Counter()
-    for _ in range(count):
-        job = random_job(rng)
-        text = json.dumps(mutated(rng, job) if rng.random() < 0.12 else job).encode()
-        wanted = modelled(text)
-        told = subprocess.run(shlex.split(program) + ["circuit"], input=text, stdout=subprocess.PIPE)
-        if (told.returncode, told.stdout.decode()) != wanted:
-            sys.exit(f"the answers differ: {text.decode()}\nstatus {wanted[0]}\n{wanted[1]}status {told.returncode}\n{told.stdout.decode()}")
-        kinds[kind_of(wanted)] += 1
-    print("\n".join(f"{number:7} {kind}" for kind, number in kinds.most_common()))
-
-
-def ready():
-    """Holds the texts of the ready jobs against the model."""
-    files = sorted(glob.glob(os.path.join(TOP, "jobs", "circuit*.json")))
-    for file in files:
-        name = file.removesuffix(".json")
-        status = int(open(name + ".status").read()) if os.path.exists(name + ".status") else 0
-        if modelled(open(file, "rb").read()) != (status, open(name + ".stdout").read()):
-            sys.exit(f"another answer by the model: {file}")
-    print(f"{len(files)} ready jobs, all answered so by the model")
-
-
 # ---- figures
 
 def measured_job(gates, depth):
@@ -226,58 +192,10 @@ def measured_job(gates, depth):
     layers = [[[i % 2, rng.randrange(gates), rng.randrange(gates)] for i in range(gates)] for _ in range(depth)]
     inputs = [rng.randrange(base.size) for _ in range(gates)]
     draws = [rng.randrange(base.size) for _ in range(depth * (2 * gates.bit_length() + 1))]
-    return {"field": "65537", "challenger": {"draws": draws, "witnesses": []}, "bits": 0, "inputs": inputs, "layers": layers,
-            "outputs": layered.values_of(base, layers, inputs)[0], "mode": "build"}
-
-
-def built_proof(program, path, folder):
-    """The proof that a program builds of the job at `path`."""
-    out = os.path.join(folder, "built")
-    if run(shlex.split(program) + ["circuit"], path, out)[3] != 0:
-        sys.exit("the first program builds no proof")
-    layers = []
-    with open(out) as f:
-        for words in map(str.split, f):
-            if words[0] == "layer":
-                if int(words[1]) == len(layers):
-                    layers.append({"rounds": [], "witnesses": []})
-                layers[-1] |= {"left": int(words[3]), "right": int(words[5])} if words[2] == "left" else {}
-                layers[-1]["rounds"] += [[int(words[4]), int(words[5])]] if words[2] == "round" else []
-    return {"check": {"layers": layers}}
-
-
-def main():
-    arguments = argparse.ArgumentParser(description=__doc__, formatter_class=argparse.RawDescriptionHelpFormatter)
-    arguments.add_argument("--gates", type=int, default=256)
-    arguments.add_argument("--layers", type=int, default=1)
-    arguments.add_argument("--check", action="store_true")
-    arguments.add_argument("--repeats", type=int, default=9)
-    arguments.add_argument("--beside-rust", action="store_true")
-    arguments.add_argument("--compare", type=int, metavar="COUNT")
-    arguments.add_argument("--seed", type=int, default=1)
-    arguments.add_argument("--ready", action="store_true")
-    arguments.add_argument("programs", nargs="*")
-    given = arguments.parse_args()
-    if given.ready:
-        return ready()
-    if not given.programs:
-        arguments.error("a program is wanted")
-    wants(given.programs)
-    if given.compare is not None:
-        return compared(given.programs[0], given.compare, given.seed)
-    job = measured_job(given.gates, given.layers)
-    with tempfile.TemporaryDirectory() as folder:
-        path = os.path.join(folder, "job.json")
-        for it in [job] + ([{}] if given.check and not given.beside_rust else []):
-            job |= it or {"mode": built_proof(given.programs[0], path, folder)}
-            with open(path, "w") as f:
-                json.dump(job, f, separators=(",", ":"))
-        print(f"{given.layers} layers of {given.gates} gates, {os.path.getsize(path)} bytes, {given.repeats} repeats, load {os.getloadavg()[0]:.2f}")
-        if given.beside_rust:
-            beside(given.programs[0], "circuit", os.path.join(TOP, "bench", "circuit.rs"), job, given.repeats, folder)
-        else:
-            compare(given.programs, "circuit", path, given.repeats, folder)
+    return f"{depth} layers of {gates} gates", {
+        "field": "65537", "challenger": {"draws": draws, "witnesses": []}, "bits": 0, "inputs": inputs, "layers": layers,
+        "outputs": layered.values_of(base, layers, inputs)[0], "mode": "build"}
 
 
 if __name__ == "__main__":
-    main()
+    Modelled("circuit", layered.answer, random_job).main(__doc__, {"gates": 256, "layers": 1}, measured_job)

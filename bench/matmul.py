@@ -5,10 +5,10 @@ usage: bench/matmul.py [--side N] [--check] [--repeats N] [--beside-rust] PROGRA
        bench/matmul.py --compare COUNT [--seed N] PROGRAM
        bench/matmul.py --ready
 
-The job has matrices of N rows and columns over "65537" and a script of draws. With --check the true rounds are handed in as
-a proof. Each PROGRAM is a command line, to which the word `matmul` is appended; what is shown is as in `bench/audit.py`.
-With --beside-rust the plain loops of bench/matmul.rs are compiled, and run beside the first program on a build: the answers
-have to be the same. Shown are instructions, counted by valgrind where it is there, else processor time; the work is the
+The job has matrices of N rows and columns over "65537" and a script of draws. With --check the rounds that the first program
+builds are handed in. Each PROGRAM is a command line, to which the word `matmul` is appended; what is shown is as in
+`bench/audit.py`. With --beside-rust the plain loops of bench/matmul.rs are compiled, and run beside the first program on a
+build: the answers have to be the same. Shown are instructions, counted by valgrind where it is there, else processor time; the work is the
 whole run less a run on the same job at a difficulty that is refused, which reads the job and does no more.
 
 With --compare, COUNT random jobs over all fields are answered by the program and by bench/matrices.py, which sums over all
@@ -16,22 +16,14 @@ bits: sides of 1 to 8, true and false entries, built and checked, under both cha
 rounds that are lucky on purpose, broken proofs, sides that do not fit, and members that are not of their form
 (tools/forms.py). Status and text have to be the same. --ready holds the texts of the ready jobs against the model.
 """
-import argparse, collections, copy, glob, json, os, random, shlex, subprocess, sys, tempfile
+import copy, os, random, sys
 
 sys.path.insert(0, os.path.join(os.path.dirname(os.path.abspath(__file__)), "..", "tools"))
-import fields, forms, matrices, scan
-from measured import beside, compare, wants
-
-TOP = os.path.join(os.path.dirname(os.path.abspath(__file__)), "..")
-ODD = [None, True, -1, 1.5, 1.0, 16, 257, 65537, 66049, 1 << 64, "hash", "build", "16", "257x2", "", [], {}, [[]], [[1], [1, 2]], [1], [[0]],
-       {"check": None}, {"check": {}}, {"build": 1, "check": {"rounds": [], "witnesses": []}}, {"draws": [], "witnesses": []}]
+import fields, matrices
+from modelled import Modelled, element
 
 
 # ---- random jobs
-
-def element(rng, size):
-    return rng.choice([0, 1, size - 1]) if rng.random() < 0.15 else rng.randrange(size)
-
 
 def lucky_error(rng, base, point, count):
     """A list that is not zero, of numbers of the base field, and vanishes at a point as coefficients; none where there is no such list."""
@@ -141,109 +133,16 @@ def random_job(rng):
     return odd_sides(rng, job) if rng.random() < 0.08 else job
 
 
-def places(value, way=()):
-    """The paths of all values in a job."""
-    inside = value.items() if isinstance(value, dict) else enumerate(value) if isinstance(value, list) else ()
-    for key, it in inside:
-        yield way + (key,)
-        yield from places(it, way + (key,))
-
-
-def mutated(rng, job):
-    """The job with one value missing, or another one in its place."""
-    job = json.loads(json.dumps(job))
-    ways = list(places(job))
-    *way, last = rng.choice([it for it in ways if len(it) == 1] if rng.random() < 0.3 else ways)
-    owner = job
-    for it in way:
-        owner = owner[it]
-    if rng.random() < 0.25:
-        del owner[last]
-    else:
-        owner[last] = rng.choice(ODD)
-    return job
-
-
-# ---- the program beside the model
-
-def modelled(text):
-    """The status and the text that some JSON has to be answered by."""
-    found = forms.misfit(scan.read(text), "matmul")
-    return (3, f"refused bad-job {found[0]}\n") if found else matrices.answer(json.loads(text))
-
-
-def kind_of(answer):
-    """What an answer is, without its numbers."""
-    words = answer[1].split("\n")[-2].split()
-    return " ".join(it for it in (words[:words.index("vanishing")] if "vanishing" in words else words) if not it.isdigit())
-
-
-def compared(program, count, seed):
-    rng, kinds = random.Random(seed), collections.Counter()
-    for _ in range(count):
-        job = random_job(rng)
-        text = json.dumps(mutated(rng, job) if rng.random() < 0.12 else job).encode()
-        wanted = modelled(text)
-        told = subprocess.run(shlex.split(program) + ["matmul"], input=text, stdout=subprocess.PIPE)
-        if (told.returncode, told.stdout.decode()) != wanted:
-            sys.exit(f"the answers differ: {text.decode()}\nstatus {wanted[0]}\n{wanted[1]}status {told.returncode}\n{told.stdout.decode()}")
-        kinds[kind_of(wanted)] += 1
-    print("\n".join(f"{number:7} {kind}" for kind, number in kinds.most_common()))
-
-
-def ready():
-    """Holds the texts of the ready jobs against the model."""
-    files = sorted(glob.glob(os.path.join(TOP, "jobs", "matmul*.json")))
-    for file in files:
-        name = file.removesuffix(".json")
-        status = int(open(name + ".status").read()) if os.path.exists(name + ".status") else 0
-        if modelled(open(file, "rb").read()) != (status, open(name + ".stdout").read()):
-            sys.exit(f"another answer by the model: {file}")
-    print(f"{len(files)} ready jobs, all answered so by the model")
-
-
 # ---- figures
 
-def measured_job(side, check):
-    rng, (field, base) = random.Random(side), matrices.fields_of({"field": "65537"})
+def measured_job(side):
+    rng, base = random.Random(side), fields.FIELDS["65537"]
     left, right = ([[rng.randrange(base.size) for _ in range(side)] for _ in range(side)] for _ in range(2))
     claimed = [[sum(map(int.__mul__, row, column)) % base.size for column in zip(*right)] for row in left]
-    job = {"field": "65537", "challenger": {"draws": [rng.randrange(base.size) for _ in range(8)], "witnesses": []}, "bits": 0,
-           "left": left, "right": right, "claimed": claimed, "mode": "build"}
-    if check:
-        job["mode"] = {"check": {"rounds": matrices.Play(job, field, base).play().rounds, "witnesses": []}}
-    return job
-
-
-def main():
-    arguments = argparse.ArgumentParser(description=__doc__, formatter_class=argparse.RawDescriptionHelpFormatter)
-    arguments.add_argument("--side", type=int, default=128)
-    arguments.add_argument("--check", action="store_true")
-    arguments.add_argument("--repeats", type=int, default=9)
-    arguments.add_argument("--beside-rust", action="store_true")
-    arguments.add_argument("--compare", type=int, metavar="COUNT")
-    arguments.add_argument("--seed", type=int, default=1)
-    arguments.add_argument("--ready", action="store_true")
-    arguments.add_argument("programs", nargs="*")
-    given = arguments.parse_args()
-    if given.ready:
-        return ready()
-    if not given.programs:
-        arguments.error("a program is wanted")
-    wants(given.programs)
-    if given.compare is not None:
-        return compared(given.programs[0], given.compare, given.seed)
-    job = measured_job(given.side, given.check and not given.beside_rust)
-    with tempfile.TemporaryDirectory() as folder:
-        path = os.path.join(folder, "job.json")
-        with open(path, "w") as f:
-            json.dump(job, f, separators=(",", ":"))
-        print(f"matrices of {given.side} rows and columns, {os.path.getsize(path)} bytes, {given.repeats} repeats, load {os.getloadavg()[0]:.2f}")
-        if given.beside_rust:
-            beside(given.programs[0], "matmul", os.path.join(TOP, "bench", "matmul.rs"), job, given.repeats, folder)
-        else:
-            compare(given.programs, "matmul", path, given.repeats, folder)
+    return f"matrices of {side} rows and columns", {
+        "field": "65537", "challenger": {"draws": [rng.randrange(base.size) for _ in range(8)], "witnesses": []}, "bits": 0,
+        "left": left, "right": right, "claimed": claimed, "mode": "build"}
 
 
 if __name__ == "__main__":
-    main()
+    Modelled("matmul", matrices.answer, random_job).main(__doc__, {"side": 128}, measured_job)

@@ -93,42 +93,36 @@ def proof_refusal(proof, rounds, bits):
         return 4, f"proof refused witnesses expected {wanted} actual {len(proof['witnesses'])}\n"
 
 
-class Play:
-    """One play of a job whose sides fit: its lines, its proof, and the first lucky challenge of a false claim, if there is one."""
-    def __init__(self, job, field, base):
-        self.job, self.field, self.bits = job, field, job["bits"]
+class Rounds:
+    """Rounds of two values each on a sum over all bits: their lines, what they send, and the first lucky challenge of a false claim, if
+    there is one. `claim_at` is the true claim after some challenges; `begin` observes what comes before them, and sets the claim, the
+    lines above them, and the lucky challenge among what it draws."""
+
+    def __init__(self, job, field, count):
+        self.job, self.field, self.count, self.bits = job, field, count, job["bits"]
         self.challenger = Hash(field.base_size) if job["challenger"] == "hash" else Script(job["challenger"])
         self.transcript = Transcript(field, self.challenger)
-        self.truth = product_of(base, job["left"], job["right"])
         self.rounds, self.witnesses, self.challenges, self.lucky, self.refused = [], [], [], None, None
         self.begin()
+        for word in quadratic_seed(self.transcript.parts, self.bits, count):
+            self.challenger.observe(word)
 
     def play(self, choose=None, witness=None):
         """Plays the rounds. `choose` answers what one sends, of its number, its true polynomial and the claim before it; without
         it, the round is the true one. `witness` answers a round's witness; without it, it is the least that passes."""
         self.choose, self.witness = choose or (lambda i, true, claim: [true[0], true[2]]), witness
-        for i in range((len(self.tables.left) - 1).bit_length()):
+        for i in range(self.count):
             if self.refused is None:
                 self.round(i)
         return self
 
-    def begin(self):
-        field, job = self.field, self.job
-        for x in (x for name in MATRICES for row in job[name] for x in row):
-            self.challenger.observe(x)
-        self.point = self.transcript.draw()
-        self.tables = Tables(field, job["left"], job["right"], self.point)
-        said, true = ([x for row in matrix for x in row] for matrix in (job["claimed"], self.truth))
-        self.claim = fields.total(field, map(field.mul, fields.powers(field, self.point, len(said)), said))
-        self.lines = [f"point {self.point}", f"claim {self.claim}"]
-        if said != true and self.claim == self.tables.claim_at([]):
-            self.lucky = "lucky-point", list(map(field.sub, said, true))
-        for word in quadratic_seed(self.transcript.parts, self.bits, (len(self.tables.left) - 1).bit_length()):
-            self.challenger.observe(word)
+    def replay(self, proof):
+        """Plays the rounds of a proof."""
+        return self.play(lambda i, true, claim: proof["rounds"][i], lambda i: proof["witnesses"][i])
 
     def round(self, number):
         field = self.field
-        true = coefficients_of(field, lambda x: self.tables.claim_at(self.challenges + [x]), 3)
+        true = coefficients_of(field, lambda x: self.claim_at(self.challenges + [x]), 3)
         pair = self.choose(number, true, self.claim)
         self.rounds.append(pair)
         for x in pair:
@@ -142,7 +136,7 @@ class Play:
         r = self.transcript.draw()
         sent = sent_polynomial(field, self.claim, pair)
         after, true_after = polynomial(field, sent, r), polynomial(field, true, r)
-        if self.lucky is None and self.claim != self.tables.claim_at(self.challenges) and after == true_after:
+        if self.lucky is None and self.claim != self.claim_at(self.challenges) and after == true_after:
             self.lucky = f"lucky-round {number}", list(map(field.sub, sent, true))
         self.claim = after
         self.challenges.append(r)
@@ -164,22 +158,50 @@ class Play:
             self.refused = 4, f"proof refused witness round {number} bits {self.bits}\n"
         return witness if passes else None
 
-    def verdict(self, left, right):
-        if self.claim != self.field.mul(left, right):
+    def verdict(self, agrees, is_true):
+        """The verdict, where what is left of the claim is right or not, and what is claimed is true or not."""
+        if not agrees:
             return "refuted"
-        if self.job["claimed"] == self.truth:
+        if is_true:
             return "holds"
         kind, poly = self.lucky
         return f"{kind} vanishing {root_count(self.field, poly)} poly {' '.join(map(str, poly))}"
+
+    def report(self, figures, verdict):
+        """The status and the text, with these lines after what is left of the claim."""
+        lines = self.lines + [f"residual {self.claim}", *figures, f"verdict {verdict}"]
+        return int(verdict != "holds"), "\n".join(lines) + "\n"
+
+
+class Play(Rounds):
+    """One play of a job whose sides fit."""
+
+    def __init__(self, job, field, base):
+        self.truth = product_of(base, job["left"], job["right"])
+        super().__init__(job, field, (len(job["right"]) - 1).bit_length())
+
+    def begin(self):
+        field, job = self.field, self.job
+        for x in (x for name in MATRICES for row in job[name] for x in row):
+            self.challenger.observe(x)
+        self.point = self.transcript.draw()
+        self.tables = Tables(field, job["left"], job["right"], self.point)
+        said, true = ([x for row in matrix for x in row] for matrix in (job["claimed"], self.truth))
+        self.claim = fields.total(field, map(field.mul, fields.powers(field, self.point, len(said)), said))
+        self.lines = [f"point {self.point}", f"claim {self.claim}"]
+        if said != true and self.claim == self.claim_at([]):
+            self.lucky = "lucky-point", list(map(field.sub, said, true))
+
+    def claim_at(self, before):
+        return self.tables.claim_at(before)
 
     def answer(self):
         """The status and the text."""
         if self.refused:
             return self.refused
         left, right = self.tables.at(self.challenges)
-        verdict = self.verdict(left, right)
-        lines = self.lines + [f"residual {self.claim}", f"left {left}", f"right {right}", f"verdict {verdict}"]
-        return int(verdict != "holds"), "\n".join(lines) + "\n"
+        verdict = self.verdict(self.claim == self.field.mul(left, right), self.job["claimed"] == self.truth)
+        return self.report([f"left {left}", f"right {right}"], verdict)
 
 
 def fields_of(job):
@@ -193,10 +215,8 @@ def answer(job):
     refused = refusal(job, base)
     if refused:
         return refused
-    if job["mode"] == "build":
-        return Play(job, field, base).play().answer()
-    proof = job["mode"]["check"]
-    return Play(job, field, base).play(lambda i, true, claim: proof["rounds"][i], lambda i: proof["witnesses"][i]).answer()
+    play = Play(job, field, base)
+    return (play.play() if job["mode"] == "build" else play.replay(job["mode"]["check"])).answer()
 
 
 # ---- how many roots a polynomial has

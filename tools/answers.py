@@ -2,7 +2,8 @@
 
 `read(text)` gives a dictionary with the member `outcome`: "report", "refused", "proof-refused", "no-witness", "usage", or
 "nothing" where nothing was written. A report has the members that its lines name, `rounds` and `grids` as lists; a lucky
-verdict has what it names in `lucky`. A report on a circuit has `layers` in the place of `rounds`, each with its rounds. A refusal has a `cause`, where there are several a `fault`, and the numbers of its
+verdict has what it names in `lucky`. A report on a circuit has `layers` in the place of `rounds`, each with its rounds, and one
+on several tables `openings` and `weights`. A refusal has a `cause`, where there are several a `fault`, and the numbers of its
 line under their names. What `explain` finds is a report with `masks` alone, a list of coefficients for each.
 """
 import re
@@ -16,6 +17,7 @@ FIGURES = ("rows", "statements", "point", "claim", "mu", "eps", "pairs", "input"
 ROUND = re.compile(rf"(?:layer {NUMBER} )?round {NUMBER}: {NUMBERS}(?: witness {NUMBER})? challenge {NUMBER}")
 GRID = re.compile(rf"grid {NUMBER} (zero|infinity) {NUMBERS}")
 ENDS = re.compile(rf"layer {NUMBER} left {NUMBER} right {NUMBER} merge {NUMBER}")
+OPENED = re.compile(rf"(open|weight) {NUMBER}: {NUMBER}")
 MASK = re.compile(rf"mask {NUMBER}: {NUMBERS}")
 VERDICT = re.compile(rf"verdict (holds|refuted)(?: layer {NUMBER})?")
 LUCKY = re.compile(rf"verdict (lucky-batch|lucky-point|lucky-round)(?: {NUMBER})? vanishing {NUMBER} poly {NUMBERS}")
@@ -42,6 +44,9 @@ SINGLE = [(re.compile(line.replace("N", NUMBER)), outcome, cause, names) for lin
     ("refused circuit (width) layer N len N", "refused", "circuit", "fault", "layer", "length"),
     ("refused circuit (wire) layer N gate N", "refused", "circuit", "fault", "layer", "gate"),
     ("refused circuit (outputs) expected N actual N", "refused", "circuit", "fault", "expected", "actual"),
+    ("refused openings (table) N length N", "refused", "openings", "fault", "table", "length"),
+    ("refused openings (claim) N table N", "refused", "openings", "fault", "claim", "table"),
+    ("refused openings (claim) N variables N", "refused", "openings", "fault", "claim", "variables"),
     ("refused strategy-unfit (projective)", "refused", "strategy-unfit", "fault"),
     ("refused strategy-unfit (variables) N bound N", "refused", "strategy-unfit", "fault", "variables", "bound"),
     ("refused strategy-unfit (select|selector) N", "refused", "strategy-unfit", "fault", "statement"),
@@ -49,6 +54,7 @@ SINGLE = [(re.compile(line.replace("N", NUMBER)), outcome, cause, names) for lin
     ("refused false-entry N N claimed N true N", "refused", "false-entry", "row", "column", "claimed", "true"),
     ("refused false-output N claimed N true N", "refused", "false-output", "output", "claimed", "true"),
     ("proof refused missing N", "proof-refused", "missing", "variables"),
+    ("proof refused openings expected N actual N", "proof-refused", "openings", "expected", "actual"),
     ("proof refused rounds expected N actual N", "proof-refused", "rounds", "expected", "actual"),
     ("proof refused witnesses expected N actual N", "proof-refused", "witnesses", "expected", "actual"),
     ("proof refused width round N expected N actual N", "proof-refused", "width", "round", "expected", "actual"),
@@ -119,6 +125,14 @@ def add_grid(report, found):
     grids[-1][part] = numbers_of(values)
 
 
+def add_opened(report, found):
+    name, number, value = found.groups()
+    values = report.setdefault({"open": "openings", "weight": "weights"}[name], [])
+    if int(number) != len(values) or name == "open" and "weights" in report:
+        raise Unknown(found.group())
+    values.append(int(value))
+
+
 def add_lucky(report, found):
     kind, number, vanishing, poly = found.groups()
     if (number is None) != (kind != "lucky-round"):
@@ -157,6 +171,8 @@ def add_line(report, line):
         add_grid(report, found)
     elif found := ENDS.fullmatch(line):
         add_ends(report, found)
+    elif found := OPENED.fullmatch(line):
+        add_opened(report, found)
     elif found := VERDICT.fullmatch(line):
         add_verdict(report, found)
     elif found := LUCKY.fullmatch(line):
@@ -193,7 +209,7 @@ def read(text):
     report = {"outcome": "report"}
     for line in lines:
         add_line(report, line)
-    if "verdict" not in report or "claim" not in report:
+    if "verdict" not in report or "claim" not in report or len(report.get("openings", [])) != len(report.get("weights", [])):
         raise Unknown(lines[-1])
     if "rows" not in report and "layers" not in report:  # the report in short has no rounds, and a circuit has them in its layers
         report.setdefault("rounds", [])

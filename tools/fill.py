@@ -1,16 +1,16 @@
 #!/usr/bin/env python3
 """Writes a job with the true values in its claims: `./sumcheck --fill FILE`. This tool is not proved; the values are the program's.
 
-usage: tools/fill.py [audit|product|veil|explain|matmul|circuit] FILE      (FILE `-`: standard input)
+usage: tools/fill.py [audit|product|veil|explain|matmul|circuit|openings] FILE      (FILE `-`: standard input)
 
 The values come from builds of the program, one for each false statement and three more; of a job of `product` the value is
-the sum that its proof claims, and a job of `explain` claims nothing. The entries that a job of `matmul` claims, and the
-outputs of one of `circuit`, are reckoned here, and a build of the program confirms them. All else in the file stays as it
-is, byte for byte, also the mode. The command is `explain` where the job has the member `wires`, `matmul` where it has
-`left`, `circuit` where it has `layers`, `product` where it has `tables` and no `table`, and `veil` where it has `masks` and
-no `mode`. Where the job is refused for another reason than a false claim, the refusal goes to standard error, and the
-program's status is kept. Status 11 is this tool's own: the file cannot be read, or the program cannot be run, or answers
-unlike docs/FORMATS.md.
+the sum that its proof claims, and a job of `explain` claims nothing. The entries that a job of `matmul` claims, the outputs
+of one of `circuit`, and the values of one of `openings`, are reckoned here, and a build of the program confirms them. All
+else in the file stays as it is, byte for byte, also the mode. The command is `explain` where the job has the member
+`wires`, `matmul` where it has `left`, `circuit` where it has `layers`, `openings` where it has `claims`, `product` where it
+has `tables` and no `table`, and `veil` where it has `masks` and no `mode`. Where the job is refused for another reason than
+a false claim, the refusal goes to standard error, and the program's status is kept. Status 11 is this tool's own: the file
+cannot be read, or the program cannot be run, or answers unlike docs/FORMATS.md.
 """
 import json, sys
 
@@ -25,6 +25,8 @@ def named_command(members):
         return "matmul"
     if "layers" in members:
         return "circuit"
+    if "claims" in members:
+        return "openings"
     if "tables" in members and "table" not in members:
         return "product"
     return "veil" if "masks" in members and "mode" not in members else "audit"
@@ -62,6 +64,9 @@ def changes_of(job, value, command):
         return [(rows[row][column], true) for row, column, _, true in truth.false_entries(job)]
     if command == "circuit":
         return [(place, true) for place, true in zip(value.member("outputs").items(), truth.true_outputs(job)) if place.unsigned() != true]
+    if command == "openings":
+        claims = list(value.member("claims").items())
+        return [(claims[number].member("value"), true) for number, (_, true) in truth.false_table_claims(job).items()]
     claims = list(forms.statements(value))
     return [(claims[number][3].member("value"), true) for number, (_, true) in truth.false_statements(job).items()]
 

@@ -5,7 +5,7 @@ A form is a function of a value and its path in the job, which raises a `Misfit`
 
 SIZES = {"65537": (65537, 65537), "257x2": (257, 66049), "16": (16, 16)}
 MOST_CLAIMS, MOST_VARIABLES, MOST_BITS, MOST_TABLES, MOST_ROUNDS, MOST_LENGTH = 4096, 64, 65535, 8, 64, 64
-MOST_MASKS, LEAST_WIDTH, MOST_WIDTH, MOST_PLACE = 64, 2, 63, 65535
+MOST_MASKS, LEAST_WIDTH, MOST_WIDTH, MOST_PLACE, MOST_OPENED = 64, 2, 63, 65535, 64
 DIGITS = "in digits alone, without sign, fraction and exponent"
 
 
@@ -63,6 +63,11 @@ def member(value, path, name, form):
 def any_string(value, path):
     if value.kind != "string":
         raise Misfit(path, value, "a string")
+
+
+def truth(value, path):
+    if value.kind not in ("true", "false"):
+        raise Misfit(path, value, "true or false, without quotes")
 
 
 def an_object(members):
@@ -186,17 +191,42 @@ class Forms:
         member(value, path, "rounds", list_of(list_of(self.extension, 2, "value"), named="round"))
         member(value, path, "witnesses", list_of(self.base, named="witness"))
 
-    def tables(self, value, path):
+    def tables(self, value, path, most=MOST_TABLES):
         list_of(list_of(self.base, named="entry"), named="table")(value, path)
-        if not 1 <= value.count() <= MOST_TABLES:
-            raise Misfit(path, value, f"a list of 1 to {MOST_TABLES} tables, and here are {value.count()}")
+        if not 1 <= value.count() <= most:
+            raise Misfit(path, value, f"a list of 1 to {most} tables, and here are {value.count()}")
 
-    def product_mode(self, value, path):
+    def opened_tables(self, value, path):
+        self.tables(value, path, MOST_OPENED)
+
+    def table_claims(self, value, path):
+        list_of(self.table_claim, named="claim")(value, path)
+        if value.count() > MOST_CLAIMS:
+            raise Misfit(path, value, f"a list of at most {MOST_CLAIMS} claims, and here are {value.count()}")
+
+    def table_claim(self, value, path):
+        member(value, path, "table", below(MOST_PLACE + 1))
+        member(value, path, "point", list_of(self.extension, named="coordinate"))
+        member(value, path, "successor", truth)
+        member(value, path, "value", self.extension)
+
+    def build_or_check(self, value, path, check):
         if value.string() == "build":
             return
         if value.kind != "object":
             raise Misfit(path, value, 'the string "build", or an object with the member check')
-        member(value, path, "check", self.product_check)
+        member(value, path, "check", check)
+
+    def openings_mode(self, value, path):
+        self.build_or_check(value, path, self.openings_check)
+
+    def openings_check(self, value, path):
+        an_object("rounds, witnesses and openings")(value, path)
+        self.pairs(value, path)
+        member(value, path, "openings", list_of(self.extension, named="opening"))
+
+    def product_mode(self, value, path):
+        self.build_or_check(value, path, self.product_check)
 
     def product_check(self, value, path):
         if value.kind != "object":
@@ -225,12 +255,11 @@ class Forms:
         list_of(list_of(self.gate, named="gate"), named="layer")(value, path)
 
     def circuit_mode(self, value, path):
-        if value.string() == "build":
-            return
-        if value.kind != "object":
-            raise Misfit(path, value, 'the string "build", or an object with the member check')
-        check = member(value, path, "check", an_object("layers"))
-        member(check, f"{path}, check", "layers", list_of(self.sent_layer, named="layer"))
+        self.build_or_check(value, path, self.circuit_check)
+
+    def circuit_check(self, value, path):
+        an_object("layers")(value, path)
+        member(value, path, "layers", list_of(self.sent_layer, named="layer"))
 
     def sent_layer(self, value, path):
         an_object("rounds, witnesses, left and right")(value, path)
@@ -240,11 +269,7 @@ class Forms:
         member(value, path, "right", self.extension)
 
     def matrix_mode(self, value, path):
-        if value.string() == "build":
-            return
-        if value.kind != "object":
-            raise Misfit(path, value, 'the string "build", or an object with the member check')
-        member(value, path, "check", self.pairs)
+        self.build_or_check(value, path, self.pairs)
 
     def rounds(self, value, path):
         below(MOST_ROUNDS + 1)(value, path)
@@ -302,6 +327,8 @@ MATMUL = {"field": Forms.field, "challenger": Forms.challenger, "bits": Forms.bi
           "claimed": Forms.matrix, "mode": Forms.matrix_mode}
 CIRCUIT = {"field": Forms.field, "challenger": Forms.challenger, "bits": Forms.bits, "inputs": Forms.table, "layers": Forms.layers,
            "outputs": Forms.table, "mode": Forms.circuit_mode}
+OPENINGS = {"field": Forms.field, "challenger": Forms.challenger, "bits": Forms.bits, "tables": Forms.opened_tables, "variables": Forms.count,
+            "claims": Forms.table_claims, "mode": Forms.openings_mode}
 VEIL = {name: AUDIT[name] for name in ("field", "challenger", "order", "bits", "table", "variables", "groups", "batching")} \
     | {"rounds": Forms.rounds, "masks": Forms.masks, "aux": Forms.aux}
 EXPLAIN = {"field": Forms.field, "eps": Forms.element, "plain": Forms.plain, "challenges": Forms.challenges, "mu": Forms.element,
@@ -310,7 +337,7 @@ OPTIONAL = {"basis"}
 
 
 def members_of(command):
-    return {"product": PRODUCT, "veil": VEIL, "explain": EXPLAIN, "matmul": MATMUL, "circuit": CIRCUIT}.get(command, AUDIT)
+    return {"product": PRODUCT, "veil": VEIL, "explain": EXPLAIN, "matmul": MATMUL, "circuit": CIRCUIT, "openings": OPENINGS}.get(command, AUDIT)
 
 
 def misfit(job, command):

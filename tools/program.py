@@ -10,7 +10,7 @@ if sys.version_info < (3, 11):
     sys.exit(11)
 
 TOP = os.path.dirname(os.path.dirname(os.path.abspath(__file__)))
-COMMANDS = ("audit", "product", "veil", "explain", "matmul", "circuit")  # those that read a job
+COMMANDS = ("audit", "product", "veil", "explain", "matmul", "circuit", "openings")  # those that read a job
 WRONG_WORDS, UNABLE = 2, 11  # statuses of the tools' own
 
 

@@ -4,8 +4,9 @@
 usage: tools/proof_of.py JOB REPORT      (REPORT: the text of a report, or its JSON by --json; `-`: standard input)
 
 The mode of the job becomes a `check` of the rounds and the witnesses that stand in the report, with the claim of the
-report as the claimed sum in a job of `product`, and layer by layer in a job of `circuit`. Nothing is computed: whether the proof passes, the program says. The
-status is 0, 2 where the words are none of these, and 11 where a file cannot be read, or is no job or no report.
+report as the claimed sum in a job of `product`, with the openings in one of `openings`, and layer by layer in one of
+`circuit`. Nothing is computed: whether the proof passes, the program says. The status is 0, 2 where the words are none of
+these, and 11 where a file cannot be read, or is no job or no report.
 """
 import json, sys
 
@@ -29,7 +30,9 @@ def proof_of(job, report):
     if "layers" in report:
         return {"check": {"layers": [rounds_of(it) | {"left": it["left"], "right": it["right"]} for it in report["layers"]]}}
     proof = rounds_of(report)
-    return {"check": {"claimed": report["claim"]} | proof if "tables" in job else proof}
+    if "openings" in report:
+        return {"check": proof | {"openings": report["openings"]}}
+    return {"check": {"claimed": report["claim"]} | proof if "product" in report else proof}
 
 
 def main(words):

@@ -1,7 +1,7 @@
 #!/usr/bin/env python3
 """Writes what the program says as JSON: `./sumcheck --json WORD..`. This reader is not proved.
 
-usage: tools/report.py audit|product|veil|explain|matmul|circuit < JOB
+usage: tools/report.py audit|product|veil|explain|matmul|circuit|openings < JOB
        tools/report.py make N NUMBER HOW
        tools/report.py --text < REPORT     a text that the program wrote; the status is then 0
 

@@ -1,6 +1,7 @@
 """The true values of a job's claims, by builds of the program itself, so that nothing is invented here. Unproved.
 
-The product of two matrices and the outputs of a circuit alone are reckoned here, since a build names one false value at a time.
+The product of two matrices, the outputs of a circuit and the values of several tables alone are reckoned here, since a build
+names one false value at a time.
 
 A build refuses the first statement that is false and tells its true value. So the statements after it are built next,
 until none is refused: one run for each false statement, and one more. The runs have no test and a script without draws,
@@ -91,6 +92,23 @@ def true_outputs(job):
     for gates in reversed(job["layers"]):
         values = [(field.mul if product else field.add)(values[left], values[right]) for product, left, right in gates]
     return values
+
+
+def false_table_claims(job):
+    """The false claims of a job of `openings` that fits, by number, each with its claimed and its true value, reckoned here."""
+    field, found = fields.FIELDS[job["field"]], {}
+    for number, claim in enumerate(job["claims"]):
+        table = job["tables"][claim["table"]]
+        true = fields.value_at(field, table[1:] + table[-1:] if claim["successor"] else table, claim["point"])
+        if true != claim["value"]:
+            found[number] = claim["value"], true
+    return found
+
+
+def true_table_claims(job):
+    """The claims of a job of `openings` that fits, with their true values."""
+    false = false_table_claims(job)
+    return [claim | ({"value": false[number][1]} if number in false else {}) for number, claim in enumerate(job["claims"])]
 
 
 def filled(job):

@@ -1,19 +1,19 @@
 #!/usr/bin/env python3
 """Says why a job or a proof is refused or refuted: `./sumcheck --why FILE`. This reader is not proved.
 
-usage: tools/why.py [audit|product|veil|explain|matmul|circuit] FILE      (FILE `-`: standard input)
+usage: tools/why.py [audit|product|veil|explain|matmul|circuit|openings] FILE      (FILE `-`: standard input)
 
 The first line is the program's own: its refusal, or its verdict, or all lines of masks. After it stand the line and the
 column of what is meant, both counted from 1, and what is wanted there; which statements are false, and the first round
 that differs from those of a build, both by further runs of the program. The command is `explain` where the job has the
-member `wires`, `matmul` where it has `left`, `circuit` where it has `layers`, `product` where it has `tables` and no
-`table`, and `veil` where it has `masks` and no `mode`. The status is 0 where the verdict holds or masks are told, 1 where something else was told, 2 where
-the words are none of these, and 11 where the file cannot be read, the program cannot be run, or this reader does not find
-what the program refuses.
+member `wires`, `matmul` where it has `left`, `circuit` where it has `layers`, `openings` where it has `claims`, `product`
+where it has `tables` and no `table`, and `veil` where it has `masks` and no `mode`. The status is 0 where the verdict holds
+or masks are told, 1 where something else was told, 2 where the words are none of these, and 11 where the file cannot be
+read, the program cannot be run, or this reader does not find what the program refuses.
 """
 import difflib, json, sys, textwrap
 
-import answers, circuits, fields, forms, likely, program, scan, truth
+import answers, circuits, fields, forms, likely, openings, program, scan, truth
 from fill import command_of
 from phrases import counted, words
 
@@ -218,6 +218,9 @@ def say_false(case, false, most=20):
 
 
 def false_claim(case):
+    if case.command == "openings":
+        openings.say_claims(case)
+        return
     say_false(case, truth.false_statements(case.job()))
 
 
@@ -259,6 +262,8 @@ def true_build(case, challenges, changed=None):
         return truth.built("product", job | {"mode": "build"})
     if case.command == "matmul":
         return truth.built("matmul", job | {"claimed": truth.true_product(job), "mode": "build"})
+    if case.command == "openings":  # under a script no draw goes by what is sent
+        return truth.built("openings", (job if job["challenger"] == "hash" else job | {"bits": 0}) | {"claims": truth.true_table_claims(job), "mode": "build"})
     return truth.built("audit", truth.filled(job) | {"mode": {"build": "plain"}})
 
 
@@ -272,8 +277,8 @@ def other_jobs(job):
 
 
 def say_likely(case, built, number, challenges):
-    """What the first round that differs looks like, where it is one of `audit` or `matmul`."""
-    if case.command in ("audit", "matmul") and len(rounds_of(case)[0][number]) == 2:
+    """What the first round that differs looks like, where it is one of two values."""
+    if case.command in ("audit", "matmul", "openings") and len(rounds_of(case)[0][number]) == 2:
         others = {f'{member} "{word}"': true_build(case, challenges, {member: word})[1].get("rounds", [])
                   for member, word in (other_jobs(case.job()) if case.command == "audit" else ())}
         case.say(*likely.guesses(case.job(), built, number, rounds_of(case)[0][number], others))
@@ -315,6 +320,8 @@ def say_claims(case):
         false = truth.false_entries(case.job())
         say_entries(case, false)
         return not false
+    if case.command == "openings":
+        return openings.say_claims(case)
     false = truth.false_statements(case.job())
     say_false(case, false)
     return not false
@@ -323,11 +330,13 @@ def say_claims(case):
 def say_rounds(case, challenges):
     """Compares with a build; where it finds no witness, with one without a test, as far as no challenge comes in."""
     status, told = true_build(case, challenges)
-    whose = "a build of the true claims" + ("" if challenges is None else " at the same challenges")
+    whose = "a build of the true claims" + (" under the same draws" if case.command == "openings" else "" if challenges is None else " at the same challenges")
     if status == 0:
         number = compare(case, told["rounds"], whose)
         if number is not None:
             say_likely(case, told, number, challenges)
+    elif told["outcome"] == "no-witness" and case.command in ("matmul", "openings"):  # their first round goes by a draw
+        case.say(f"A build of this job finds no witness for round {told['round']}, so nothing is compared.")
     elif told["outcome"] == "no-witness":
         case.say(f"A build of this job finds no witness for round {told['round']}, so only the first round is compared.")
         compare(case, true_build(case, [])[1].get("rounds", [])[:1], whose)
@@ -339,10 +348,17 @@ def refuted(case):
     if case.command == "circuit":
         circuits.refuted(case)
         return
-    if say_claims(case):
-        case.say({"audit": "Every claim is true.", "matmul": "Every entry is true."}.get(case.command, "The claimed sum is the true one."))
+    if case.command == "openings":
+        openings.say_openings(case)
+    true_claims = say_claims(case)
+    if true_claims:
+        case.say({"product": "The claimed sum is the true one.", "matmul": "Every entry is true."}.get(case.command, "Every claim is true."))
     else:
         case.say("So a proof is refuted unless a challenge is lucky, whatever rounds it sends.")
+    if case.command == "openings":
+        if openings.is_comparable(case, true_claims):
+            say_rounds(case, None)
+        return
     first = [case.told["point"]] if case.command == "matmul" else []
     say_rounds(case, first + [it["challenge"] for it in case.told["rounds"]])
 
@@ -356,7 +372,7 @@ def lucky(case):
     elif "round" in told:
         where = f"the challenge of round {told['round']}, which is {case.told['rounds'][told['round']]['challenge']},"
     else:
-        where = f"the point, which is {case.told['point']}," if case.command == "matmul" else "the batching challenge"
+        where = {"matmul": f"the point, which is {case.told.get('point')},", "openings": "the challenge that merges the claims"}.get(case.command, "the batching challenge")
     case.say(f"The rounds are right all the same, since {where} is one of {told['vanishing']} at which the polynomial above vanishes, of degree "
              f"at most {degree}; at any other the claim would have stayed false.")
     if degree <= MOST_DEGREE:
@@ -382,14 +398,15 @@ def proof_refused(case):
     if case.command == "circuit":
         circuits.proof_refused(case)
         return
-    case.say((PROOFS | (PROOFS_OF_MATRICES if case.command == "matmul" else {}))[case.told["cause"]].format(**case.told))
+    case.say((PROOFS | {"matmul": PROOFS_OF_MATRICES, "openings": openings.PROOFS}.get(case.command, {}))[case.told["cause"]].format(**case.told))
     if case.told["cause"] == "missing":
         return
     if case.told["cause"] == "width":
         case.say(f"Its values stand at {case.at(round_value(case, case.told['round']).start)}.")
         return
-    if say_claims(case) or case.command == "audit":  # what product and matmul claim is shown to the challenger, a claim of audit is not
-        say_rounds(case, None)
+    true_claims = say_claims(case)
+    if case.command == "audit" or (openings.is_comparable(case, true_claims) if case.command == "openings" else true_claims):
+        say_rounds(case, None)  # what a job claims is shown to the challenger, but for a claim of audit
 
 
 def no_witness(case):
@@ -407,7 +424,7 @@ def no_witness(case):
 CAUSES = {
     "too-long": too_long, "bad-json": bad_json, "bad-job": bad_job, "job-shape": job_shape, "strategy-unfit": strategy_unfit,
     "false-claim": false_claim, "veil": veil, "explain": explain, "matmul": matmul, "false-entry": false_entry,
-    "circuit": circuits.misfit, "false-output": circuits.say_outputs,
+    "circuit": circuits.misfit, "false-output": circuits.say_outputs, "openings": openings.misfit,
 }
 VERDICTS = {"refuted": refuted, "lucky-batch": lucky, "lucky-point": lucky, "lucky-merge": lucky, "lucky-round": lucky}
 
