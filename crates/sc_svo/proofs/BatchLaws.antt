@@ -1,20 +1,21 @@
 -- The grids and the residual tables of a batch.
 use mathlib.Core.Path.{fun_ext}
-use Rattle.std.proofs.Common.{◌≡◌, ℕ, zero, suc, ◌+◌, ◌-◌, ◌^◌, ◌<◌, List, [], ◌∷◌, ◌++◌, length, map, get_or, take, reverse, refl, sym, ◌∙◌, ap, subst, arith}
+use Rattle.std.proofs.Common.{◌≡◌, ℕ, zero, suc, ◌+◌, ◌-◌, ◌^◌, ◌<◌, ◌≤◌, List, [], ◌∷◌, ◌++◌, length, map, get_or, take, reverse, refl, sym, ◌∙◌, ap, subst, arith}
 use Rattle.std.proofs.lemmas.List.{append-nil, length-map, map-append, get_or-map, reverse-append}
+use Rattle.std.proofs.lemmas.Nat.{pow_below}
 use Rattle.std.proofs.lemmas.List.Elements.{All-append}
 use Rattle.std.proofs.lemmas.Grind.{take_at_read}
-use Rattle.sc_definitions.specs.Ring.{Ops, IsRing, plus, times}
-use Rattle.sc_definitions.specs.Tables.{sum_below, Order, prefix, suffix, evaluation, entries, rows_of, point_of}
+use Rattle.sc_definitions.specs.Ring.{Ops, IsRing, element, plus, times}
+use Rattle.sc_definitions.specs.Tables.{sum_below, inner, Order, prefix, suffix, evaluation, entries, rows_of, point_of}
 use Rattle.sc_definitions.specs.Statements.{weight_of, true_value}
 use Rattle.sc_definitions.specs.Grids.{Digit, nought, infinity, ternary, grid_entry, grid_of, grids_of, place_weight, read_off, read_message}
 use Rattle.sc_definitions.specs.Rounds.{honest_pair}
-use Rattle.sc_definitions.proofs.Sums.{sum-same}
+use Rattle.sc_definitions.proofs.Sums.{sum-same, element-sum}
 use Rattle.sc_field.specs.Products.{products}
 use Rattle.sc_definitions.specs.Combined.{Scaled, combined_weight}
-use Rattle.sc_definitions.proofs.RingLaws.{plus_comm}
+use Rattle.sc_definitions.proofs.RingLaws.{plus_comm, plus-zero}
 use Rattle.sc_definitions.proofs.Identity.{atom, ◌⊕◌, Agree, identity}
-use Rattle.sc_definitions.proofs.GridLaws.{rows-grid_list, grid_entry-sum, IsGrid, grid_of-is, length-grids_of, grids_of-at, grids_of-is, grids_of-honest}
+use Rattle.sc_definitions.proofs.GridLaws.{rows-grid_list, grid_entry-sum, grid_entry-zero, IsGrid, grid_of-is, length-grids_of, grids_of-at, grids_of-is, grids_of-honest}
 use Rattle.sc_partials.specs.declared.sums.Sums.{Sums}
 use Rattle.sc_partials.specs.Sums.{sum_shown, sums_shown, AreSumsSized, AddsWeights}
 use Rattle.sc_partials.specs.Partials.{opened}
@@ -115,6 +116,47 @@ module _ {EF : Type 0} (number : EF → ℕ) (o : Ops) (ring : IsRing o) (order 
       (λ j low. gained (some_item old j (subst (λ k. j < k) (sym many) low)) (scaled_in number c) (scaled_weight o (scaled_in number c)) v old new (map number c.point)
       refl refl many (length-map c.point number ∙ arity) is gains j low)
 
+  entry-element : (u : ℕ → ℕ) (ds : List Digit) (m : ℕ) → element o (grid_entry order o f u ds m) ≡ grid_entry order o f u ds m
+  unfolding grid_entry inner
+  entry-element u ds m = element-sum o ring (2 ^ m) _
+
+  -- with the grids of weights added to those of none, they are the grids of these weights
+  pub weights-gained : (u : ℕ → ℕ) (old new : List (Sums EF)) (zs : List ℕ) → w ≡ (λ b. 0) → length zs ≡ n → sums_shown number old ≡ grids_of order o n f w l →
+      AddsWeights number o (opened order f zs) u old new → sums_shown number new ≡ grids_of order o n f u l
+  weights-gained u old new zs none size is gains =
+      let many : length old ≡ l = count-sums old is in
+      grids_of-is order o n f u l (sums_shown number new) ([], []) (length-map new (sum_shown number) ∙ gains.same ∙ many) (λ j low.
+      let m = n - suc j in
+      let here : j < length old = subst (λ k. j < k) (sym many) low in
+      let there : j < length new = subst (λ k. j < k) (sym gains.same) here in
+      let item = some_item old j here in
+      let before = get_or old j item in
+      let after = get_or new j item in
+      let added = gains.added j item here in
+      let shown : get_or (sums_shown number new) j ([], []) ≡ sum_shown number after = get_or-map (sum_shown number) new j item ([], []) there in
+      let old_grid = at_round old j item is low in
+      let whole = grid_of-is order o f u j (length zs - suc j) in
+      let left : length zs - suc j ≡ m = ap (λ k. k - suc j) size in
+      let value_at : (ds : List Digit) (old_value gain : ℕ) → old_value ≡ grid_entry order o f w ds m → gain ≡ grid_entry order o f u ds (length zs - suc j) →
+      plus o old_value gain ≡ grid_entry order o f u ds m =
+      λ ds old_value gain old_is gain_is.
+      let E = grid_entry order o f u ds m in
+      ap (λ t. plus o t gain) (old_is ∙ ap (λ t. grid_entry order o f t ds m) none ∙ grid_entry-zero o ring order f ds m)
+      ∙ ap (plus o 0) (gain_is ∙ ap (grid_entry order o f u ds) left)
+      ∙ plus_comm o ring 0 E ∙ plus-zero o ring E ∙ entry-element u ds m in
+      subst (IsGrid order o f u j m) (sym shown) (record {
+        length_nought = length-map after.zero.items number ∙ added.sized.zero;
+        length_infinity = length-map after.infinity.items number ∙ added.sized.infinity;
+        at_nought = λ k k_low. numbers-rows number after.zero.items k ∙ added.zero k k_low
+            ∙ value_at (ternary j k ++ nought ∷ []) (entries number before.zero.items k) _
+            (sym (numbers-rows number before.zero.items k) ∙ ap (λ (p : List ℕ × List ℕ). rows_of p.0 k) old_grid ∙ rows-grid_list order o f w nought j m k k_low)
+            (whole.at_nought k k_low);
+        at_infinity = λ k k_low. numbers-rows number after.infinity.items k ∙ added.infinity k k_low
+            ∙ value_at (ternary j k ++ infinity ∷ []) (entries number before.infinity.items k) _
+            (sym (numbers-rows number before.infinity.items k) ∙ ap (λ (p : List ℕ × List ℕ). rows_of p.1 k) old_grid ∙ rows-grid_list order o f w infinity j m k k_low)
+            (whole.at_infinity k k_low);
+      }))
+
 -- ---- the claims that were gone through
 
 -- one claim more
@@ -192,6 +234,10 @@ copy_same number copy c point successor coefficient =
     ap (λ t. record { kind = kind_by copy.successor (map number t); coefficient = number copy.coefficient }) point
     ∙ ap (λ t. record { kind = kind_by t (map number c.point); coefficient = number copy.coefficient }) successor
     ∙ ap (λ t. record { kind = kind_by c.successor (map number c.point); coefficient = number t }) coefficient
+
+-- a table of 2^40 rows at most has a length that fits
+pub rows_fit : (n rows : ℕ) → n ≤ 40 → rows ≡ 2 ^ n → rows < 18446744073709551616
+rows_fit n rows few is = subst (λ k. k < 18446744073709551616) (sym is) (pow_below n 64 (omega (arith, few)))
 
 -- ---- a batch that was made
 

@@ -4,3 +4,4 @@ pub mod ClaimLaws
 pub mod BatchLaws
 pub mod BoundLaws
 pub mod PlacedTables
+pub mod TogetherLaws

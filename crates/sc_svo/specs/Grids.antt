@@ -1,5 +1,6 @@
 -- What clauses see of grids.
-use Rattle.std.specs.Prelude.{◌≡◌, ℕ, ◌^◌, ◌<◌, List, length, map, get_or}
+use Rattle.std.specs.Prelude.{◌≡◌, ℕ, ◌+◌, ◌*◌, ◌^◌, ◌<◌, List, length, map, get_or}
+use Rattle.sc_definitions.specs.Tables.{Order, prefix, suffix}
 use Rattle.sc_svo.specs.declared.grid.Grid.{Grid}
 use Rattle.sc_svo.specs.declared.grid.Grids.{Grids}
 
@@ -23,3 +24,8 @@ AreSized g = (j : ℕ) (d : Grid _) → j < length g.rounds → IsSized j (get_o
 -- the greatest number of rounds that are built from grids
 abbrev pub most_rounds : ℕ
 most_rounds = 12
+
+-- the row of a table where the n variables that are bound first are those of row a, and the m others those of row b
+unfoldable pub row_at : Order → ℕ → ℕ → ℕ → ℕ → ℕ
+row_at prefix n m b a = b + a * 2 ^ m
+row_at suffix n m b a = b * 2 ^ n + a * 1

@@ -11,8 +11,9 @@ ghost use Rattle.sc_svo.specs.Claims.{AreOn, FitsTable, claims_in, true_values_o
 ghost use Rattle.sc_svo.specs.Grids.{AreSized, most_rounds, grids_shown};
 ghost use Rattle.sc_svo.specs.Bound.{IsBoundTable};
 
-use crate::claims::{SvoClaim, add_bound, add_claim};
+use crate::claims::{SvoClaim, add_bound, add_claim, claim_value};
 use crate::grid::{Grids, into_grids};
+use crate::together::{add_weighted, take_less_together};
 use sc_field::{ExtensionField, Field, NoMemory, with_room};
 use sc_partials::{Sums, empty_sums};
 use sc_table::{
@@ -47,9 +48,11 @@ impl<F: Field, EF: ExtensionField<F>> SvoBatch<F, EF> {
     /// The batch of these claims on a table, with the grids of `l0` rounds: at least one, at most
     /// [`MOST_ROUNDS`], and at most as many as there are variables, of which there are at most 40.
     ///
-    /// It takes one pass over the table for each claim on a value at a point, and two for each one
-    /// through the successor map in suffix order. `NoMemory` comes where there is none for the
-    /// grids, for copies of the claims, or for what is summed on the way.
+    /// Of few claims the grids are made claim by claim: it takes one pass over the table for each
+    /// claim on a value at a point, and two for each one through the successor map in suffix order.
+    /// Of many they are made of all weights added up, where that takes fewer products: a pass more
+    /// for each claim, and then no more for many than for few. `NoMemory` comes where there is none
+    /// for the grids, for copies of the claims, for those weights, or for what is summed on the way.
     pub fn new(
         alloc: Global,
         order: VariableOrder,
@@ -191,30 +194,62 @@ impl<F: Field, EF: ExtensionField<F>> SvoBatch<F, EF> {
     {
         let point = point_at(alloc, self.order, rs)?;
         let evals = bound_table::<F, EF>(alloc, self.order, &point, table)?;
-        let weights = self.weights_at(alloc, &point)?;
+        let weights = weights_at::<F, EF>(alloc, self.order, self.variables, &self.claims, &point)?;
         Ok((evals, weights))
-    }
-
-    // The weights of all claims, with the variables of the small-value rounds bound at a point,
-    // which has a coordinate for each of them.
-    fn weights_at(&self, alloc: Global, point: &Point<EF>) -> Result<Poly<EF>, NoMemory>
-        requires { length point.now ≡ length (batch_in self.now).grids }
-        ensures { (rs : List ℕ) → map EF.number point.now ≡ point_of (batch_in self.now).order rs
-            → IfOk result (IsBoundBy EF.ops EF.number (batch_in self.now)
-            (combined_weight EF.ops (batch_in self.now).claims) rs) }
-    {
-        let left = self.variables - point.num_variables();
-        let mut rows = Poly::zero(alloc, left)?.into_evals();
-        for claim in &self.claims {
-            add_bound::<F, EF>(alloc, self.order, claim, point, &mut rows)?;
-        }
-        Ok(Poly::new(rows))
     }
 }
 
+// The weights of claims at points of so many coordinates, each times its claim's coefficient, with
+// the variables that are bound first bound at a point, which has a coordinate for each of them.
+fn weights_at<F: Field, EF: ExtensionField<F>>(
+    alloc: Global,
+    order: VariableOrder,
+    variables: usize,
+    claims: &[SvoClaim<EF>],
+    point: &Point<EF>,
+) -> Result<Poly<EF>, NoMemory>
+    requires few { variables ≤ 40 }
+    requires on { AreOn variables claims.now }
+    requires point { length point.now ≤ variables }
+    ensures { (rs : List ℕ) → map EF.number point.now ≡ point_of (order_of order) rs → IfOk result
+        (IsBoundTable EF.ops EF.number (order_of order)
+        (combined_weight EF.ops (claims_in EF.number claims.now)) (2 ^ variables) rs) }
+{
+    let left = variables - point.num_variables();
+    let mut rows = Poly::zero(alloc, left)?.into_evals();
+    for claim in claims {
+        add_bound::<F, EF>(alloc, order, claim, point, &mut rows)?;
+    }
+    Ok(Poly::new(rows))
+}
+
 // The grids of a table with the weights of all claims, as sums, and the values that the claims are
-// on.
+// on: by the way of fewer products.
 fn gathered<F: Field, EF: ExtensionField<F>>(
+    alloc: Global,
+    order: VariableOrder,
+    table: &[F],
+    claims: &[SvoClaim<EF>],
+    l0: usize,
+) -> Result<(Vec<Sums<EF>>, Vec<EF>), NoMemory>
+    requires few { l0 ≤ most_rounds }
+    requires fits { FitsTable (length table.now) l0 claims.now }
+    ensures grids { (n : ℕ) → length table.now ≡ 2 ^ n → IfOk result (λ r. sums_shown EF.number r.0.items
+        ≡ grids_of (order_of order) EF.ops n (entries (λ x. EF.embedding (F.number x)) table.now)
+        (combined_weight EF.ops (claims_in EF.number claims.now)) l0) }
+    ensures values { (n : ℕ) → length table.now ≡ 2 ^ n → IfOk result (λ r. map EF.number r.1.items
+        ≡ true_values_of EF.ops n (entries (λ x. EF.embedding (F.number x)) table.now)
+        (claims_in EF.number claims.now)) }
+{
+    if take_less_together(table.len(), claims, l0) {
+        gathered_together(alloc, order, table, claims, l0)
+    } else {
+        gathered_apart(alloc, order, table, claims, l0)
+    }
+}
+
+// The same, claim after claim.
+fn gathered_apart<F: Field, EF: ExtensionField<F>>(
     alloc: Global,
     order: VariableOrder,
     table: &[F],
@@ -236,6 +271,58 @@ fn gathered<F: Field, EF: ExtensionField<F>>(
         values.push(add_claim::<F, EF>(alloc, order, table, claim, &mut sums)?)?;
     }
     Ok((sums, values))
+}
+
+// The same, of the weights of all claims added up.
+fn gathered_together<F: Field, EF: ExtensionField<F>>(
+    alloc: Global,
+    order: VariableOrder,
+    table: &[F],
+    claims: &[SvoClaim<EF>],
+    l0: usize,
+) -> Result<(Vec<Sums<EF>>, Vec<EF>), NoMemory>
+    requires few { l0 ≤ most_rounds }
+    requires fits { FitsTable (length table.now) l0 claims.now }
+    ensures grids { (n : ℕ) → length table.now ≡ 2 ^ n → IfOk result (λ r. sums_shown EF.number r.0.items
+        ≡ grids_of (order_of order) EF.ops n (entries (λ x. EF.embedding (F.number x)) table.now)
+        (combined_weight EF.ops (claims_in EF.number claims.now)) l0) }
+    ensures values { (n : ℕ) → length table.now ≡ 2 ^ n → IfOk result (λ r. map EF.number r.1.items
+        ≡ true_values_of EF.ops n (entries (λ x. EF.embedding (F.number x)) table.now)
+        (claims_in EF.number claims.now)) }
+{
+    let values = claim_values::<F, EF>(alloc, order, table, claims)?;
+    let variables = table.len().trailing_zeros() as usize;
+    let origin = Point::new(Vec::new(alloc));
+    let weights = weights_at::<F, EF>(alloc, order, variables, claims, &origin)?;
+    let mut sums = empty_sums(alloc, l0)?;
+    add_weighted(
+        alloc,
+        order,
+        table,
+        weights.as_slice(),
+        variables,
+        &mut sums,
+    )?;
+    Ok((sums, values))
+}
+
+// The values that the claims are on.
+fn claim_values<F: Field, EF: ExtensionField<F>>(
+    alloc: Global,
+    order: VariableOrder,
+    table: &[F],
+    claims: &[SvoClaim<EF>],
+) -> Result<Vec<EF>, NoMemory>
+    requires { FitsTable (length table.now) 0 claims.now }
+    ensures { (n : ℕ) → length table.now ≡ 2 ^ n → IfOk result (λ v. map EF.number v.items
+        ≡ true_values_of EF.ops n (entries (λ x. EF.embedding (F.number x)) table.now)
+        (claims_in EF.number claims.now)) }
+{
+    let mut values = with_room(alloc, claims.len())?;
+    for claim in claims {
+        values.push(claim_value::<F, EF>(alloc, order, table, claim)?)?;
+    }
+    Ok(values)
 }
 
 // Copies of these claims.

@@ -78,6 +78,23 @@ pub(crate) fn add_claim<F: Field, EF: ExtensionField<F>>(
     }
 }
 
+// The value that a claim is on.
+pub(crate) fn claim_value<F: Field, EF: ExtensionField<F>>(
+    alloc: Global,
+    order: VariableOrder,
+    table: &[F],
+    claim: &SvoClaim<EF>,
+) -> Result<EF, NoMemory>
+    requires few { length claim.now.point ≤ 40 }
+    requires rows { length table.now ≡ 2 ^ length claim.now.point }
+    ensures { IfOk result (λ v. EF.number v ≡ true_value EF.ops (length claim.now.point)
+        (entries (λ x. EF.embedding (F.number x)) table.now)
+        (kind_by claim.now.successor (map EF.number claim.now.point))) }
+{
+    let mut none = Vec::new(alloc);
+    add_claim::<F, EF>(alloc, order, table, claim, &mut none)
+}
+
 // The same of a value at a point.
 fn add_equality<F: Field, EF: ExtensionField<F>>(
     alloc: Global,

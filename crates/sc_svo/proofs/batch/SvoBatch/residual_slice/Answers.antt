@@ -1,5 +1,5 @@
 use mathlib.Core.Path.{fun_ext}
-use Rattle.std.proofs.Common.{◌≡◌, ℕ, ◌+◌, ◌-◌, ◌^◌, List, length, map, ◌∙◌, ap, sym, arith}
+use Rattle.std.proofs.Common.{◌≡◌, ℕ, ◌+◌, ◌-◌, ◌^◌, List, length, map, ◌∙◌, ap, sym, subst, arith}
 use Rattle.std.proofs.lemmas.List.{length-map}
 use Rattle.sc_definitions.specs.Tables.{Order, entries, point_of, evaluation, bound_by}
 use Rattle.sc_definitions.proofs.Lengths.{pow-same}
@@ -7,6 +7,8 @@ use Rattle.sc_definitions.proofs.PlacedSums.{length-point_of}
 use Rattle.sc_table.specs.Polys.{variables_of}
 use Rattle.sc_table.specs.Strategy.{order_of}
 use Rattle.sc_table.proofs.EntryLaws.{entry-embedded}
+use Rattle.sc_definitions.specs.Combined.{combined_weight}
+use Rattle.sc_svo.specs.Claims.{claims_in, AreOn}
 use Rattle.sc_svo.specs.Grids.{grid_shown}
 use Rattle.sc_svo.specs.Batches.{batch_in}
 use Rattle.sc_svo.proofs.PlacedTables.{placed_by}
@@ -31,9 +33,17 @@ bound_table-requires-clause-size g c =
     omega (arith, many, c.requires.challenges, length-map s.grids.rounds (grid_shown g.EF.Field.number), s.within) in
     (s.variables - n, c.requires.table ∙ ap (λ k. 2 ^ k) split)
 
-pub weights_at-requires : goal.weights_at-requires
-weights_at-requires g c =
-    count g.EF.Field.number (order_of c.args.self.now.order) c.in_ok-point.point c.args.rs.now c.in_ok-point.ensures ∙ c.requires.challenges
+pub weights_at-requires-clause-few : goal.weights_at-requires-clause-few
+weights_at-requires-clause-few g c = c.args.self.now.few
+
+pub weights_at-requires-clause-on : goal.weights_at-requires-clause-on
+weights_at-requires-clause-on g c = subst (AreOn c.args.self.now.variables) (sym c.deref.ensures.value) c.args.self.now.on
+
+pub weights_at-requires-clause-point : goal.weights_at-requires-clause-point
+weights_at-requires-clause-point g c =
+    let s = c.args.self.now in
+    let many = count g.EF.Field.number (order_of s.order) c.in_ok-point.point c.args.rs.now c.in_ok-point.ensures in
+    omega (arith, many, c.requires.challenges, length-map s.grids.rounds (grid_shown g.EF.Field.number), s.within)
 
 pub returns-clause-evals : goal.returns-clause-evals
 returns-clause-evals g c =
@@ -51,7 +61,16 @@ returns-clause-evals g c =
     }
 
 pub returns-clause-weights : goal.returns-clause-weights
-returns-clause-weights g c = c.in_ok-weights.ensures (map g.EF.Field.number c.args.rs.now) c.in_ok-point.ensures
+returns-clause-weights g c =
+    let s = c.args.self.now in
+    let e = g.EF.Field in
+    let rs = map e.number c.args.rs.now in
+    let is = c.in_ok-weights.ensures rs c.in_ok-point.ensures in
+    record {
+      variables = pow-same _ s.variables (sym is.size);
+      rows = λ b low. is.entries_are b low
+          ∙ ap (λ cs. bound_by evaluation (order_of s.order) e.ops rs (variables_of c.in_ok-weights.weights) (combined_weight e.ops (claims_in e.number cs)) b) c.deref.ensures.value;
+    }
 
 -- the same by the original tables
 pub returns-clause-placed_evals : goal.returns-clause-placed_evals

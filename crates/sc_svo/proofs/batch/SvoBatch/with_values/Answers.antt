@@ -1,7 +1,6 @@
 use mathlib.Core.Path.{fun_ext}
-use Rattle.std.proofs.Common.{◌≡◌, ℕ, ◌^◌, ◌<◌, ◌≤◌, List, length, refl, ◌∙◌, sym, subst, arith}
+use Rattle.std.proofs.Common.{◌≡◌, ℕ, List, length, refl, ◌∙◌, sym, subst, arith}
 use Rattle.std.proofs.lemmas.List.{length-map}
-use Rattle.std.proofs.lemmas.Nat.{pow_below}
 use Rattle.sc_definitions.specs.Tables.{entries}
 use Rattle.sc_definitions.proofs.Lengths.{pow-same}
 use Rattle.sc_table.specs.Strategy.{order_of}
@@ -9,12 +8,8 @@ use Rattle.sc_table.proofs.EntryLaws.{entry-embedded}
 use Rattle.sc_table.proofs.PowerLaws.{variables_of_length}
 use Rattle.sc_svo.specs.Claims.{claims_in, AreOn}
 use Rattle.sc_svo.specs.Grids.{grid_shown, grids_shown}
-use Rattle.sc_svo.proofs.BatchLaws.{grids-sized, count-grids, grids-as, values-as}
+use Rattle.sc_svo.proofs.BatchLaws.{grids-sized, count-grids, grids-as, values-as, rows_fit}
 use Rattle.sc_svo.proofs.batch.SvoBatch.with_values.Goals as goal
-
--- a table of 2^40 rows at most has a length that fits
-rows_fit : (n rows : ℕ) → n ≤ 40 → rows ≡ 2 ^ n → rows < 18446744073709551616
-rows_fit n rows few is = subst (λ k. k < 18446744073709551616) (sym is) (pow_below n 64 (omega (arith, few)))
 
 -- the entries of a table's images are the images of its entries
 images : {X : Type 0} (h : ℕ → ℕ) (number : X → ℕ) (xs : List X) → h 0 ≡ 0 → entries (λ x. h (number x)) xs ≡ (λ b. h (entries number xs b))

@@ -9,7 +9,7 @@ use Rattle.sc_table.specs.Strategy.{order_of}
 use Rattle.sc_partials.specs.Sums.{AreSumsSized, sums_shown}
 use Rattle.sc_svo.specs.Claims.{scaled_in, claims_in, true_values_of, AddsClaim}
 use Rattle.sc_svo.proofs.BatchLaws.{sums-sized, count-sums, gathered-none, gathered-more, valued-none, valued-more, read_on}
-use Rattle.sc_svo.proofs.batch.gathered.Goals as goal
+use Rattle.sc_svo.proofs.batch.gathered_apart.Goals as goal
 
 pub add_claim-requires-clause-rounds : goal.add_claim-requires-clause-rounds
 add_claim-requires-clause-rounds g c =

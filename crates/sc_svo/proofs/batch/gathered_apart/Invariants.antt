@@ -5,7 +5,7 @@ use Rattle.sc_definitions.specs.Combined.{combined_weight}
 use Rattle.sc_table.specs.Strategy.{order_of}
 use Rattle.sc_partials.specs.Sums.{sums_shown}
 use Rattle.sc_svo.specs.Claims.{claims_in, true_values_of}
-use Rattle.sc_svo.proofs.batch.gathered.Given as goal
+use Rattle.sc_svo.proofs.batch.gathered_apart.Given as goal
 
 abbrev pub invariant-loop-claim : goal.invariant-loop-claim
 invariant-loop-claim g l = record {
