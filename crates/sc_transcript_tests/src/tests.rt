@@ -311,8 +311,64 @@ const EMPTY: Replay = Replay {
     last: &[],
 };
 
-static REPLAYS: [Replay; 8] = [
+static REPLAYS: [Replay; 14] = [
     TESTED,
+    Replay {
+        name: "a first witness that fails",
+        witnesses: &[6, 6],
+        answer: Err(SumcheckError::InvalidPowWitness {
+            round: 0,
+            difficulty: 1,
+        }),
+        claim_left: 2,
+        events: TWO_TESTED_ROUNDS + 4,
+        ..TESTED
+    },
+    Replay {
+        name: "one witness for two",
+        witnesses: &[5],
+        answer: Err(SumcheckError::PowWitnessCountMismatch {
+            expected: 2,
+            actual: 1,
+        }),
+        ..UNCOUNTED
+    },
+    Replay {
+        name: "three witnesses for two",
+        witnesses: &[5, 7, 7],
+        answer: Err(SumcheckError::PowWitnessCountMismatch {
+            expected: 2,
+            actual: 3,
+        }),
+        ..UNCOUNTED
+    },
+    Replay {
+        name: "no rounds for two",
+        rounds: &[],
+        answer: Err(SumcheckError::RoundCountMismatch {
+            expected: 2,
+            actual: 0,
+        }),
+        ..UNCOUNTED
+    },
+    Replay {
+        name: "three rounds for two",
+        rounds: &[(2, 65535), (0, 65535), (0, 0)],
+        answer: Err(SumcheckError::RoundCountMismatch {
+            expected: 2,
+            actual: 3,
+        }),
+        ..UNCOUNTED
+    },
+    Replay {
+        name: "a round for none",
+        rounds: &[(2, 65535)],
+        answer: Err(SumcheckError::RoundCountMismatch {
+            expected: 0,
+            actual: 1,
+        }),
+        ..EMPTY
+    },
     Replay {
         name: "no witnesses",
         witnesses: &[],

@@ -81,6 +81,14 @@ const GOOD: Replay = Replay {
     pow_bits: 0,
 };
 
+// The round of one mask.
+const ONE: Replay = Replay {
+    wires: &[&[95, 65511]],
+    ell_zk: 3,
+    rounds: 1,
+    ..GOOD
+};
+
 fn assert_answer<A: Abort>(rt: &A, alloc: Global, asked: &Replay, good: &[&[u64]], left: u64) {
     let (answer, _challenger) = replayed::<F65537>(alloc, asked, &[31, 2, 3], good).expect(
         rt,
@@ -105,13 +113,13 @@ fn a_claim_is_replayed(rt: HostRuntime) {
         ..GOOD
     };
     assert_answer(&rt, rt.alloc(), &tested, &[&[6], &[8]], 1213);
-    let one = Replay {
-        wires: &[&[95, 65511]],
-        ell_zk: 3,
-        rounds: 1,
-        ..GOOD
+    assert_answer(&rt, rt.alloc(), &ONE, &[], 65534);
+    // A wire with one more in its first value is replayed as well: only what is left tells.
+    let other = Replay {
+        wires: &[&[96, 65511]],
+        ..ONE
     };
-    assert_answer(&rt, rt.alloc(), &one, &[], 65534);
+    assert_answer(&rt, rt.alloc(), &other, &[], 65531);
 }
 
 // A replay that is refused: what is asked, the witnesses that pass, why it is refused, and how many
@@ -123,9 +131,46 @@ struct Refused {
     last: &'static [Event],
 }
 
-// The seed of two rounds has 714 words without a test and 854 with one; then come the claim, 64
-// words, the total and a draw, and each round's wire and draw.
-static REFUSED: [Refused; 7] = [
+// The seed of one round has 560 words without a test; that of two has 714, and 854 with one. Then
+// come the claim, 64 words, the total and a draw, and each round's wire and draw.
+static REFUSED: [Refused; 10] = [
+    Refused {
+        asked: Replay {
+            wires: &[&[95]],
+            ..ONE
+        },
+        error: SumcheckError::WireSizeMismatch {
+            round: 0,
+            expected: 2,
+            actual: 1,
+        },
+        events: 560 + 67,
+        last: &[Event::Draw],
+    },
+    Refused {
+        asked: Replay {
+            wires: &[&[95, 65511], &[95, 65511]],
+            ..ONE
+        },
+        error: SumcheckError::RoundCountMismatch {
+            expected: 1,
+            actual: 2,
+        },
+        events: 0,
+        last: &[],
+    },
+    Refused {
+        asked: Replay {
+            witnesses: &[5],
+            ..ONE
+        },
+        error: SumcheckError::PowWitnessCountMismatch {
+            expected: 0,
+            actual: 1,
+        },
+        events: 0,
+        last: &[],
+    },
     Refused {
         asked: Replay {
             ell_zk: 2,
