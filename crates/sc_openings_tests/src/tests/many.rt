@@ -7,8 +7,7 @@ use sc_challenger::Event;
 use sc_field::{Field, NoMemory};
 use sc_openings::{MergeError, OpeningClaim};
 use sc_small_fields::F65537;
-use sc_table::Point;
-use sc_tests_common::{of, scripted};
+use sc_tests_common::{of, point as point_of, scripted};
 use std::alloc::Global;
 use std::process::Abort;
 
@@ -152,15 +151,15 @@ fn true_claim<F: Field>(
     rows: [u64; 2],
 ) -> Result<OpeningClaim<F>, NoMemory> {
     let [first, second] = rows;
-    let (first, second, point, successor) = (of(first), of(second), of(point), point % 3 == 0);
+    let (first, second, successor) = (of(first), of(second), point % 3 == 0);
     let value = if successor {
         second
     } else {
-        F::add(first, F::mul(F::sub(second, first), point))
+        F::add(first, F::mul(F::sub(second, first), of(point)))
     };
     Ok(OpeningClaim {
         table,
-        point: Point::new(vec![in alloc; point]?),
+        point: point_of(alloc, &[point])?,
         successor,
         value,
     })
