@@ -9,19 +9,8 @@ use Rattle.sc_rounds.specs.Turns.{turn_in}
 use Rattle.sc_jobs.specs.Fitting.{stated_in}
 use Rattle.sc_verdicts.specs.Findings.{lucky, named}
 use Rattle.sc_jobs.specs.Figures.{finding_in}
-use Rattle.sc_audit.proofs.LuckFound.{pair-truth, luck-batch, luck-round}
-use Rattle.sc_audit.proofs.verdict.luck_on.Goals as goal
-
--- the batched claim is true
-pub returns-then-index : goal.returns-then-index
-returns-then-index g c =
-    let N = g.EF.Field.number in
-    let o = g.EF.Field.ops in
-    let p = stated_in c.args.fitting.now in
-    let same : claim_of o p ≡ true_claim_of o p [] p.variables =
-    sym c.in_ok-pair.ensures.claim ∙ sym c.index.ensures ∙ c.if-index.true ∙ c.index-2.ensures
-    ∙ pair-truth o g.met.EF.Field.is_field.ring N p c.in_ok-pair.pair _ c.in_ok-pair.ensures.pair c.dot_product.ensures in
-    subst (λ l. IfOk c.batch_verdict.result (λ v. finding_in N v ≡ named l)) (sym (luck-batch o p (messages_in N c.args.proof.now) (map N c.args.challenges.now) same)) c.batch_verdict.ensures
+use Rattle.sc_audit.proofs.LuckFound.{luck-round}
+use Rattle.sc_audit.proofs.verdict.turn_on.Goals as goal
 
 -- a round made it true
 pub returns-in-Some : goal.returns-in-Some
@@ -31,18 +20,14 @@ returns-in-Some g c =
     let p = stated_in c.args.fitting.now in
     let ms = messages_in N c.args.proof.now in
     let rs = map N c.args.challenges.now in
-    let pair = c.in_ok-pair.ensures.pair in
     let turn = c.in-Some.turn in
-    let other : claim_of o p ≡ true_claim_of o p [] p.variables → ⊥ = λ e.
-    c.if-index.false (c.index.ensures ∙ c.in_ok-pair.ensures.claim ∙ e
-    ∙ sym (pair-truth o g.met.EF.Field.is_field.ring N p c.in_ok-pair.pair _ pair c.dot_product.ensures) ∙ sym c.index-2.ensures) in
     let first : Some (turn_in N turn) ≡ first_turn (course_of o p) 0 (claim_of o p) ms [] rs =
-    ap (option_map (turn_in N)) (sym c.in-Some.is) ∙ c.in_ok-turn.ensures.found (tables_in o p) p.variables pair
+    ap (option_map (turn_in N)) (sym c.in-Some.is) ∙ c.in_ok-turn.ensures.found (tables_in o p) p.variables c.in_ok-pair.ensures.pair
     ∙ ap (λ x. first_turn (course_of o p) 0 x (map (pair_of N) c.polynomial_evaluations-messages.result.now) [] (map N c.as_slice.result.now)) c.in_ok-pair.ensures.claim
     ∙ ap (λ l. first_turn (course_of o p) 0 (claim_of o p) (map (pair_of N) l) [] (map N c.as_slice.result.now)) c.polynomial_evaluations-messages.ensures
     ∙ ap (λ l. first_turn (course_of o p) 0 (claim_of o p) ms [] (map N l)) c.as_slice.ensures in
     ap (λ k. lucky (in_round turn.round (map N turn.polynomial) k)) (c.count_roots-vanishing.ensures.count ∙ ap (λ l. root_count o (map N l)) c.as_slice-in-Some.ensures)
-    ∙ sym (ap named (luck-round o p ms rs other (Some (turn_in N turn)) first))
+    ∙ sym (ap named (luck-round o p ms rs c.requires.wrong (Some (turn_in N turn)) first))
 
 -- none did
 pub returns-in-None : goal.returns-in-None
@@ -52,13 +37,9 @@ returns-in-None g c =
     let p = stated_in c.args.fitting.now in
     let ms = messages_in N c.args.proof.now in
     let rs = map N c.args.challenges.now in
-    let pair = c.in_ok-pair.ensures.pair in
-    let other : claim_of o p ≡ true_claim_of o p [] p.variables → ⊥ = λ e.
-    c.if-index.false (c.index.ensures ∙ c.in_ok-pair.ensures.claim ∙ e
-    ∙ sym (pair-truth o g.met.EF.Field.is_field.ring N p c.in_ok-pair.pair _ pair c.dot_product.ensures) ∙ sym c.index-2.ensures) in
     let first : None ≡ first_turn (course_of o p) 0 (claim_of o p) ms [] rs =
-    ap (option_map (turn_in N)) (sym c.in-None.is) ∙ c.in_ok-turn.ensures.found (tables_in o p) p.variables pair
+    ap (option_map (turn_in N)) (sym c.in-None.is) ∙ c.in_ok-turn.ensures.found (tables_in o p) p.variables c.in_ok-pair.ensures.pair
     ∙ ap (λ x. first_turn (course_of o p) 0 x (map (pair_of N) c.polynomial_evaluations-messages.result.now) [] (map N c.as_slice.result.now)) c.in_ok-pair.ensures.claim
     ∙ ap (λ l. first_turn (course_of o p) 0 (claim_of o p) (map (pair_of N) l) [] (map N c.as_slice.result.now)) c.polynomial_evaluations-messages.ensures
     ∙ ap (λ l. first_turn (course_of o p) 0 (claim_of o p) ms [] (map N l)) c.as_slice.ensures in
-    sym (ap named (luck-round o p ms rs other None first))
+    sym (ap named (luck-round o p ms rs c.requires.wrong None first))
