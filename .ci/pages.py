@@ -1,7 +1,7 @@
 """Checks of the documents, for .ci/repository.
 
 usage: .ci/pages.py commands PAGE..     each command after a '$ ' writes what stands below it
-       .ci/pages.py lines PAGE FILE..   each block of Rust or of specs on the page stands in one of the files
+       .ci/pages.py lines PAGE FILE..   each block of Rust, of C or of specs on the page stands in one of the files
        .ci/pages.py job PAGE FILE       the page's JSON is that of the file
        .ci/pages.py narrow COUNT PAGE   at most so many lines, each of at most 120 characters (COUNT 0: of any number)
        .ci/pages.py wide COUNT FILE..   at most so many lines of the files have more than 100 characters
@@ -35,7 +35,8 @@ def commands(*pages):
     return runs and not wrong
 
 def lines(page, *files):
-    found, texts = blocks(page, "rust") + blocks(page, "antt"), [text_of(file) for file in files]
+    found = [it for word in ("rust", "c", "antt") for it in blocks(page, word)]
+    texts = [text_of(file) for file in files]
     return found and all(any(it in text for text in texts) for it in found)
 
 def job(page, file):

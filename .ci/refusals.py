@@ -79,7 +79,7 @@ def handed_out(text):
     """The names that a crate's lib.rt hands out."""
     text = without_comments(text)
     names = {name for found in re.finditer(r"pub use ([^;]+);", text) for name in re.findall(r"\w+", found.group(1))}
-    return names | set(re.findall(r"pub (?:struct|enum|trait|fn|const fn) (\w+)", text))
+    return names | set(re.findall(r"pub (?:struct|enum|trait|fn|const fn|extern \"C\" fn) (\w+)", text))
 
 
 def other_names(texts, names):
@@ -131,7 +131,7 @@ def owner_name(owner, aliases):
 def calls_in(file, raw, names, aliases):
     text, lines = without_comments(raw), raw.split("\n")
     places = list(scopes(text))
-    for found in re.finditer(r"(?m)^[ \t]*(pub )?(?:const )?fn (\w+)", text):
+    for found in re.finditer(r"(?m)^[ \t]*(pub )?(?:const |extern \"C\" )?fn (\w+)", text):
         inside = [it for it in places if it[0] < found.start() < it[1]]
         start = text.index("(", found.end())
         end = closed(text, start, "()")

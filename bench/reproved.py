@@ -9,7 +9,7 @@ import re, sys
 def stands_on(path="crates.txt"):
     """The crates, each with those that its line names."""
     lines = [it for it in open(path, encoding="utf-8") if it.strip() and not it.startswith("#")]
-    return {it.split(":")[0]: it.split(":")[1].split() for it in lines}
+    return {it.split(":")[0].split()[0]: it.split(":")[1].split() for it in lines}
 
 def proofs(path="docs/BENCHMARKS.md"):
     """The processor seconds of each crate's own proof."""

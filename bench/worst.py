@@ -1,11 +1,12 @@
 #!/usr/bin/env python3
-"""Makes jobs for `audit` that take it long, or much memory, for their size, and measures them.
+"""Makes jobs that take the program long, or much memory, for their size, and measures them.
 
 usage: bench/worst.py write NAME                 writes the job of that name to standard output
        bench/worst.py measure PROGRAM [NAME ..]  runs PROGRAM on all jobs, or on those named, one after the other
 
-PROGRAM is a command line, to which the word `audit` is appended. Shown are the job's bytes, wall and processor time,
-the peak of memory, the status and the last line of the answer. No job is longer than an input may be, 64 MiB.
+PROGRAM is a command line, to which the command is appended: the job's name begins with it, or it is `audit`. Shown are the
+job's bytes, wall and processor time, the peak of memory, the status and the last line of the answer. No job is longer than
+an input may be, 64 MiB.
 """
 import os, random, shlex, sys, tempfile
 
@@ -86,6 +87,43 @@ def claims(kind, variables, count):
     return f'[{{"kind":{head}:{listed([claim] * count)}}}]'
 
 
+# ---- Lucky challenges: the table and the rounds' values are zeros, the draws are 3, and some claims are false
+
+def lucky(kind, variables, count, values, rounds, batching=2, field="65537"):
+    """So many claims of a kind on a table of zeros, all 0 but the last ones, with these rounds and zeros after them handed in."""
+    groups = claims(kind, variables, count)
+    for value in reversed(values):
+        at = groups.rindex('"value":0}')
+        groups = groups[:at] + f'"value":{value}' + groups[at + len('"value":0'):]
+    pairs = listed(rounds + ["[0,0]"] * (variables - len(rounds)))
+    job = tabled(variables, groups, challenger=f'{{"draws":{listed(["3"] * 2 * variables)},"witnesses":[]}}', field=field)
+    return job.replace('"batching":1', f'"batching":{batching}').replace('{"build":"plain"}', f'{{"check":{{"rounds":{pairs},"witnesses":[]}}}}')
+
+
+def lucky_batch(kind, variables, count, field="65537"):
+    """The last two claims are false by -2 and 1, of which the powers of 2 make nothing."""
+    return lucky(kind, variables, count, [65535 if field == "65537" else 255, 1], [], field=field)
+
+
+def lucky_round(kind, variables, count):
+    """Of the last claim the batch is 1, and the first round sends a line that is 0 at its challenge."""
+    least = (3 * pow(5, -1, 65537)) % 65537  # a + (1 - 2 a) 3 = 0
+    return lucky(kind, variables, count, [1], [f"[{least},0]"], batching=1)
+
+
+# ---- Rounds under masks
+
+def veiled(variables, rounds, length, count=1):
+    masks = f'"rounds":{rounds},"masks":{{"seed":7,"length":{length}}},"aux":4}}'
+    return tabled(variables, claims("eq", variables, count), challenger='"hash"').replace('"mode":{"build":"plain"}}', masks)
+
+
+def explained(rounds, width):
+    lists = listed([listed(["0"] * width)] * rounds)
+    return (f'{{"field":"65537","eps":31,"plain":{listed(["[0,0]"] * rounds)},"challenges":{listed(["2"] * rounds)},"mu":0,'
+            f'"wires":{lists},"endpoints":{listed(["0"] * (rounds - 1))}}}')
+
+
 JOBS = {
     # a script's witnesses
     "million": lambda: witnesses(last, 1000000),
@@ -129,7 +167,26 @@ JOBS = {
     "claims-next-20": lambda: tabled(20, claims(20, 20, 64)),
     "claims-next-20-257x2": lambda: tabled(20, claims(20, 20, 64), field="257x2"),
     "claims-next-24": lambda: tabled(24, claims(24, 24, 16)),
+    # lucky challenges
+    "lucky-batch-eq": lambda: lucky_batch("eq", 18, 4096),
+    "lucky-batch-next": lambda: lucky_batch(18, 18, 1024),
+    "lucky-batch-257x2": lambda: lucky_batch("eq", 18, 1024, "257x2"),
+    "lucky-round": lambda: lucky_round("eq", 18, 4096),
+    # small-value rounds of many claims
+    "small-value": lambda: tabled(12, claims(0, 12, 4096)).replace('"plain"', '{"small-value":12}'),
+    "small-value-one": lambda: tabled(20, claims("eq", 20, 1)).replace('"plain"', '{"small-value":12}'),
+    # masks
+    "veil-table": lambda: veiled(24, 24, 64),
+    "veil-claims": lambda: veiled(18, 18, 64, 4096),
+    "explain-longest": lambda: explained(64, 63),
+    "explain-ignored": lambda: explained(64, 63)[:-1] + f',"x":{repeated("0", 20000)}}}',
 }
+
+
+def command(name):
+    """The command that a job is for."""
+    word = name.split("-")[0]
+    return word if word in ("veil", "explain") else "audit"
 
 
 def measure(program, names):
@@ -142,7 +199,7 @@ def measure(program, names):
             size = os.path.getsize(path)
             if size > LIMIT:
                 sys.exit(f"{name}: {size} bytes are too many")
-            wall, processor, peak, status = run(shlex.split(program) + ["audit"], path, out)
+            wall, processor, peak, status = run(shlex.split(program) + [command(name)], path, out)
             with open(out) as f:
                 said = "".join(f.read().splitlines()[-1:])
             print(f"{name:22}{size:>10}{wall:>9.2f}{processor:>9.2f}{peak:>9.0f}  {status} {said[:60]}", flush=True)
