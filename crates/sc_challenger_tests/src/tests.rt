@@ -19,8 +19,8 @@ use sc_small_fields::F65537;
 use std::alloc::Global;
 use std::process::Abort;
 
-// The bytes of the seed of one round without grinding, over a field as its own extension, in the basis of values: each
-// digit is a word.
+// The bytes of the seed of one round without grinding, over a field as its own extension, in the
+// basis of values: each digit is a word.
 static ONE_ROUND: [&str; 11] = [
     // version 1, and the protocol's name
     "01",
@@ -277,7 +277,8 @@ fn plays_elements_part_by_part(rt: HostRuntime) {
     assert_eq!(rt; challenger.events() == PART_BY_PART.as_slice(), true);
 }
 
-// The separator of one round without grinding, over a field as its own extension, in the basis of values.
+// The separator of one round without grinding, over a field as its own extension, in the basis of
+// values.
 fn one_round(alloc: Global) -> Result<DomainSeparator, NoMemory>
     ensures { IfOk result (λ s. s ≡ quadratic_separator 1 evaluation 0 1) }
 {

@@ -1,4 +1,5 @@
-//! Plays with the hash challenger. The figures were computed with Python's hashlib, an SHA-256 apart from the one here.
+//! Plays with the hash challenger. The figures were computed with Python's hashlib, an SHA-256
+//! apart from the one here.
 use super::plays::Step::{self, Draw, Grind, Look, Observe, Test};
 use super::plays::play;
 use sc_challenger::{Challenger, GrindError, HashChallenger};
@@ -11,8 +12,8 @@ static EMPTY: [u8; 32] = [
     0x27, 0xae, 0x41, 0xe4, 0x64, 0x9b, 0x93, 0x4c, 0xa4, 0x95, 0x99, 0x1b, 0x78, 0x52, 0xb8, 0x55,
 ];
 
-// Plays over the integers modulo 65537, each from the empty history on. The state after the word of a witness that fails
-// begins with one zero bit fewer than the test has.
+// Plays over the integers modulo 65537, each from the empty history on. The state after the word of
+// a witness that fails begins with one zero bit fewer than the test has.
 static PLAYS: [&[Step]; 4] = [
     &[
         Draw(25515),
@@ -43,7 +44,8 @@ static PLAYS: [&[Step]; 4] = [
         Test(16, 44911, false),
         Draw(27019),
     ],
-    // The first witness of eight bits is the one that a search over 0, 1, 2, .. in Python finds; the second one there is 802.
+    // The first witness of eight bits is the one that a search over 0, 1, 2, .. in Python finds;
+    // the second one there is 802.
     &[
         Observe(9),
         Draw(57753),
