@@ -58,7 +58,7 @@ enum tunaprow_status {
  *  - the bytes of `out` have been written before, with any values (`calloc` does).
  *  - the three functions of the heap, below, do what is said there.
  *  - it is not called from a signal handler, nor from the forked child of a process with threads.
- *  - there is stack: 1 MiB is enough for the ready jobs and for the most deeply nested text, which the tests show and
+ *  - there is stack: 256 KiB are enough for the ready jobs and for the most deeply nested text, which the tests show and
  *    nothing proves.
  * Several threads may call at the same time, each with memory of its own, where the heap's functions allow it. */
 uint8_t tunaprow_reply(const uint8_t *word, size_t word_length, const uint8_t *job, size_t job_length, uint8_t *out,

@@ -1,7 +1,7 @@
 /* Calls the library with each ready job, and holds what is left against the job's text and status.
  *
  * Standard input has a line for each job: the command's word, the status, the job's file and the text's. After them come
- * words that are no command, and jobs that are none. All calls are made on a stack of 1 MiB. Each job is answered into room for the text and more, into exactly its length and into less, and with a heap that refuses one
+ * words that are no command, and jobs that are none. All calls are made on a stack of 256 KiB. Each job is answered into room for the text and more, into exactly its length and into less, and with a heap that refuses one
  * request: each of the first 64, and then about one in eight. A call that can do without the request answers as ever,
  * and all others end with want of memory. The heap is this file's own, and counts the blocks. */
 #include "tunaprow.h"
@@ -11,7 +11,7 @@
 #include <stdlib.h>
 #include <string.h>
 
-enum { GUARD = 64, FILL = 0xA5, EACH = 64, STACK = 1 << 20, LONGEST = 67108864, DEEPEST = 126 };
+enum { GUARD = 64, FILL = 0xA5, EACH = 64, STACK = 1 << 18, LONGEST = 67108864, DEEPEST = 126 };
 
 /* ---- the heap */
 

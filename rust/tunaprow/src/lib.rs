@@ -54,7 +54,7 @@
 //!
 //! # Memory, stack and threads
 //!
-//! A call keeps nothing. It may come from any thread, and from several at once. 1 MiB of stack is enough for the
+//! A call keeps nothing. It may come from any thread, and from several at once. 256 KiB of stack are enough for the
 //! repository's ready jobs. Where `std::alloc` refuses memory, a call ends with [`Status::OutOfMemory`].
 
 mod border;
