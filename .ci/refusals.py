@@ -20,9 +20,6 @@ SHARED = {"RoundError", "SumcheckError", "GenericDegreeError"}  # types of which
 
 # What contracts leave open of a value, and the calls of which that is so.
 OPEN = [
-    ("rng", "how far a random source was drawn when a call on masks is refused",
-     {"sample_masks", "IntoZk::into_zk_sumcheck", "ZkProver::into_sumcheck", "simulate_classic_unpacked_claim", "simulate_recorded",
-      "simulate_classic_unpacked", "simulation_in_step", "recorded_simulation_in_step", "layout_in_step"}),
     ("challenger", "what a challenger has that was lent to a driver, where memory for the driver's seed was refused: the borrow is gone, "
      "and the calls that make a seed and a driver one after the other say all", {"Transcript::new", "ZkTranscript::new"}),
     ("challenger", "what a challenger has that is the job's own, and is dropped with its answer", {"FieldJobs::answer"}),

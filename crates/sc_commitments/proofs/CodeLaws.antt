@@ -1,12 +1,12 @@
 -- Lists that are joined, and draws, one more at a time.
-use Rattle.std.proofs.Common.{◌≡◌, ℕ, zero, suc, ◌+◌, ◌*◌, ◌/◌, ◌%◌, ◌<◌, ◌==◌, if◌then◌else◌, List, [], ◌∷◌, ◌++◌, length, map, take, get_or, Vec, refl, ap, sym, ◌∙◌, arith, length-append, subst, All}
+use Rattle.std.proofs.Common.{◌≡◌, ℕ, zero, suc, ◌+◌, ◌*◌, ◌/◌, ◌%◌, ◌<◌, ◌==◌, if◌then◌else◌, List, [], ◌∷◌, ◌++◌, length, map, take, get_or, Vec, Result, Ok, Err, OnErr, inr, refl, ap, sym, ◌∙◌, arith, length-append, subst, All}
 use Rattle.std.proofs.Math.Nat.{zero-mul, suc-mul, add_comm}
 use Rattle.std.proofs.lemmas.List.{take_more, map-append, length-take-le, length-map, append-nil}
 use Rattle.std.proofs.lemmas.List.Elements.{All-nil, All-push}
 use Rattle.std.proofs.lemmas.Grind.{flat_map-append}
 use Rattle.std.specs.List.{range_with_len, flat_map}
 use Rattle.rand_core.specs.Stream.{Stream, next_u64}
-use Rattle.sc_commitments.specs.Draws.{draws_from, lists_from}
+use Rattle.sc_commitments.specs.Draws.{draws_from, lists_from, masks_from, Drawn, drawn, SomeDrawn, SomeMasksDrawn}
 use Rattle.sc_commitments.specs.Codes.{joined, values_at}
 use Rattle.sc_definitions.specs.Ring.{Ops}
 use Rattle.sc_definitions.specs.Polynomials.{poly_at}
@@ -48,6 +48,22 @@ lists-next from n s = let e : n + 1 ≡ suc n = omega arith in ap (λ k. lists_f
 pub lists-none : (from : Stream → List ℕ × Stream) (s : Stream) → lists_from from 0 s ≡ ([], s)
 unfolding lists_from
 lists-none from s = refl
+
+-- nothing is drawn yet
+pub none-drawn : {T E : Type 0} (result : Result T E) (from : Stream → List ℕ × Stream) (n : ℕ) (s : Stream) → OnErr result (SomeDrawn from n s s)
+none-drawn (Ok made) from n s = _
+none-drawn (Err error) from n s = record { count = 0; most = omega arith; left = sym (ap (λ p. p.1) (lists-none from s)) }
+
+-- all masks and their randomness are drawn
+pub masks-drawn : (message randomness : Stream → List ℕ × Stream) (n : ℕ) (before after : Stream) (masks rand : List (List ℕ)) →
+    drawn masks rand after ≡ masks_from message randomness n before → SomeMasksDrawn message randomness n before after
+masks-drawn message randomness n before after masks rand all = inr (record { count = n; most = omega arith; left = ap (λ (d : Drawn). d.left) all })
+
+-- and where that is so anyway, it is so on a refusal
+pub masks-drawn-refused : {T E : Type 0} (result : Result T E) (message randomness : Stream → List ℕ × Stream) (n : ℕ) (before after : Stream) (masks rand : List (List ℕ)) →
+    drawn masks rand after ≡ masks_from message randomness n before → OnErr result (SomeMasksDrawn message randomness n before after)
+masks-drawn-refused (Ok made) message randomness n before after masks rand all = _
+masks-drawn-refused (Err error) message randomness n before after masks rand all = masks-drawn message randomness n before after masks rand all
 
 pub lists-push : {X Z : Type 0} (number : X → ℕ) (from : Stream → List ℕ × Stream) (n : ℕ) (s s' t : Stream) (xs ys : List (Vec X Z)) (v : Vec X Z) →
     ys ≡ xs ++ v ∷ [] → lists_in number xs ≡ (lists_from from n s).0 → s' ≡ (lists_from from n s).1 → (numbers_in number v, t) ≡ from s' →

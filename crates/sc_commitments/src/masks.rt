@@ -1,7 +1,8 @@
 //! Masks that are drawn with their randomness.
-ghost use Rattle.std.specs.Prelude.{◌≡◌, All, IfOk, length};
+ghost use Rattle.std.specs.Prelude.{◌≡◌, All, IfOk, OnErr, length};
 ghost use Rattle.sc_commitments.specs.Matrices.{lists_in};
 ghost use Rattle.sc_commitments.specs.Draws.{lists_from, masks_from, drawn};
+ghost use Rattle.sc_commitments.specs.Draws.{SomeDrawn, SomeMasksDrawn};
 
 use crate::encoding::ZkEncoding;
 use rand_core::Rng;
@@ -13,7 +14,8 @@ use std::alloc::Global;
 ///
 /// # Errors
 ///
-/// [`NoMemory`] alone. Then nothing is known of what the generator is going to answer.
+/// [`NoMemory`] alone. Then the generator has drawn some of the masks, or all of them and some of
+/// the randomness.
 pub fn sample_masks<EF: Field, Enc: ZkEncoding<EF>, G: Rng>(
     alloc: Global,
     encoding: &Enc,
@@ -30,6 +32,8 @@ pub fn sample_masks<EF: Field, Enc: ZkEncoding<EF>, G: Rng>(
         (λ v. length v.items ≡ Enc.message_length encoding.now) made.0.items) }
     ensures randomness { IfOk result (λ made. All
         (λ v. length v.items ≡ Enc.randomness_length encoding.now) made.1.items) }
+    ensures refused { OnErr result (SomeMasksDrawn (Enc.message_from encoding.now)
+        (Enc.randomness_from encoding.now) count (G.stream rng.old) (G.stream rng.new)) }
 {
     let masks = sample_messages(alloc, encoding, count, rng)?;
     let randomness = sample_all_randomness(alloc, encoding, count, rng)?;
@@ -48,6 +52,8 @@ fn sample_messages<EF: Field, Enc: ZkEncoding<EF>, G: Rng>(
     ensures count { IfOk result (λ v. length v.items ≡ count) }
     ensures lengths { IfOk result (λ v. All
         (λ u. length u.items ≡ Enc.message_length encoding.now) v.items) }
+    ensures refused { OnErr result (SomeDrawn (Enc.message_from encoding.now) count
+        (G.stream rng.old) (G.stream rng.new)) }
 {
     let mut messages = with_room(alloc, count)?;
     for _place in 0..count {
@@ -68,6 +74,8 @@ fn sample_all_randomness<EF: Field, Enc: ZkEncoding<EF>, G: Rng>(
     ensures count { IfOk result (λ v. length v.items ≡ count) }
     ensures lengths { IfOk result (λ v. All
         (λ u. length u.items ≡ Enc.randomness_length encoding.now) v.items) }
+    ensures refused { OnErr result (SomeDrawn (Enc.randomness_from encoding.now) count
+        (G.stream rng.old) (G.stream rng.new)) }
 {
     let mut randomness = with_room(alloc, count)?;
     for _place in 0..count {

@@ -1,5 +1,5 @@
 -- A batch of all that a layout has recorded, beside a verifier that has recorded the same.
-use Rattle.std.proofs.Common.{◌≡◌, ℕ, List, Result, Err, inl, refl, ap, sym, subst, ◌∙◌}
+use Rattle.std.proofs.Common.{◌≡◌, ℕ, List, Result, Ok, Err, OnErr, inl, refl, ap, sym, subst, ◌∙◌}
 use Rattle.sc_definitions.specs.declared.events.Event.{Event}
 use Rattle.sc_definitions.specs.Ring.{Ops, IsRing, plus, times, power}
 use Rattle.sc_definitions.specs.Tables.{Order, prefix, suffix}
@@ -8,6 +8,9 @@ use Rattle.sc_definitions.specs.Shown.{Shown}
 use Rattle.sc_definitions.specs.Statements.{batched_claim, claimed_values}
 use Rattle.sc_definitions.proofs.RingLaws.{plus-zero, times-zero}
 use Rattle.sc_definitions.proofs.StatementLaws.{element-powers_sum}
+use Rattle.rand_core.specs.Stream.{Stream}
+use Rattle.sc_commitments.specs.Draws.{SomeMasksDrawn}
+use Rattle.sc_commitments.proofs.CodeLaws.{none-drawn}
 use Rattle.sc_challenger.specs.Parties.{Party}
 use Rattle.sc_layout.specs.Openings.{Laid, Recorded, statements_of}
 use Rattle.sc_layout.specs.Verifiers.{Told}
@@ -60,3 +63,8 @@ falls-out {X} {Y} view figures o s s' h e result same is left =
       cases NoMemory left = inl (inl refl)
       cases (NoWitness i) left = record { simulated = h; lacks = left; history = refl }
       cases e left = absurd left
+
+-- no mask is drawn
+pub no-masks-drawn : {T E : Type 0} (result : Result T E) (message randomness : Stream → List ℕ × Stream) (n : ℕ) (s : Stream) → OnErr result (SomeMasksDrawn message randomness n s s)
+no-masks-drawn (Ok x) message randomness n s = _
+no-masks-drawn {T} (Err e) message randomness n s = inl (none-drawn {T = T} (Err e) message n s)

@@ -1,8 +1,9 @@
 //! What is sent for recorded claims, and the verifier that has recorded them, in step.
-ghost use Rattle.std.specs.Prelude.{◌≡◌, ◌≤◌, IfOk};
+ghost use Rattle.std.specs.Prelude.{◌≡◌, ◌≤◌, IfOk, OnOk, OnErr};
+ghost use Rattle.sc_commitments.specs.Draws.{masks_from, SomeMasksDrawn};
 ghost use Rattle.sc_zk_transcript.specs.Shapes.{IsFit};
 ghost use Rattle.sc_zk_rounds.specs.InStep.{StaysInStep, run_in};
-ghost use Rattle.sc_zk_simulators.specs.Drafts.{draft_from, IsDrawn};
+ghost use Rattle.sc_zk_simulators.specs.Drafts.{draft_from, IsDrawn, SomeOfDraft};
 ghost use Rattle.sc_zk_simulators.specs.InStep.{SimulatesInStep};
 ghost use Rattle.sc_zk_simulators.specs.InStep.{run_in as simulated_in};
 ghost use Rattle.sc_zk_rounds.specs.Data.{sent_in};
@@ -38,7 +39,8 @@ use std::alloc::Global;
 ///
 /// `NoWitness` names the first round for whose wire no element of the base field passes the test;
 /// the history is as it was. After `NoMemory` it is as it was, or ends after the seed, the batching
-/// challenge, or the masks and some of the rounds.
+/// challenge, or the masks and some of the rounds. After either the generator has drawn some of the
+/// masks, or all of them and some or all of the randomness.
 pub fn layout_in_step<
     F: Field,
     EF: ExtensionField<F>,
@@ -61,6 +63,12 @@ pub fn layout_in_step<
         (Enc.message_length (encoding_in prover)) pow_bits) }
     requires words { M.words_of mmcs.now ≡ M.words_of (scheme_in prover) }
     ensures rules { (C.party challenger.new).rules ≡ (C.party challenger.old).rules }
+    ensures drawn { OnOk result (G.stream rng.new ≡ (masks_from
+        (Enc.message_from (encoding_in prover)) (Enc.randomness_from (encoding_in prover))
+        (L.laid (layout_in prover)).folding (G.stream rng.old)).left) }
+    ensures refused { OnErr result (SomeMasksDrawn (Enc.message_from (encoding_in prover))
+        (Enc.randomness_from (encoding_in prover)) (L.laid (layout_in prover)).folding
+        (G.stream rng.old) (G.stream rng.new)) }
     ensures steps { let l = L.laid (layout_in prover) in
         HasRecorded l verifier → StaysInStep (run_in F.number EF.number)
         (recorded_batch F.ops EF.ops EF.extension
@@ -107,7 +115,8 @@ pub fn layout_in_step<
 ///
 /// `NoWitness` names the first round for whose wire no element of the base field passes the test;
 /// the history is as it was. After `NoMemory` it is as it was, or ends after the seed, the batching
-/// challenge, or the masks and some of the rounds.
+/// challenge, or the masks and some of the rounds. After either the generator has drawn some of the
+/// masks, of the randomness or of the wires, and all that comes before these.
 pub fn recorded_simulation_in_step<
     F: Field,
     EF: ExtensionField<F>,
@@ -132,6 +141,8 @@ pub fn recorded_simulation_in_step<
     ensures drawn { IfOk result (λ r. IsDrawn (draft_from ⟦<Enc as ZkEncoding<EF>>⟧
         ⟦<M as Mmcs<EF>>⟧ EF.ops encoding.now mmcs.now folding_factor (G.stream rng.old))
         r.mask_commitment (sent_in F.number EF.number r.zk_data) (G.stream rng.new)) }
+    ensures refused { OnErr result (SomeOfDraft ⟦<Enc as ZkEncoding<EF>>⟧ EF.ops.size encoding.now
+        folding_factor (G.stream rng.old) (G.stream rng.new)) }
     ensures steps { SimulatesInStep (simulated_in F.number EF.number) EF.ops
         (recorded_simulation (C.party challenger.old) EF.extension F.ops.size
         (recorded_shape folding_factor (Enc.message_length encoding.now) pow_bits) verifier

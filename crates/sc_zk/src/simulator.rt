@@ -1,9 +1,9 @@
 //! The simulator of recorded claims, by a verifier that has recorded them.
-ghost use Rattle.std.specs.Prelude.{◌≡◌, ◌≤◌, ℕ, IfOk};
+ghost use Rattle.std.specs.Prelude.{◌≡◌, ◌≤◌, ℕ, IfOk, OnErr};
 ghost use Rattle.sc_zk_transcript.specs.Shapes.{IsFit};
 ghost use Rattle.sc_zk_rounds.specs.Heads.{recorded_shape};
 ghost use Rattle.sc_zk_rounds.specs.Data.{sent_in};
-ghost use Rattle.sc_zk_simulators.specs.Drafts.{draft_from, IsDrawn};
+ghost use Rattle.sc_zk_simulators.specs.Drafts.{draft_from, IsDrawn, SomeOfDraft};
 ghost use Rattle.sc_zk_simulators.specs.Simulations.{simulation_by, answer_in, LeavesSimulated};
 
 use crate::verifier::ZkVerifier;
@@ -44,6 +44,8 @@ pub fn simulate_classic_unpacked<
     ensures drawn { IfOk result (λ r. IsDrawn (draft_from ⟦<Enc as ZkEncoding<EF>>⟧
         ⟦<M as Mmcs<EF>>⟧ EF.ops encoding.now mmcs.now folding_factor (G.stream rng.old)) r.1
         (sent_in F.number EF.number r.0) (G.stream rng.new)) }
+    ensures refused { OnErr result (SomeOfDraft ⟦<Enc as ZkEncoding<EF>>⟧ EF.ops.size encoding.now
+        folding_factor (G.stream rng.old) (G.stream rng.new)) }
     ensures leaves { (claim : ℕ) → LeavesSimulated (answer_in F.number EF.number)
         (simulation_by (C.party challenger.old) EF.extension F.ops.size
         (recorded_shape folding_factor (Enc.message_length encoding.now)

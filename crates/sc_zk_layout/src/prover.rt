@@ -1,6 +1,6 @@
 //! A prover of a layout under masks.
 ghost use Rattle.std.specs.Prelude.{◌≡◌, ◌≤◌, IfOk, OnErr, length};
-ghost use Rattle.sc_commitments.specs.Draws.{drawn, masks_from};
+ghost use Rattle.sc_commitments.specs.Draws.{drawn, masks_from, SomeMasksDrawn};
 ghost use Rattle.sc_commitments.specs.Matrices.{lists_in};
 ghost use Rattle.sc_layout.specs.Openings.{KeepsTable, laid_at};
 ghost use Rattle.sc_layout.specs.Openings.{Opens, OpensVirtual, OpensNothing};
@@ -149,8 +149,8 @@ impl<F: Field, EF: ExtensionField<F>, Enc: ZkEncoding<EF>, M: Mmcs<EF>, L: Layou
     /// `NoWitness` names the first round for whose wire no element of the base field passes the
     /// test: the data has the rounds before it, and the history ends with that wire. After
     /// `NoMemory` the history is as it was, or ends after the seed, the batching challenge, or the
-    /// masks and some of the rounds, which the data has; nothing is known of what the generator is
-    /// going to answer.
+    /// masks and some of the rounds, which the data has. After either the generator has drawn some
+    /// of the masks, or all of them and some or all of the randomness.
     pub fn into_sumcheck<G: Rng, C: Challenger<F>>(
         self,
         alloc: Global,
@@ -182,6 +182,9 @@ impl<F: Field, EF: ExtensionField<F>, Enc: ZkEncoding<EF>, M: Mmcs<EF>, L: Layou
             ≡ masks_from (Enc.message_from (encoding_in self))
             (Enc.randomness_from (encoding_in self)) (L.laid (layout_in self)).folding
             (G.stream rng.old)) }
+        ensures refused { OnErr result (SomeMasksDrawn (Enc.message_from (encoding_in self))
+            (Enc.randomness_from (encoding_in self)) (L.laid (layout_in self)).folding
+            (G.stream rng.old) (G.stream rng.new)) }
         ensures oracle { IfOk result (HasOracle ⟦<Enc as ZkEncoding<EF>>⟧ ⟦<M as Mmcs<EF>>⟧
             (encoding_in self) (scheme_in self) EF.number) }
     {

@@ -1,5 +1,5 @@
 -- The data of masked rounds, by the numbers of its elements.
-use Rattle.std.specs.Prelude.{◌≡◌, ◌<◌, ◌≤◌, ℕ, List, [], All, length, map, vec_len, vec_capacity}
+use Rattle.std.specs.Prelude.{◌≡◌, ◌-◌, ◌<◌, ◌≤◌, min, ℕ, List, [], All, length, map, vec_len, vec_capacity}
 use Rattle.std.specs.declared.vec.Vec.{Vec}
 use Rattle.sc_definitions.specs.Channels.{Wire, empty_wire}
 use Rattle.sc_commitments.specs.Matrices.{lists_in}
@@ -23,10 +23,9 @@ pub record IsNewData {F EF : Type 0} (base : F → ℕ) (number : EF → ℕ) (d
   pub mu : number d.mu_tilde ≡ 0
   pub wire : masked_wire_in base number d ≡ empty_wire
 
--- there is room for one more round
-pub record HasPlace {F EF : Type 0} (d : ZkSumcheckData F EF) : Type 0 where
-  pub wires : vec_len d.round_coefficients < vec_capacity d.round_coefficients
-  pub witnesses : vec_len d.pow_witnesses < vec_capacity d.pow_witnesses
+-- how many more rounds it takes without memory
+abbrev pub masked_spare_in : {F EF : Type 0} → ZkSumcheckData F EF → ℕ
+masked_spare_in d = min (vec_capacity d.round_coefficients - vec_len d.round_coefficients) (vec_capacity d.pow_witnesses - vec_len d.pow_witnesses)
 
 -- a list is empty, and has room for n elements
 pub record HasRoomFor {X Z : Type 0} (n : ℕ) (v : Vec X Z) : Type 0 where

@@ -1,9 +1,10 @@
 //! What masked rounds put on the wire, and what their verifier is handed.
-ghost use Rattle.std.specs.Prelude.{◌≡◌, ◌<◌, ◌≤◌, IfOk, IfErr, OnOk, OnErr, length};
+ghost use Rattle.std.specs.Prelude.{◌≡◌, ◌≢◌, ◌+◌, ◌^◌, ◌<◌, ◌≤◌, length};
+ghost use Rattle.std.specs.Prelude.{Err, IfOk, IfErr, IsOk, OnOk, OnErr};
 ghost use Rattle.sc_commitments.specs.Matrices.{numbers_in};
 ghost use Rattle.sc_transcript.specs.Drivers.{driver_at, PutsRound, RefusesRound};
 ghost use Rattle.sc_zk_transcript.specs.Causes.{masked_cause};
-ghost use Rattle.sc_zk_rounds.specs.Data.{masked_wire_in, HasPlace};
+ghost use Rattle.sc_zk_rounds.specs.Data.{masked_wire_in};
 
 use sc_challenger::Challenger;
 use sc_commitments::Mmcs;
@@ -42,15 +43,25 @@ impl<F: Field, EF: Field> ZkSumcheckData<F, EF> {
 }
 
 impl<F: Field, EF: ExtensionField<F>> ZkSumcheckData<F, EF> {
-    // Makes room for one more round. The rounds stay.
-    fn reserve_round(&mut self) -> Result<(), NoMemory>
+    ghost use Rattle.sc_transcript.specs.Drivers.{HasRoom};
+    ghost use Rattle.sc_zk_rounds.specs.Data.{masked_spare_in};
+
+    /// Makes room for this many more rounds. Room that was there stays, and where it was enough the
+    /// answer is `Ok`. The rounds and the total stay.
+    ///
+    /// # Errors
+    ///
+    /// [`NoMemory`] alone.
+    pub fn reserve(&mut self, rounds: usize) -> Result<(), NoMemory>
         ensures kept { masked_wire_in F.number EF.number self.new
             ≡ masked_wire_in F.number EF.number self.old }
         ensures total { self.new.mu_tilde ≡ self.old.mu_tilde }
-        ensures ok { OnOk result (HasPlace self.new) }
+        ensures ok { OnOk result (rounds ≤ masked_spare_in self.new) }
+        ensures never_lowers { masked_spare_in self.old ≤ masked_spare_in self.new }
+        ensures has_room { rounds ≤ masked_spare_in self.old → IsOk result }
     {
-        self.round_coefficients.reserve(1)?;
-        self.pow_witnesses.reserve(1)?;
+        self.round_coefficients.reserve(rounds)?;
+        self.pow_witnesses.reserve(rounds)?;
         Ok(())
     }
 
@@ -65,7 +76,9 @@ impl<F: Field, EF: ExtensionField<F>> ZkSumcheckData<F, EF> {
     /// # Errors
     ///
     /// Those of [`Rounds::play`], `NoWitness` and `NoMemory`, told as errors of a sumcheck. They
-    /// leave the data as it was.
+    /// leave the data as it was. Of fewer than 2^32 values a round, `NoMemory` comes only where the
+    /// data has no room for a round, or the challenger none for its events. The round takes no more
+    /// room than that.
     pub fn put_round<C: Challenger<F>, K: Copy>(
         &mut self,
         rounds: &mut Rounds<K>,
@@ -88,8 +101,13 @@ impl<F: Field, EF: ExtensionField<F>> ZkSumcheckData<F, EF> {
         ensures kept { OnErr result (masked_wire_in F.number EF.number self.new
             ≡ masked_wire_in F.number EF.number self.old) }
         ensures total { self.new.mu_tilde ≡ self.old.mu_tilde }
+        ensures has_room { rounds.old.shape.width < 2 ^ 32 → 1 ≤ masked_spare_in self.old
+            → HasRoom EF.DEGREE (driver_at C.party F.ops.size challenger.entry rounds.old)
+            → result ≢ Err SumcheckError.NoMemory }
+        ensures room { OnOk result (masked_spare_in self.old ≤ masked_spare_in self.new + 1) }
+        ensures room_kept { OnErr result (masked_spare_in self.old ≤ masked_spare_in self.new) }
     {
-        self.reserve_round()?;
+        self.reserve(1)?;
         let (challenge, witness) = rounds.play(challenger, &wire.as_slice())?;
         self.round_coefficients.push_reserved(wire);
         if let Some(witness) = witness {

@@ -1,8 +1,8 @@
 //! A prover that goes on under masks.
-ghost use Rattle.std.specs.Prelude.{◌≡◌, ◌≤◌, IfOk, length};
+ghost use Rattle.std.specs.Prelude.{◌≡◌, ◌≤◌, IfOk, OnErr, length};
 ghost use Rattle.sc_definitions.specs.Tables.{evaluation};
 ghost use Rattle.sc_definitions.specs.Shown.{Shown};
-ghost use Rattle.sc_commitments.specs.Draws.{drawn, masks_from};
+ghost use Rattle.sc_commitments.specs.Draws.{drawn, masks_from, SomeMasksDrawn};
 ghost use Rattle.sc_commitments.specs.Matrices.{lists_in};
 ghost use Rattle.sc_zk_transcript.specs.Shapes.{IsFit};
 ghost use Rattle.sc_rounds.specs.ProverViews.{shown_by};
@@ -90,7 +90,8 @@ pub trait IntoZk<F: Field, EF: ExtensionField<F>>: Sized + Drop {
     ///
     /// # Errors
     ///
-    /// The same. After `NoMemory` nothing is known of what the generator is going to answer.
+    /// The same. The generator has then drawn some of the masks, or all of them and some or all of
+    /// the randomness.
     fn into_zk_sumcheck<Enc: ZkEncoding<EF>, M: Mmcs<EF>, G: Rng, C: Challenger<F>>(
         self,
         alloc: Global,
@@ -119,6 +120,9 @@ pub trait IntoZk<F: Field, EF: ExtensionField<F>>: Sized + Drop {
             (lists_in EF.number h.mask_randomness.items) (G.stream rng.new)
             ≡ masks_from (Enc.message_from encoding.now) (Enc.randomness_from encoding.now)
             folding_factor (G.stream rng.old)) }
+        ensures refused { OnErr result (SomeMasksDrawn (Enc.message_from encoding.now)
+            (Enc.randomness_from encoding.now) folding_factor (G.stream rng.old)
+            (G.stream rng.new)) }
         ensures oracle { IfOk result (HasOracle ⟦<Enc as ZkEncoding<EF>>⟧ ⟦<M as Mmcs<EF>>⟧
             encoding.now mmcs.now EF.number) }
     {

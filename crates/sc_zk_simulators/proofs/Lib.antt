@@ -1,2 +1,3 @@
 pub mod SendingLaws
 pub mod InStepLaws
+pub mod DraftLaws

@@ -1,5 +1,5 @@
 -- Wires that are drawn, and rounds of them, one after the other.
-use Rattle.std.proofs.Common.{◌≡◌, ℕ, zero, suc, ◌+◌, ◌-◌, ◌<◌, List, [], ◌∷◌, ◌++◌, length, get_or, Result, Err, refl, ap, sym, subst, ◌∙◌, append_assoc, length-append, arith, ⊎_elim}
+use Rattle.std.proofs.Common.{◌≡◌, ℕ, zero, suc, ◌+◌, ◌-◌, ◌<◌, ◌≤◌, List, [], ◌∷◌, ◌++◌, length, get_or, Result, Ok, Err, OnErr, refl, ap, sym, subst, ◌∙◌, append_assoc, length-append, arith, ⊎_elim}
 use Rattle.std.proofs.lemmas.List.{append-nil, get_or_append_left}
 use Rattle.std.proofs.lemmas.Grind.{flat_map-append}
 use Rattle.std.proofs.lemmas.Bool.{cases_lt}
@@ -9,7 +9,7 @@ use Rattle.sc_definitions.specs.Transcript.{Round, round_of, round_events, round
 use Rattle.sc_definitions.specs.Channels.{Channel, Wire, empty_wire, with_rounds, IsSent, NoWitnessFound}
 use Rattle.sc_definitions.proofs.BuiltLaws.{IsBuilt-append, challenges-append, length-challenges}
 use Rattle.sc_definitions.proofs.StandingLaws.{with_more}
-use Rattle.sc_commitments.specs.Draws.{draws_from, lists_from}
+use Rattle.sc_commitments.specs.Draws.{draws_from, lists_from, SomeDrawn}
 use Rattle.sc_transcript.specs.declared.error.SumcheckError.{SumcheckError}
 use Rattle.sc_transcript.specs.declared.error.SumcheckError.TheVariants as errors
 use Rattle.sc_transcript.specs.Drivers.{IsRefused}
@@ -69,6 +69,21 @@ one-more from n s s' t xs ys put so_far at left = (
   put ∙ ap (λ l. l ++ (from s').0 ∷ []) so_far ∙ ap (λ u. (lists_from from n s).0 ++ (from u).0 ∷ []) at ∙ sym (ap (λ p. p.0) (next from n s)),
   left ∙ ap (λ u. (from u).1) at ∙ sym (ap (λ p. p.1) (next from n s)),
 )
+
+-- one was drawn
+pub one-drawn : {T E : Type 0} (result : Result T E) (from : Stream → List ℕ × Stream) (s after : Stream) → after ≡ (from s).1 → OnErr result (SomeDrawn from 1 s after)
+unfolding lists_from
+one-drawn (Ok x) from s after is = _
+one-drawn (Err e) from s after is = record { count = 1; most = omega arith; left = is }
+
+-- where one more at most was drawn after i of n, at most n were
+pub one-at-most : (from : Stream → List ℕ × Stream) (n i : ℕ) (s now after : Stream) → now ≡ (lists_from from i s).1 → i < n → SomeDrawn from 1 now after → SomeDrawn from n s after
+unfolding lists_from
+one-at-most from n i s now after at low some = cases some.count some.most some.left where
+  cases : (k : ℕ) → k ≤ 1 → after ≡ (lists_from from k now).1 → SomeDrawn from n s after
+  cases zero most left = record { count = i; most = omega (arith, low); left = left ∙ at }
+  cases (suc zero) most left = record { count = i + 1; most = omega (arith, low); left = left ∙ ap (λ u. (from u).1) at ∙ sym (ap (λ p. p.1) (next from i s)) }
+  cases (suc (suc k)) most left = absurd (omega (arith, most))
 
 -- ---- rounds
 

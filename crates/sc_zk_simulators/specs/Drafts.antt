@@ -1,12 +1,12 @@
 -- What a simulator makes of what a generator is going to answer.
-use Rattle.std.specs.Prelude.{◌≡◌, ℕ, List}
+use Rattle.std.specs.Prelude.{◌≡◌, ◌⊎◌, ℕ, List}
 use Rattle.rand_core.specs.Stream.{Stream}
 use Rattle.sc_definitions.specs.Ring.{Ops}
 use Rattle.sc_zk_definitions.specs.Masks.{masks_total}
 use Rattle.sc_zk_definitions.specs.MaskedTranscripts.{wire_length}
 use Rattle.sc_commitments.specs.declared.encoding.ZkEncoding.{Ghosts as EncodingOf}
 use Rattle.sc_commitments.specs.declared.mmcs.Mmcs.{Ghosts as MmcsOf}
-use Rattle.sc_commitments.specs.Draws.{draws_from, lists_from, masks_from}
+use Rattle.sc_commitments.specs.Draws.{draws_from, lists_from, masks_from, SomeDrawn, SomeMasksDrawn}
 use Rattle.sc_zk_rounds.specs.Data.{Sent}
 
 -- A draft: the commitment to masks with their randomness, its words, the masks' total, the wires, and the stream that is left.
@@ -42,3 +42,11 @@ pub record IsDrawn {K : Type 0} (d : Draft K) (made : K) (sent : Sent) (rest : S
   pub mu : sent.mu ≡ d.mu
   pub wires : sent.wire.messages ≡ d.wires
   pub left : rest ≡ d.left
+
+-- Some of the draft of n rounds was drawn: of its masks and randomness, or all of these and some of its wires.
+abbrev pub SomeOfDraft : {Enc EF : Type 0} → EncodingOf Enc EF → ℕ → Enc → ℕ → Stream → Stream → Type 0
+SomeOfDraft z size encoding n before after =
+    let message = z.message_from encoding in
+    let randomness = z.randomness_from encoding in
+    let wire = draws_from size (wire_length (z.message_length encoding)) in
+    SomeMasksDrawn message randomness n before after ⊎ SomeDrawn wire n (masks_from message randomness n before).left after

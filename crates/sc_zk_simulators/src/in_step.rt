@@ -1,7 +1,7 @@
 //! A simulator and a verifier of masked rounds, in step.
-ghost use Rattle.std.specs.Prelude.{◌≡◌, ◌≤◌, IfOk};
+ghost use Rattle.std.specs.Prelude.{◌≡◌, ◌≤◌, IfOk, OnErr};
 ghost use Rattle.sc_zk_transcript.specs.Shapes.{IsFit};
-ghost use Rattle.sc_zk_simulators.specs.Drafts.{draft_from, IsDrawn};
+ghost use Rattle.sc_zk_simulators.specs.Drafts.{draft_from, IsDrawn, SomeOfDraft};
 ghost use Rattle.sc_zk_simulators.specs.Simulations.{simulation_by};
 ghost use Rattle.sc_zk_simulators.specs.InStep.{run_in, SimulatesInStep};
 ghost use Rattle.sc_zk_rounds.specs.Data.{sent_in};
@@ -45,7 +45,8 @@ pub struct SimulatedRun<F, EF, K> {
 ///
 /// `NoWitness` names the first round for whose wire no element of the base field passes the test;
 /// the history is as it was. After `NoMemory` it is as it was, or ends after the seed, the claim,
-/// or the masks and some of the rounds.
+/// or the masks and some of the rounds. After either the generator has drawn some of the masks, of
+/// the randomness or of the wires, and all that comes before these.
 pub fn simulation_in_step<
     F: Field,
     EF: ExtensionField<F>,
@@ -70,6 +71,8 @@ pub fn simulation_in_step<
     ensures drawn { IfOk result (λ r. IsDrawn (draft_from ⟦<Enc as ZkEncoding<EF>>⟧
         ⟦<M as Mmcs<EF>>⟧ EF.ops encoding.now mmcs.now folding_factor (G.stream rng.old))
         r.mask_commitment (sent_in F.number EF.number r.zk_data) (G.stream rng.new)) }
+    ensures refused { OnErr result (SomeOfDraft ⟦<Enc as ZkEncoding<EF>>⟧ EF.ops.size encoding.now
+        folding_factor (G.stream rng.old) (G.stream rng.new)) }
     ensures steps { SimulatesInStep (run_in F.number EF.number) EF.ops
         (simulation_by (C.party challenger.old) EF.extension F.ops.size
         (inherited_shape folding_factor (Enc.message_length encoding.now)

@@ -1,8 +1,8 @@
 //! Rounds whose wires are drawn.
-ghost use Rattle.std.specs.Prelude.{◌≡◌, ◌<◌, ◌≤◌, IfOk, IfErr, OnOk, map};
+ghost use Rattle.std.specs.Prelude.{◌≡◌, ◌<◌, ◌≤◌, IfOk, IfErr, OnOk, OnErr, map};
 ghost use Rattle.sc_definitions.specs.Channels.{empty_wire};
 ghost use Rattle.sc_challenger.specs.Parties.{channel_by};
-ghost use Rattle.sc_commitments.specs.Draws.{draws_from, lists_from};
+ghost use Rattle.sc_commitments.specs.Draws.{draws_from, lists_from, SomeDrawn};
 ghost use Rattle.sc_transcript.specs.Drivers.{driver_at, PutsRound, RefusesRound};
 ghost use Rattle.sc_zk_transcript.specs.Causes.{masked_cause};
 ghost use Rattle.sc_zk_rounds.specs.Data.{masked_wire_in, HasRoomFor};
@@ -42,6 +42,8 @@ fn send_drawn<F: Field, EF: ExtensionField<F>, C: Challenger<F>, G: Rng, K: Copy
         (draws_from EF.ops.size width (G.stream rng.old)).0 (masked_cause e)) }
     ensures left { OnOk result (G.stream rng.new
         ≡ (draws_from EF.ops.size width (G.stream rng.old)).1) }
+    ensures drew { OnErr result (SomeDrawn (draws_from EF.ops.size width) 1 (G.stream rng.old)
+        (G.stream rng.new)) }
     ensures total { zk_data.new.mu_tilde ≡ zk_data.old.mu_tilde }
 {
     let wire = draw_list(alloc, width, rng)?;
@@ -65,6 +67,8 @@ pub(crate) fn send_all<F: Field, EF: ExtensionField<F>, C: Challenger<F>, G: Rng
     ensures total { zk_data.new.mu_tilde ≡ zk_data.old.mu_tilde }
     ensures left { OnOk result (G.stream rng.new ≡ (lists_from
         (draws_from EF.ops.size shape.width) shape.num_rounds (G.stream rng.old)).1) }
+    ensures drew { OnErr result (SomeDrawn (draws_from EF.ops.size shape.width) shape.num_rounds
+        (G.stream rng.old) (G.stream rng.new)) }
     ensures sends { SendsAll (sending
         (channel_by (C.party challenger.old) EF.extension F.ops.size shape.pow_bits)
         (C.party challenger.old).history (lists_from (draws_from EF.ops.size shape.width)

@@ -1,9 +1,9 @@
 //! The simulators.
-ghost use Rattle.std.specs.Prelude.{◌≡◌, ◌≤◌, ℕ, IfOk};
+ghost use Rattle.std.specs.Prelude.{◌≡◌, ◌≤◌, ℕ, IfOk, OnErr};
 ghost use Rattle.sc_zk_transcript.specs.Shapes.{IsFit};
 ghost use Rattle.sc_zk_rounds.specs.Heads.{inherited_shape, recorded_shape};
 ghost use Rattle.sc_zk_rounds.specs.Data.{sent_in};
-ghost use Rattle.sc_zk_simulators.specs.Drafts.{draft_from, IsDrawn};
+ghost use Rattle.sc_zk_simulators.specs.Drafts.{draft_from, IsDrawn, SomeOfDraft};
 ghost use Rattle.sc_zk_simulators.specs.Simulations.{simulation_by, answer_in, LeavesSimulated};
 
 use crate::sending::send_all;
@@ -38,8 +38,8 @@ use std::alloc::Global;
 ///
 /// `NoWitness` names the first round for whose wire no element of the base field passes the test;
 /// the history ends with that wire. After `NoMemory` the history is as it was, or ends after the
-/// seed, the claim, or the masks and some of the rounds. After an error nothing is known of what
-/// the generator is going to answer.
+/// seed, the claim, or the masks and some of the rounds. After either the generator has drawn some
+/// of the masks, of the randomness or of the wires, and all that comes before these.
 pub fn simulate_classic_unpacked_claim<
     F: Field,
     EF: ExtensionField<F>,
@@ -64,6 +64,8 @@ pub fn simulate_classic_unpacked_claim<
     ensures drawn { IfOk result (λ r. IsDrawn (draft_from ⟦<Enc as ZkEncoding<EF>>⟧
         ⟦<M as Mmcs<EF>>⟧ EF.ops encoding.now mmcs.now folding_factor (G.stream rng.old)) r.1
         (sent_in F.number EF.number r.0) (G.stream rng.new)) }
+    ensures refused { OnErr result (SomeOfDraft ⟦<Enc as ZkEncoding<EF>>⟧ EF.ops.size encoding.now
+        folding_factor (G.stream rng.old) (G.stream rng.new)) }
     ensures leaves { LeavesSimulated (answer_in F.number EF.number)
         (simulation_by (C.party challenger.old) EF.extension F.ops.size
         (inherited_shape folding_factor (Enc.message_length encoding.now)
@@ -108,6 +110,8 @@ pub fn simulate_recorded<
     ensures drawn { IfOk result (λ r. IsDrawn (draft_from ⟦<Enc as ZkEncoding<EF>>⟧
         ⟦<M as Mmcs<EF>>⟧ EF.ops encoding.now mmcs.now folding_factor (G.stream rng.old)) r.1
         (sent_in F.number EF.number r.0) (G.stream rng.new)) }
+    ensures refused { OnErr result (SomeOfDraft ⟦<Enc as ZkEncoding<EF>>⟧ EF.ops.size encoding.now
+        folding_factor (G.stream rng.old) (G.stream rng.new)) }
     ensures leaves { (claim : ℕ) → LeavesSimulated (answer_in F.number EF.number)
         (simulation_by (C.party challenger.old) EF.extension F.ops.size
         (recorded_shape folding_factor (Enc.message_length encoding.now)
@@ -142,6 +146,8 @@ fn simulate<
     ensures drawn { IfOk result (λ r. IsDrawn (draft_from ⟦<Enc as ZkEncoding<EF>>⟧
         ⟦<M as Mmcs<EF>>⟧ EF.ops encoding.now mmcs.now shape.num_rounds (G.stream rng.old)) r.1
         (sent_in F.number EF.number r.0) (G.stream rng.new)) }
+    ensures refused { OnErr result (SomeOfDraft ⟦<Enc as ZkEncoding<EF>>⟧ EF.ops.size encoding.now
+        shape.num_rounds (G.stream rng.old) (G.stream rng.new)) }
     ensures leaves { LeavesSimulated (answer_in F.number EF.number)
         (simulation_by (C.party challenger.old) EF.extension F.ops.size shape (EF.number claim)
         (draft_from ⟦<Enc as ZkEncoding<EF>>⟧ ⟦<M as Mmcs<EF>>⟧ EF.ops encoding.now mmcs.now

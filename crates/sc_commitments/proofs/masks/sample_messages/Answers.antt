@@ -1,6 +1,6 @@
 use Rattle.std.proofs.Common.{length, ap, sym, ◌∙◌, arith}
 use Rattle.sc_commitments.specs.Matrices.{lists_in}
-use Rattle.sc_commitments.proofs.CodeLaws.{lists-none, lists-push, lengths-none, lengths-push}
+use Rattle.sc_commitments.proofs.CodeLaws.{none-drawn, lists-none, lists-push, lengths-none, lengths-push}
 use Rattle.sc_commitments.proofs.masks.sample_messages.Goals as goal
 
 pub loop-place-init : goal.loop-place-init
@@ -32,3 +32,6 @@ loop-place-preserved g c =
       count = omega (arith, put.len, inv.count);
       room = omega (arith, put.capacity, inv.room);
     }
+
+pub returns-in_err-messages-clause-refused : goal.returns-in_err-messages-clause-refused
+returns-in_err-messages-clause-refused g c = none-drawn _ (g.Enc.ZkEncoding.message_from c.args.encoding.now) _ (g.G.Rng.stream c.args.rng.now)

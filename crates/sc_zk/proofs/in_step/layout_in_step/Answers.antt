@@ -2,6 +2,7 @@ use Rattle.std.proofs.Common.{rules, ◌≡◌, length, map, Ok, Err, refl, ap, 
 use Rattle.std.proofs.lemmas.List.{length-map}
 use Rattle.sc_definitions.specs.Shown.{Shown}
 use Rattle.sc_commitments.specs.Draws.{Drawn, masks_from}
+use Rattle.sc_commitments.proofs.CodeLaws.{masks-drawn-refused}
 use Rattle.sc_commitments.specs.Matrices.{lists_in}
 use Rattle.sc_zk_definitions.specs.declared.prelude.ZkPrelude.TheVariants.{RecordedClaims}
 use Rattle.sc_zk_definitions.specs.Masks.{masks_at}
@@ -21,7 +22,7 @@ use Rattle.sc_zk_layout.specs.Grids.{with_side_scaled}
 use Rattle.sc_zk_layout.specs.Provers.{layout_in, encoding_in, scheme_in}
 use Rattle.sc_zk_layout.specs.Recorded.{recorded_batch, recorded_player}
 use Rattle.sc_zk.specs.Recorded.{recorded_in, recorded_claim}
-use Rattle.sc_zk.proofs.LayoutLaws.{copied-recorded, claim-same, nothing-carried, scaled-claim}
+use Rattle.sc_zk.proofs.LayoutLaws.{no-masks-drawn, copied-recorded, claim-same, nothing-carried, scaled-claim}
 use Rattle.sc_zk.proofs.in_step.layout_in_step.Goals as goal
 
 -- the prover's refusal: the verifier has not begun
@@ -151,3 +152,18 @@ returns-clause-steps g c recorded =
     (c.claimed_sum.ensures.number ∙ ap (λ (x : Shown). x.claim) ends.left.shown ∙ scaled-claim o _ _)
     (ap N c.ZERO.ensures ∙ g.met.EF.Field.zero_is ∙ nothing-carried o ring (N r.eps) b.half (length b.masks))
     (c.mask_residual.ensures ∙ ap (λ xs. masks_at o (lists_in N xs) (map N c.as_slice.result.now)) c.deref.ensures.value ∙ ap (λ xs. masks_at o m.masks (map N xs)) c.as_slice.ensures))
+
+-- nothing was drawn
+pub returns-in_err-copy-clause-refused : goal.returns-in_err-copy-clause-refused
+returns-in_err-copy-clause-refused g c =
+    let enc = encoding_in c.args.prover in
+    no-masks-drawn c.from_residual.result (g.Enc.ZkEncoding.message_from enc) (g.Enc.ZkEncoding.randomness_from enc) _ (g.G.Rng.stream c.args.rng.now)
+
+-- all masks and their randomness were
+pub returns-in_err-replayed-clause-refused : goal.returns-in_err-replayed-clause-refused
+returns-in_err-replayed-clause-refused g c =
+    let enc = encoding_in c.args.prover in
+    masks-drawn-refused c.from_residual-in_err-replayed.result (g.Enc.ZkEncoding.message_from enc) (g.Enc.ZkEncoding.randomness_from enc) _ _ _ _ _ c.in_ok-handoff.ensures.drawn
+
+pub returns-clause-drawn : goal.returns-clause-drawn
+returns-clause-drawn g c = ap (λ (d : Drawn). d.left) c.in_ok-handoff.ensures.drawn

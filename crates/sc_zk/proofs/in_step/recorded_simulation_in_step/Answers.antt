@@ -13,6 +13,7 @@ use Rattle.sc_zk_simulators.proofs.SendingLaws.{length-lists, wires-wide}
 use Rattle.sc_zk_simulators.proofs.InStepLaws.{copied, verifier-stops, verifier-accepts}
 use Rattle.sc_zk.specs.Recorded.{recorded_in, recorded_claim}
 use Rattle.sc_zk.proofs.LayoutLaws.{falls-out}
+use Rattle.sc_zk_simulators.proofs.DraftLaws.{none-of-draft, whole-draft}
 use Rattle.sc_zk.proofs.in_step.recorded_simulation_in_step.Goals as goal
 
 -- the simulator's refusal: the verifier has not begun
@@ -99,3 +100,14 @@ returns-clause-steps g c =
     words a.sent.mu a.sent.wire (ap (g.M.Mmcs.words_of c.args.mmcs.now) drawn.commitment) drawn.mu refl (told_by N) x h (run_in B N run) refl refl refl refl
     (subst (λ k. let s = recorded_shape n k c.args.pow_bits in LeavesMaskedReplay (told_by N) (claim_by p g.F.Field.ops o E s (head (recorded_claim o p E (fixed_by s) v) words a.sent.mu) a.sent.wire) (Ok x) h)
     c.message_len.ensures c.in_ok-replayed.ensures.left)
+
+-- nothing was drawn
+pub returns-in_err-copy-clause-refused : goal.returns-in_err-copy-clause-refused
+returns-in_err-copy-clause-refused g c =
+    none-of-draft g.Enc.ZkEncoding g.EF.Field.ops.size c.args.encoding.now c.args.folding_factor (g.G.Rng.stream c.args.rng.now) c.from_residual.result
+
+-- all was
+pub returns-in_err-replayed-clause-refused : goal.returns-in_err-replayed-clause-refused
+returns-in_err-replayed-clause-refused g c =
+    whole-draft g.Enc.ZkEncoding g.EF.Field.ops.size c.args.encoding.now c.args.folding_factor (g.G.Rng.stream c.args.rng.now) c.from_residual-in_err-replayed.result _
+    c.in_ok-zk_data.ensures.drawn.left

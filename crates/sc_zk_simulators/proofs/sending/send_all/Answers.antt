@@ -9,7 +9,7 @@ use Rattle.sc_transcript.specs.declared.rounds.BatchShape.{BatchShape}
 use Rattle.sc_transcript.proofs.ReplayedLaws.{same_channel}
 use Rattle.sc_zk_rounds.specs.Data.{masked_wire_in}
 use Rattle.sc_zk_simulators.specs.Sendings.{Sending, sending, IsUnderWay}
-use Rattle.sc_zk_simulators.proofs.SendingLaws.{length-lists, list-at, one-more, none-sent, one-sent, stops-sending}
+use Rattle.sc_zk_simulators.proofs.SendingLaws.{length-lists, list-at, one-more, none-sent, one-sent, one-at-most, stops-sending}
 use Rattle.sc_zk_simulators.proofs.sending.send_all.Goals as goal
 
 -- no round was sent yet
@@ -59,6 +59,12 @@ returns-in-Err-clause-sends g c =
     stops-sending {X = Unit {0}} s rs rs w (masked_wire_in g.F.Field.number N c.send_drawn.new.zk_data) (P c.loop-round.challenger).history (P c.send_drawn.new.challenger).history
     (from (g.G.Rng.stream c.loop-round.rng)).0 j c.in-Err.error (Err c.in-Err.error) (same_channel size inv.rules (ap (λ (x : BatchShape). x.pow_bits) inv.shape)) count within values inv.sent
     c.in-Err.ensures.refused.why refl
+
+-- at most its wire was drawn
+pub returns-in-Err-clause-drew : goal.returns-in-Err-clause-drew
+returns-in-Err-clause-drew g c =
+    one-at-most (draws_from g.EF.Field.ops.size c.args.shape.width) c.args.shape.num_rounds c.loop-round._round (g.G.Rng.stream c.args.rng.now) _ _
+    c.loop-round.invariant.left (omega (arith, c.loop-round-test.true)) c.in-Err.ensures.drew
 
 -- one round more
 pub loop-round-preserved : goal.loop-round-preserved

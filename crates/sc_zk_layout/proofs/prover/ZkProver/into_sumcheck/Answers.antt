@@ -1,6 +1,7 @@
-use Rattle.std.proofs.Common.{rules, ◌≡◌, ℕ, length, Vec, Global, refl, ap, sym, ◌∙◌, subst}
+use Rattle.std.proofs.Common.{rules, ◌≡◌, ℕ, length, Vec, Global, OnErr, refl, ap, sym, ◌∙◌, subst}
 use Rattle.std.proofs.lemmas.Result.{IfOk-weaker}
-use Rattle.sc_commitments.specs.Draws.{Drawn, masks_from}
+use Rattle.sc_commitments.specs.Draws.{Drawn, masks_from, SomeMasksDrawn}
+use Rattle.sc_commitments.proofs.CodeLaws.{masks-drawn-refused}
 use Rattle.sc_commitments.specs.Matrices.{lists_in}
 use Rattle.sc_zk_definitions.specs.declared.prelude.ZkPrelude.TheVariants.{RecordedClaims}
 use Rattle.sc_zk_transcript.specs.declared.shape.ZkSumcheckShape.{ZkSumcheckShape}
@@ -60,3 +61,12 @@ returns-clause-coded g c =
     subst (λ (v : Vec (Vec _ Global) Global). AreCoded l r v.items h.mask_randomness.items) (sym masks)
     (subst (λ (v : Vec (Vec _ Global) Global). AreCoded l r c.in_ok-masks.masks.items v.items) (sym randomness) coded))
     c.play_under.ensures.masks c.play_under.ensures.randomness
+
+-- all masks are drawn
+pub returns-clause-refused : goal.returns-clause-refused
+returns-clause-refused g c =
+    let message = g.Enc.ZkEncoding.message_from c.args.self.encoding in
+    let randomness = g.Enc.ZkEncoding.randomness_from c.args.self.encoding in
+    let made = c.in_ok-masks.ensures in
+    subst (λ n. OnErr c.play_under.result (SomeMasksDrawn message randomness n (g.G.Rng.stream c.args.rng.now) (g.G.Rng.stream c.sample_masks.new.rng))) c.folding-folding.ensures.is
+    (masks-drawn-refused c.play_under.result message randomness _ _ _ _ _ made.drawn)
