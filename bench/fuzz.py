@@ -1,7 +1,7 @@
 #!/usr/bin/env python3
 """Runs the program on odd inputs, and holds every answer against docs/FORMATS.md and against itself.
 
-usage: bench/fuzz.py [--mutations N] [--proofs N] [--seed S] PROGRAM      (Python 3.11, and nothing else)
+usage: bench/fuzz.py [--mutations N] [--proofs N] [--seed S] [--library LIBRARY] PROGRAM      (Python 3.11, and nothing else)
 
 Mutations: a ready job of jobs/ is changed byte by byte, and value by value, and answered. Each answer has to be one of the texts of
 docs/FORMATS.md, with its status, and nothing else may be written; it is `bad-json` or names a member exactly where the readers of
@@ -11,12 +11,15 @@ Proofs: a ready build is made anew from random numbers, and what it prints is ha
 Then one number is changed, in the proof or in what is claimed, and at last a round is made by hand that lets the false claim
 through at a challenge which is known: the program has to name that round, and show the difference of the two polynomials.
 
+With a LIBRARY, which is libsumcheck_c.a, each of these jobs is answered by `tunaprow_reply` too, by the same status and text.
+
 The seed is printed. Every finding is shown with its input, and the status is then 1.
 """
-import argparse, collections, glob, json, os, random, shlex, subprocess, sys
+import argparse, collections, glob, json, os, random, shlex, subprocess, sys, tempfile
 
 sys.path.insert(0, os.path.join(os.path.dirname(os.path.abspath(__file__)), "..", "tools"))
 import answers, certified, fields, forms, program, proof_of, scan
+from library import Library
 from modelled import mutated, places
 from measured import wants
 
@@ -41,10 +44,10 @@ def ready():
 
 
 class Answers:
-    """The answers of a program, each held against the table of statuses and texts."""
+    """The answers of a program, each held against the table of statuses and texts, and against the library's where there is one."""
 
-    def __init__(self, command_line):
-        self.command_line, self.kinds = command_line, collections.Counter()
+    def __init__(self, command_line, library):
+        self.command_line, self.library, self.kinds = command_line, library, collections.Counter()
 
     def to(self, command, data):
         """The status, the text and what it tells."""
@@ -54,6 +57,8 @@ class Answers:
             raise Finding(f"no answer in {SECONDS} seconds") from None
         if ran.stderr:
             raise Finding(f"standard error: {ran.stderr[:200]}")
+        if self.library and self.library.reply(command, data) != (ran.returncode, ran.stdout):
+            raise Finding(f"the library answers otherwise: {self.library.reply(command, data)} beside {ran.returncode, ran.stdout}")
         text = ran.stdout.decode("ascii", errors="replace")
         try:
             told = answers.read(text)
@@ -374,15 +379,18 @@ def main():
     arguments.add_argument("--mutations", type=int, default=2000)
     arguments.add_argument("--proofs", type=int, default=200)
     arguments.add_argument("--seed", type=int, default=None)
+    arguments.add_argument("--library", default=None)
     arguments.add_argument("program", help="a command line, to which the word of a command is appended")
     given = arguments.parse_args()
     wants([given.program])
     seed = random.randrange(1 << 32) if given.seed is None else given.seed
     print(f"seed {seed}", flush=True)
     found = 0
-    for name, make, count in (("mutations", mutations, given.mutations), ("proofs", proofs, given.proofs)):
-        told_by = Answers(shlex.split(given.program))
-        found += held(name, make(told_by, random.Random(f"{name} {seed}"), count), told_by)
+    with tempfile.TemporaryDirectory() as folder:
+        library = given.library and Library(given.library, folder)
+        for name, make, count in (("mutations", mutations, given.mutations), ("proofs", proofs, given.proofs)):
+            told_by = Answers(shlex.split(given.program), library)
+            found += held(name, make(told_by, random.Random(f"{name} {seed}"), count), told_by)
     sys.exit(1 if found else 0)
 
 

@@ -27,22 +27,25 @@ def product_of(field, left, right):
 
 # ---- the seed, and what a round sends
 
-def quadratic_seed(parts, bits, rounds):
-    """The words of the seed of so many rounds of two values, the basis by values at rows."""
+def quadratic_seed(parts, bits, rounds, basis):
+    """The words of the seed of so many rounds of two values."""
     steps = []
     for _ in range(rounds):
         steps.append(step(1, parts, 2, b"round_poly"))
         steps += [step(3, 1, bits, b"round_pow")] if bits else []
         steps.append(step(2, parts, None, b"round_challenge"))
     name = b"p3-sumcheck-quadratic"
-    text = bytes([1]) + eight(len(name)) + name + eight(len(steps)) + b"".join(steps) + eight(1) + bytes([0])
+    text = bytes([1]) + eight(len(name)) + name + eight(len(steps)) + b"".join(steps) + eight(1) + bytes([basis == "projective"])
     return [half for byte in text for half in (byte >> 4, byte & 15)] if rounds else []
 
 
-def sent_polynomial(field, claim, pair):
-    """The coefficients of what a round sends under a claim: its values are the constant and the leading one."""
-    constant, leading = pair
-    return [constant, field.sub(field.sub(field.sub(claim, constant), constant), leading), leading]
+def sent_polynomial(field, claim, pair, basis):
+    """The coefficients of what a round sends under a claim: its values are the constant, or with coefficients in the tables the value
+    at 1, and the leading one."""
+    first, leading = pair
+    if basis == "projective":
+        return [field.sub(claim, leading), field.sub(first, claim), leading]
+    return [first, field.sub(field.sub(field.sub(claim, first), first), leading), leading]
 
 
 class Tables:
@@ -97,6 +100,7 @@ class Rounds:
     """Rounds of two values each on a sum over all bits: their lines, what they send, and the first lucky challenge of a false claim, if
     there is one. `claim_at` is the true claim after some challenges; `begin` observes what comes before them, and sets the claim, the
     lines above them, and the lucky challenge among what it draws."""
+    basis = "evaluation"
 
     def __init__(self, job, field, count):
         self.job, self.field, self.count, self.bits = job, field, count, job["bits"]
@@ -104,17 +108,21 @@ class Rounds:
         self.transcript = Transcript(field, self.challenger)
         self.rounds, self.witnesses, self.challenges, self.lucky, self.refused = [], [], [], None, None
         self.begin()
-        for word in quadratic_seed(self.transcript.parts, self.bits, count):
+        for word in quadratic_seed(self.transcript.parts, self.bits, count, self.basis):
             self.challenger.observe(word)
 
     def play(self, choose=None, witness=None):
         """Plays the rounds. `choose` answers what one sends, of its number, its true polynomial and the claim before it; without
         it, the round is the true one. `witness` answers a round's witness; without it, it is the least that passes."""
-        self.choose, self.witness = choose or (lambda i, true, claim: [true[0], true[2]]), witness
+        self.choose, self.witness = choose or (lambda i, true, claim: self.pair_of(true)), witness
         for i in range(self.count):
             if self.refused is None:
                 self.round(i)
         return self
+
+    def pair_of(self, true):
+        """What a round sends of its true polynomial."""
+        return [fields.total(self.field, true) if self.basis == "projective" else true[0], true[2]]
 
     def replay(self, proof):
         """Plays the rounds of a proof."""
@@ -134,7 +142,7 @@ class Rounds:
                 return
             line += f" witness {witness}"
         r = self.transcript.draw()
-        sent = sent_polynomial(field, self.claim, pair)
+        sent = sent_polynomial(field, self.claim, pair, self.basis)
         after, true_after = polynomial(field, sent, r), polynomial(field, true, r)
         if self.lucky is None and self.claim != self.claim_at(self.challenges) and after == true_after:
             self.lucky = f"lucky-round {number}", list(map(field.sub, sent, true))

@@ -7,6 +7,7 @@ import argparse, collections, glob, json, os, random, shlex, subprocess, sys, te
 
 sys.path.insert(0, os.path.join(os.path.dirname(os.path.abspath(__file__)), "..", "tools"))
 import answers, forms, proof_of, scan
+from matrices import times
 from measured import beside, compare, wants
 
 TOP = os.path.join(os.path.dirname(os.path.abspath(__file__)), "..")
@@ -18,6 +19,17 @@ ODD = [None, True, False, -1, 1.5, 1.0, 16, 257, 65537, 66049, 1 << 64, "hash", 
 
 def element(rng, size):
     return rng.choice([0, 1, size - 1]) if rng.random() < 0.15 else rng.randrange(size)
+
+
+def vanishing(rng, field, x, count):
+    """A list of so many elements, two or more, that is not zero and vanishes at x as coefficients."""
+    length = rng.randint(1, count - 1)
+    other = [rng.randrange(field.size) if rng.random() < 0.5 else 0 for _ in range(length - 1)] + [rng.randrange(1, field.size)]
+    return times(field, [field.sub(0, x), 1], other) + [0] * (count - length - 1)
+
+
+def any_error(rng, field, count):
+    return [rng.randrange(field.size) if rng.random() < 0.5 else 0 for _ in range(count)]
 
 
 def places(value, way=()):
@@ -58,8 +70,11 @@ class Modelled:
         self.word, self.answer, self.random_job = word, answer, random_job
 
     def wanted(self, text):
-        """The status and the text that some JSON has to be answered by."""
-        found = forms.misfit(scan.read(text), self.word)
+        """The status and the text that some bytes have to be answered by."""
+        try:
+            found = forms.misfit(scan.read(text), self.word)
+        except scan.Fault:
+            return 3, "refused bad-json\n"
         return (3, f"refused bad-job {found[0]}\n") if found else self.answer(json.loads(text))
 
     def compared(self, program, count, seed):
@@ -77,9 +92,13 @@ class Modelled:
         print("\n".join(f"{number:7} {kind}" for kind, number in kinds.most_common()))
         print(f"{count} jobs with seed {seed}, none answered otherwise")
 
+    def files(self):
+        """Its ready jobs."""
+        return sorted(glob.glob(os.path.join(TOP, "jobs", f"{self.word}*.json")))
+
     def ready(self):
         """Holds the texts of the ready jobs against the model."""
-        files = sorted(glob.glob(os.path.join(TOP, "jobs", f"{self.word}*.json")))
+        files = self.files()
         for file in files:
             name = file.removesuffix(".json")
             status = int(open(name + ".status").read()) if os.path.exists(name + ".status") else 0

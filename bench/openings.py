@@ -21,8 +21,7 @@ import copy, json, os, random, sys
 sys.path.insert(0, os.path.join(os.path.dirname(os.path.abspath(__file__)), "..", "tools"))
 import fields, merged
 from matmul import chosen
-from matrices import times
-from modelled import Modelled, element
+from modelled import Modelled, any_error, element, vanishing
 
 
 # ---- provers of false claims
@@ -31,17 +30,6 @@ def with_values(field, job, added):
     """The job with these elements added to the values of its claims."""
     claims = [claim | {"value": field.add(claim["value"], x)} for claim, x in zip(job["claims"], added)]
     return job | {"claims": claims}
-
-
-def vanishing(rng, field, x, count):
-    """A list of so many elements, two or more, that is not zero and vanishes at x as coefficients."""
-    length = rng.randint(1, count - 1)
-    other = [rng.randrange(field.size) if rng.random() < 0.5 else 0 for _ in range(length - 1)] + [rng.randrange(1, field.size)]
-    return times(field, [field.sub(0, x), 1], other) + [0] * (count - length - 1)
-
-
-def any_error(rng, field, count):
-    return [rng.randrange(field.size) if rng.random() < 0.5 else 0 for _ in range(count)]
 
 
 def falsified(rng, field, job):

@@ -3,8 +3,9 @@
  * The reply to a job is the one that the program `sumcheck` gives: the same status and, byte for byte, the same text.
  * docs/FORMATS.md says what jobs and replies are, and docs/FROM_RUST.md has a package for Rust over this header.
  *
- * Proved, in crates/sumcheck_c: for all bytes of a word, of a job and of `out`, the status, the two sizes and the bytes
- * that are left are those that stand below, and no call reads or writes memory beyond what it is handed or asks for.
+ * Proved, in crates/sumcheck_c: for all bytes of a word, of a job and of `out`, and for all numbers of a table, the
+ * status and what is left are those that stand below, and no call reads or writes memory beyond what it is handed or
+ * asks for.
  * Not proved: what stands on this side of the border. No compiler holds these declarations against the library, and
  * nothing checks that a caller keeps what a call wants of it; a caller that does not may get any behaviour.
  *
@@ -71,6 +72,96 @@ uint8_t tunaprow_reply(const uint8_t *word, size_t word_length, const uint8_t *j
  * TUNAPROW_OUT_OF_MEMORY. What is left, and what the call wants, is as above. */
 uint8_t tunaprow_make(uint64_t variables, uint64_t number, const uint8_t *strategy, size_t strategy_length,
                       uint8_t *out, size_t out_length, size_t *written, size_t *needed);
+
+/* ---- Tables in memory
+ *
+ * The two calls below take the numbers of a job with claims on values at points, over the integers modulo 65537, and
+ * leave those of its report: no text is written or read. The answer is that of `audit` to the job with these numbers,
+ * and the status is the same. A job has at most 4,096 claims, and its text 67,108,864 bytes; of a table there may be
+ * more. */
+
+/* How the rounds of a table are played. */
+struct tunaprow_terms {
+    size_t variables;  /* the table has 2^variables entries, and a point so many coordinates; at most 24 */
+    size_t bits;       /* the difficulty of each round's test, at most 16, or 0 for no test */
+    uint32_t batching; /* the element whose powers batch the claims */
+    bool suffix;       /* a round binds the last variable that is left, else the first */
+    bool coefficients; /* the table's entries are coefficients, in prefix order alone, else values */
+    bool hash;         /* challenges are drawn from digests of what was observed, else from a script */
+};
+
+/* What a round sends. */
+struct tunaprow_round {
+    uint32_t first;   /* the value of its polynomial at 0, with coefficients in the table that at 1 */
+    uint32_t leading; /* the leading coefficient, of the square of the variable */
+};
+
+/* What rounds are found to be. */
+enum tunaprow_verdict {
+    TUNAPROW_VERDICT_HOLDS = 0,       /* the claims are true, and the rounds prove them */
+    TUNAPROW_VERDICT_REFUTED = 1,     /* the rounds do not prove them; they may be true or false */
+    TUNAPROW_VERDICT_LUCKY_BATCH = 2, /* a claim is false, and the batching challenge let it through */
+    TUNAPROW_VERDICT_LUCKY_ROUND = 3  /* a claim is false, and the challenge of a round let it through */
+};
+
+struct tunaprow_found {
+    uint32_t verdict;    /* one of these */
+    size_t round;        /* the lucky round, counted from 0, and else 0 */
+    uint64_t vanishing;  /* at how many elements the polynomial of a lucky challenge vanishes, and else 0 */
+    size_t coefficients; /* how many coefficients it has, and else 0: 3 of a round, one for each claim of a batch */
+};
+
+/* The figures of a report. */
+struct tunaprow_figures {
+    uint32_t claim;    /* the batched claim */
+    uint32_t residual; /* what the rounds leave of it */
+    uint32_t eval;     /* the value of the table at the challenges */
+    uint32_t weight;   /* the value of the batched weights there */
+    struct tunaprow_found found;
+};
+
+/* Checks rounds that are handed in.
+ *
+ *  - `table` has an entry for each row, row 0 first; the first variable belongs to the highest bit of a row's number.
+ *  - `points` has a point for each of the `values`, which are claimed there: one after another, each of
+ *    `terms->variables` coordinates, that of the highest bit first.
+ *  - `draws` has the challenges in drawing order; past its end they are 0. With `terms->hash` it is not read. With a
+ *    script no witness passes a test.
+ *  - `rounds` has a round for each variable, and `witnesses` a witness for each of them where there is a difficulty,
+ *    and none where there is not.
+ *
+ * Lengths are numbers of elements. Each number is below 65537.
+ *
+ * What is left:
+ *  - TUNAPROW_HOLDS and TUNAPROW_NOT_PROVED: `*figures` has the report's figures. The challenges stand at the front of
+ *    `challenges`, one for each variable, and the coefficients of a lucky challenge's polynomial, the constant first,
+ *    at the front of `polynomial`: as many of each as there is room for. What follows them is as it was.
+ *  - TUNAPROW_JOB_REFUSED: a number is 65537 or more, the points are not one for each value, or the job's shape is
+ *    refused; TUNAPROW_PROOF_REFUSED: there are not as many rounds or witnesses as there have to be, or a witness
+ *    fails; TUNAPROW_OUT_OF_MEMORY. All is as it was. tunaprow_reply tells the cause of a refusal, of the same job.
+ *
+ * What the call wants is what tunaprow_reply wants, of all its memory: that which it may write overlaps nothing else,
+ * has been written before, and so has each member of `*terms` and `*figures`; a `bool` is true or false; and each
+ * address is aligned as its type is, that of an empty list too. */
+uint8_t tunaprow_check_65537(const struct tunaprow_terms *terms, const uint32_t *table, size_t table_length,
+                             const uint32_t *points, size_t points_length, const uint32_t *values,
+                             size_t values_length, const uint32_t *draws, size_t draws_length,
+                             const struct tunaprow_round *rounds, size_t rounds_length, const uint32_t *witnesses,
+                             size_t witnesses_length, struct tunaprow_figures *figures, uint32_t *challenges,
+                             size_t challenges_length, uint32_t *polynomial, size_t polynomial_length);
+
+/* Builds rounds, by the plain strategy.
+ *
+ * All is as above, but that rounds are left and not read: with TUNAPROW_HOLDS, which a build of true claims ends with,
+ * they stand at the front of `rounds`, one for each variable, and at a difficulty their witnesses at the front of
+ * `witnesses`, as many as there is room for. A build of a false claim is TUNAPROW_JOB_REFUSED. TUNAPROW_NO_WITNESS: no
+ * element passes the test of a round, and all is as it was. */
+uint8_t tunaprow_build_65537(const struct tunaprow_terms *terms, const uint32_t *table, size_t table_length,
+                             const uint32_t *points, size_t points_length, const uint32_t *values,
+                             size_t values_length, const uint32_t *draws, size_t draws_length,
+                             struct tunaprow_round *rounds, size_t rounds_length, uint32_t *witnesses,
+                             size_t witnesses_length, struct tunaprow_figures *figures, uint32_t *challenges,
+                             size_t challenges_length, uint32_t *polynomial, size_t polynomial_length);
 
 /* ---- What the program gives the library: a heap.
  *

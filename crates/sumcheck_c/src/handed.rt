@@ -17,7 +17,7 @@ const LAST_OF_A_REPLY: u8 = 5;
 const SHORT: u8 = 7;
 
 /// Out of memory.
-const OUT_OF_MEMORY: u8 = 8;
+pub(crate) const OUT_OF_MEMORY: u8 = 8;
 
 // The status of a reply and its whole text.
 #[derive(Drop)]

@@ -6,23 +6,38 @@
 //! of `run`, by the same definitions: `reply_of` in `sumcheck_run` is the reply, and `IsHanded` in
 //! `specs/Handed.antt` says how it is handed over. Nothing is kept from one call to the next.
 //!
+//! Two functions take tables, points and rounds as numbers modulo 65537 in place of a text, and
+//! leave numbers: their answers are those of `sumcheck_tables`, by `table_answer`, and `TellsCheck`
+//! and `TellsBuild` in `specs/TypedCalls.antt` say what is left.
+//!
 //! Of a slice C passes the address of its first element and then their number, and of a `Global`
 //! nothing. Nothing checks a C caller. What it owes, and the functions of the heap that it has to
 //! define, are said in `include/tunaprow.h`.
 #![tactic(auto)]
 
-ghost use Rattle.std.specs.Prelude.{◌≡◌, [], Some};
+ghost use Rattle.std.specs.Prelude.{◌≡◌, [], Some, map};
+ghost use Rattle.sc_jobs.specs.Cases.{build, check};
+ghost use Rattle.sc_table.specs.declared.strategy.Strategy.TheVariants.{Plain};
+ghost use Rattle.sumcheck_members.specs.declared.job.FieldName.TheVariants as names;
+ghost use Rattle.sumcheck_replies.specs.Fields.{fields_of};
 ghost use Rattle.sumcheck_run.specs.Program.{CommandPromise, reply_of};
 ghost use Rattle.sumcheck_run.specs.Run.{TellsUsage};
 ghost use Rattle.sumcheck_run.specs.declared.command.Command.{Command};
+ghost use Rattle.sumcheck_tables.specs.Tables.{table_answer};
+ghost use Rattle.sumcheck_tables.specs.Views.{given_of, numbers_in};
 ghost use Rattle.sumcheck_c.specs.Commands.{make_command, word_command};
 ghost use Rattle.sumcheck_c.specs.Handed.{IsHanded};
+ghost use Rattle.sumcheck_c.specs.TypedCalls.{TellsBuild, TellsCheck, case_by};
 
 mod handed;
 mod line;
 mod streams;
+mod tables;
 
+use sc_table::Strategy;
 use std::alloc::Global;
+use sumcheck_tables::{RoundNumbers, TableMode};
+pub use tables::{Found, TableFigures, TableTerms};
 
 /// Answers a command that reads a job: puts the reply to the job at the front of `out`, and ends
 /// with its status.
@@ -93,4 +108,101 @@ pub extern "C" fn tunaprow_make(
         Ok(line) => handed::answer(alloc, &line, b"", out, written, needed),
         Err(_) => handed::nothing(written, needed),
     }
+}
+
+/// Checks rounds of a table modulo 65537 that are handed in, and leaves the figures of the report.
+///
+/// `terms` says how many variables the table has and how rounds are played, as [`TableTerms`] does.
+/// `table` has an entry for each row, row 0 first; the first variable belongs to the highest bit of
+/// a row. `points` has one point for each of `values`, which are claimed there: one after another,
+/// of as many coordinates as there are variables, that of the highest row bit first. Challenge
+/// number d is entry number d of `draws`, and 0 past the end, unless the terms say that it is drawn
+/// from digests; with a script no witness passes a test. `rounds` has a round for each variable,
+/// and `witnesses` a witness for each round at a difficulty and none without one. Numbers are below
+/// 65537.
+///
+/// The statuses are those of the program: 0 a report that holds; 1 another report; 3 a refused job,
+/// also where a number is 65537 or more, or the points are not one for each value; 4 refused
+/// rounds; 8 out of memory. After 0 and 1 `figures` has the report's figures, and the challenges
+/// and the polynomial of a lucky one stand at the front of `challenges` and `polynomial`, as much
+/// of each as there is room for. After any other status all three are as they were.
+#[unsafe(no_mangle)]
+pub extern "C" fn tunaprow_check_65537<'a>(
+    alloc: Global,
+    terms: &TableTerms,
+    table: &'a [u32],
+    points: &'a [u32],
+    values: &'a [u32],
+    draws: &'a [u32],
+    rounds: &'a [RoundNumbers],
+    witnesses: &'a [u32],
+    figures: &mut TableFigures,
+    challenges: &mut [u32],
+    polynomial: &mut [u32],
+) -> u8
+    // The answer of an audit of these numbers is told; there is no other status.
+    ensures { TellsCheck
+        (table_answer (fields_of names.F65537)
+        (case_by terms.now table.now points.now values.now draws.now
+        (check (Some (given_of rounds.now witnesses.now)))))
+        (record { figures = figures.old; challenges = challenges.old; polynomial = polynomial.old })
+        (record { figures = figures.new; challenges = challenges.new; polynomial = polynomial.new })
+        result }
+{
+    let mode = TableMode::Check { rounds, witnesses };
+    let job = tables::job_by(terms, table, points, values, draws, mode);
+    tables::check(alloc, &job, figures, challenges, polynomial)
+}
+
+/// Builds the rounds of a table modulo 65537, on tables of the field, and leaves them with the
+/// figures of their report.
+///
+/// All is as at [`tunaprow_check_65537`], but that rounds are left in place of read: each round's
+/// two numbers at the front of `rounds`, and its witness, at a difficulty, at the front of
+/// `witnesses`, as many as there is room for. A build of claims that are true holds, and one of a
+/// false claim is refused. Status 5: no element passes the test of a round. After another status
+/// than 0 both are as they were.
+#[unsafe(no_mangle)]
+pub extern "C" fn tunaprow_build_65537<'a>(
+    alloc: Global,
+    terms: &TableTerms,
+    table: &'a [u32],
+    points: &'a [u32],
+    values: &'a [u32],
+    draws: &'a [u32],
+    rounds: &mut [RoundNumbers],
+    witnesses: &mut [u32],
+    figures: &mut TableFigures,
+    challenges: &mut [u32],
+    polynomial: &mut [u32],
+) -> u8
+    // The answer of a build from these numbers is told; there is no other status.
+    ensures { TellsBuild
+        (table_answer (fields_of names.F65537)
+        (case_by terms.now table.now points.now values.now draws.now (build Plain)))
+        (record {
+          left = record {
+            figures = figures.old;
+            challenges = challenges.old;
+            polynomial = polynomial.old;
+          };
+          rounds = map numbers_in rounds.old;
+          witnesses = witnesses.old;
+        })
+        (record {
+          left = record {
+            figures = figures.new;
+            challenges = challenges.new;
+            polynomial = polynomial.new;
+          };
+          rounds = map numbers_in rounds.new;
+          witnesses = witnesses.new;
+        })
+        result }
+{
+    let mode = TableMode::Build(Strategy::Plain);
+    let job = tables::job_by(terms, table, points, values, draws, mode);
+    tables::build(
+        alloc, &job, rounds, witnesses, figures, challenges, polynomial,
+    )
 }

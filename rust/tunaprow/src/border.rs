@@ -1,5 +1,47 @@
 //! The border to the static library: `include/tunaprow.h` in Rust. Nothing checks these declarations.
 
+/// How the rounds of a table are played.
+#[repr(C)]
+pub struct Terms {
+    pub variables: usize,
+    pub bits: usize,
+    pub batching: u32,
+    pub suffix: bool,
+    pub coefficients: bool,
+    pub hash: bool,
+}
+
+/// What a round sends, modulo 65537.
+#[repr(C)]
+#[derive(Clone, Copy, Debug, Default, PartialEq, Eq)]
+pub struct TableRound {
+    /// The value of its polynomial at 0; with coefficients in the table that at 1.
+    pub first: u32,
+    /// The leading coefficient, of the square of the variable.
+    pub leading: u32,
+}
+
+/// What rounds are found to be.
+#[repr(C)]
+#[derive(Clone, Copy, Default)]
+pub struct Found {
+    pub verdict: u32,
+    pub round: usize,
+    pub vanishing: u64,
+    pub coefficients: usize,
+}
+
+/// The figures of a report.
+#[repr(C)]
+#[derive(Clone, Copy, Default)]
+pub struct Figures {
+    pub claim: u32,
+    pub residual: u32,
+    pub eval: u32,
+    pub weight: u32,
+    pub found: Found,
+}
+
 extern "C" {
     pub fn tunaprow_reply(
         word: *const u8,
@@ -21,6 +63,48 @@ extern "C" {
         out_length: usize,
         written: *mut usize,
         needed: *mut usize,
+    ) -> u8;
+
+    pub fn tunaprow_check_65537(
+        terms: *const Terms,
+        table: *const u32,
+        table_length: usize,
+        points: *const u32,
+        points_length: usize,
+        values: *const u32,
+        values_length: usize,
+        draws: *const u32,
+        draws_length: usize,
+        rounds: *const TableRound,
+        rounds_length: usize,
+        witnesses: *const u32,
+        witnesses_length: usize,
+        figures: *mut Figures,
+        challenges: *mut u32,
+        challenges_length: usize,
+        polynomial: *mut u32,
+        polynomial_length: usize,
+    ) -> u8;
+
+    pub fn tunaprow_build_65537(
+        terms: *const Terms,
+        table: *const u32,
+        table_length: usize,
+        points: *const u32,
+        points_length: usize,
+        values: *const u32,
+        values_length: usize,
+        draws: *const u32,
+        draws_length: usize,
+        rounds: *mut TableRound,
+        rounds_length: usize,
+        witnesses: *mut u32,
+        witnesses_length: usize,
+        figures: *mut Figures,
+        challenges: *mut u32,
+        challenges_length: usize,
+        polynomial: *mut u32,
+        polynomial_length: usize,
     ) -> u8;
 }
 

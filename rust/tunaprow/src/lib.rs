@@ -47,6 +47,11 @@
 //! assert_eq!(audit(&job), Err(Refusal::FalseClaim { statement: 0, claimed: 5, actual: 1 }));
 //! ```
 //!
+//! # Tables in memory
+//!
+//! [`check_65537`] and [`build_65537`] take a table, claims on its values and rounds as slices of numbers modulo 65537,
+//! and write and read no text. What they answer is proved to be what [`audit`] is answered of the same numbers.
+//!
 //! # The other commands
 //!
 //! [`reply`] answers every command of the program, by the bytes of a job and the text of the reply. The repository's
@@ -63,11 +68,15 @@ mod json;
 mod refusal;
 mod reply;
 mod report;
+mod tables;
 
 pub use job::{Basis, Challenger, Field, Job, Mode, Order, Proof, Statement, Strategy};
 pub use refusal::Refusal;
 pub use reply::{make, reply, Reply, Status};
 pub use report::{Certificate, Grid, Report, Round, Verdict};
+pub use tables::{
+    build_65537, check_65537, Table, TableCertificate, TableProof, TableReport, TableRound, TableVerdict,
+};
 
 /// Builds the rounds of a job, or checks those that it hands in, and reports on them.
 ///

@@ -26,7 +26,7 @@ pub enum Status {
 
 impl Status {
     /// The status of a call whose output had room.
-    fn of_code(code: u8) -> Status {
+    pub(crate) fn of_code(code: u8) -> Status {
         match code {
             0 => Status::Holds,
             1 => Status::NotProved,
