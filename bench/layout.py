@@ -17,7 +17,7 @@ from measured import run, wants
 from reproved import stands_on
 
 TOP = os.path.realpath(os.path.join(os.path.dirname(os.path.abspath(__file__)), ".."))
-CRATES = ("sc_definitions sc_field sc_small_fields sc_table sc_challenger sc_statements sc_rounds sc_layout sc_zk sc_audit "
+CRATES = ("sc_definitions sc_field sc_small_fields sc_table sc_challenger sc_constraints sc_rounds sc_layout sc_zk sc_audit "
           "rand_core rand_chacha anyhow")
 
 # What is measured, by the word that the program is run with; any other word only makes the table.
@@ -34,7 +34,7 @@ use sc_challenger::HashChallenger;
 use sc_field::{Field, NoMemory};
 use sc_layout::{FIRST, TableProver};
 use sc_small_fields::F65537 as F;
-use sc_statements::{Constraint, EqStatement, NextStatement, Statements};
+use sc_constraints::{Constraint, EqStatement, NextStatement, Statements};
 use sc_table::{Basis, Point, Poly, VariableOrder};
 use sc_zk::{NodeCode, OpeningRequest, Sha2Mmcs, ZkProver, ZkSumcheckData, ZkSumcheckShape};
 use std::alloc::Global;

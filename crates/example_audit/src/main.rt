@@ -3,9 +3,9 @@
 
 use sc_audit::{Job, Mode, Strategy, Verdict, audit};
 use sc_challenger::HashChallenger;
+use sc_constraints::{Constraint, EqStatement, Statements};
 use sc_field::{Field, NoMemory};
 use sc_small_fields::F65537 as F;
-use sc_statements::{Constraint, EqStatement, Statements};
 use sc_table::{Basis, Point, VariableOrder};
 use std::alloc::Global;
 

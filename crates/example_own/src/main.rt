@@ -7,8 +7,8 @@ mod field;
 use challenger::Counting;
 use field::F31;
 use sc_audit::{Job, Mode, Strategy, Verdict, audit};
+use sc_constraints::{Constraint, EqStatement, Statements};
 use sc_field::{Field, NoMemory};
-use sc_statements::{Constraint, EqStatement, Statements};
 use sc_table::{Basis, Point, VariableOrder};
 use std::alloc::Global;
 

@@ -10,19 +10,19 @@ use Rattle.sc_definitions.specs.Polynomials.{poly_at, AllZero}
 use Rattle.sc_definitions.specs.Roots.{root_count}
 use Rattle.sc_definitions.specs.Problem.{Problem, claim_of, weights_of}
 use Rattle.sc_definitions.specs.TwoTables.{tables_in}
-use Rattle.sc_definitions.specs.Lucky.{Turn, after_zeros, excess, batch_polynomial, true_claim_of, course_of, first_turn, Luck, in_batch, luck_in, luck_of}
+use Rattle.sc_definitions.specs.Lucky.{Turn, after_zeros, excess, batch_polynomial, true_claim_of, course_of, first_turn, LuckyChallenge, in_batch, luck_in, luck_of}
 use Rattle.sc_definitions.proofs.RingLaws.{element-zero, plus-opposite}
 use Rattle.sc_definitions.proofs.RootLaws.{same-from_minus}
-use Rattle.sc_definitions.proofs.StatementLaws.{element-powers_sum}
+use Rattle.sc_definitions.proofs.StatementLaws.{element-batched_by_powers}
 use Rattle.sc_definitions.proofs.BuildLaws.{first_false_claim-all}
 use Rattle.sc_definitions.proofs.LuckyLaws.{batch-at, batch-some, element-true}
-use Rattle.sc_claims.proofs.FalseSteps.{first_false-none}
+use Rattle.sc_statements.proofs.FalseSteps.{first_false-none}
 use Rattle.sc_rounds.specs.declared.product_polynomial.ProductPolynomial.{ProductPolynomial}
 use Rattle.sc_rounds.specs.Products.{variables_in, sum_in, evals_in, weights_in}
 use Rattle.sc_rounds.specs.Turns.{IsPairOf}
 use Rattle.sc_rounds.proofs.TurnPairs.{offered_as}
 use Rattle.sc_definitions.proofs.FindLaws.{finds-begin}
-use Rattle.sc_verdicts.specs.Findings.{holds, named}
+use Rattle.sc_audit_errors.specs.Findings.{holds, named}
 use Rattle.sc_jobs.specs.Figures.{finding_by, false_claim_of}
 
 -- the sum over a pair is the true claim of its problem
@@ -49,11 +49,11 @@ module _ (o : Ops) (p : Problem) (messages : List (List ℕ)) (rs : List ℕ) wh
       else option_map (luck_in o) (first_turn (course_of o p) 0 (claim_of o p) messages [] rs)) (ne_eqb _ _ other)
       ∙ ap (option_map (luck_in o)) (sym is)
 
-by_none : (fault : Option FalseClaim) (luck : Option Luck) → ((c : FalseClaim) → fault ≡ Some c → ⊥) → holds ≡ finding_by true fault luck
+by_none : (fault : Option FalseClaim) (luck : Option LuckyChallenge) → ((c : FalseClaim) → fault ≡ Some c → ⊥) → holds ≡ finding_by true fault luck
 by_none None luck never = refl
 by_none (Some c) luck never = absurd (never c refl)
 
-by_some : (fault : Option FalseClaim) (luck : Option Luck) → (fault ≡ None → ⊥) → named luck ≡ finding_by true fault luck
+by_some : (fault : Option FalseClaim) (luck : Option LuckyChallenge) → (fault ≡ None → ⊥) → named luck ≡ finding_by true fault luck
 by_some None luck some = absurd (some refl)
 by_some (Some c) luck some = refl
 
@@ -82,7 +82,7 @@ module _ (o : Ops) (ring : IsRing o) where
   -- the batched claim is an element
   claim-element : (p : Problem) → element o (claim_of o p) ≡ claim_of o p
   unfolding claim_of batched_claim
-  claim-element p = element-powers_sum o ring p.batching p.initial (claimed_values p.statements)
+  claim-element p = element-batched_by_powers o ring p.batching p.initial (claimed_values p.statements)
 
   -- what they claim too much vanishes at the batching challenge just where the batched claim is the true one
   pub batch-right : (p : Problem) → poly_at o (batch_polynomial o p) p.batching ≡ 0 → claim_of o p ≡ true_claim_of o p [] p.variables
@@ -95,12 +95,12 @@ module _ (o : Ops) (ring : IsRing o) where
   batch-wrong p some right = some (batch-at o ring p ∙ ap (minus o (claim_of o p)) (sym right) ∙ plus-opposite o ring (claim_of o p))
 
   -- what is found, by that polynomial
-  pub finding-none : (p : Problem) (luck : Option Luck) → All (λ c. c < o.size) (claimed_values p.statements) → AllZero o (batch_polynomial o p) →
+  pub finding-none : (p : Problem) (luck : Option LuckyChallenge) → All (λ c. c < o.size) (claimed_values p.statements) → AllZero o (batch_polynomial o p) →
       holds ≡ finding_by true (false_claim_of o p) luck
   finding-none p luck low zeros =
       by_none (false_claim_of o p) luck (λ c is. batch-some o ring p low (λ all. no_claim c (sym (first_false-none o p.variables p.table 0 p.statements all) ∙ is)) zeros)
 
-  pub finding-some : (p : Problem) (luck : Option Luck) → (AllZero o (batch_polynomial o p) → ⊥) → named luck ≡ finding_by true (false_claim_of o p) luck
+  pub finding-some : (p : Problem) (luck : Option LuckyChallenge) → (AllZero o (batch_polynomial o p) → ⊥) → named luck ≡ finding_by true (false_claim_of o p) luck
   finding-some p luck some =
       by_some (false_claim_of o p) luck (λ is. some (batch-none p (first_false_claim-all o p.variables p.table 0 p.statements is)))
 

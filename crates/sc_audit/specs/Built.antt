@@ -2,8 +2,8 @@
 use Rattle.std.specs.Prelude.{ℕ, map, Result, Ok, Err}
 use Rattle.sc_transcript.specs.Data.{wire_in}
 use Rattle.sc_svo.specs.Grids.{grids_shown}
-use Rattle.sc_verdicts.specs.declared.error.AuditError.{AuditError}
-use Rattle.sc_verdicts.specs.declared.error.AuditError.TheVariants.{NoWitness, NoMemory}
+use Rattle.sc_audit_errors.specs.declared.error.AuditError.{AuditError}
+use Rattle.sc_audit_errors.specs.declared.error.AuditError.TheVariants.{NoWitness, NoMemory}
 use Rattle.sc_audit.specs.declared.strategies.Built.{Built}
 use Rattle.sc_jobs.specs.Cases.{Asked}
 use Rattle.sc_jobs.specs.Audits.{BuildStops}

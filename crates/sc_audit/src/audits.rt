@@ -4,7 +4,7 @@ ghost use Rattle.std.specs.Prelude.{◌≡◌, IfOk, IfErr, IfSome};
 ghost use Rattle.sc_jobs.specs.Cases.{problem_in, task_in};
 ghost use Rattle.sc_jobs.specs.Refusals.{refusal_of, shape_refusal};
 ghost use Rattle.sc_jobs.specs.Figures.{report_in};
-ghost use Rattle.sc_jobs.specs.Audits.{Answers, IsAnswer, IsRefusedBy, HoldsIfBuilt, IsValid, MayMeet};
+ghost use Rattle.sc_jobs.specs.Audits.{Answers, IsAnswer, IsRefusedBy, HoldsIfBuilt, IsValid, MayStopValid};
 ghost use Rattle.sc_jobs.specs.Certified.{CertifiesLuck};
 ghost use Rattle.sc_jobs.specs.Results.{GivesAnswer, answer_to};
 ghost use Rattle.sc_jobs.specs.Stated.{IsRestated, LeavesStated};
@@ -14,10 +14,10 @@ use crate::building::{build, play};
 use crate::checking::check;
 use crate::stating::state_truth;
 use crate::ways::Way;
+use sc_audit_errors::AuditError;
 use sc_challenger::Challenger;
 use sc_field::{ExtensionField, Field, IntoTranscriptField};
 use sc_jobs::{FittingJob, Job, Mode, Report};
-use sc_verdicts::AuditError;
 use std::alloc::Global;
 
 /// Builds the rounds of a job, or checks those of its proof, and reports on them. There is no
@@ -53,7 +53,8 @@ pub fn audit<F: Field, EF: ExtensionField<F>, R: IntoTranscriptField<EF>, C: Cha
     ensures refused { IsRefusedBy (refusal_of (asked_by job.now (C.party challenger.old))) result }
 
     // A valid job is answered.
-    ensures answered { IsValid (asked_by job.now (C.party challenger.old)) → IfErr result MayMeet }
+    ensures answered { IsValid (asked_by job.now (C.party challenger.old))
+        → IfErr result MayStopValid }
 
     // All of it is one function of the job, the rules and the history, want of memory aside: so a
     // round without a witness, or with one that fails, is named exactly where it is the first.
@@ -99,7 +100,7 @@ pub fn audit_true<F: Field, EF: ExtensionField<F>, R: IntoTranscriptField<EF>, C
         (refusal_of (asked_by job.new (C.party challenger.old))) result }
     ensures answered { IsValid
         (asked_by job.new (C.party challenger.old))
-        → IfErr result MayMeet }
+        → IfErr result MayStopValid }
     ensures given { GivesAnswer F.number EF.number
         (answer_to (asked_by job.new (C.party challenger.old))) result }
 {

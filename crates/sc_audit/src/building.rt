@@ -12,11 +12,11 @@ use crate::common::refusal;
 use crate::small_value::small_value;
 use crate::strategies::{Built, plain, represented};
 use crate::ways::{Way, way_of};
+use sc_audit_errors::AuditError;
 use sc_challenger::Challenger;
 use sc_field::{ExtensionField, Field, IntoTranscriptField};
 use sc_jobs::{FittingJob, Report, Verdict, check_strategy};
 use sc_table::Strategy;
-use sc_verdicts::AuditError;
 use std::alloc::Global;
 
 // Builds the rounds of a job of the right shape, unless the strategy does not fit it or a statement

@@ -14,13 +14,13 @@ ghost use Rattle.sc_jobs.specs.Checked.{LeavesReport};
 
 use crate::common::refusal;
 use crate::verdict::verdict_on;
+use sc_audit_errors::AuditError;
 use sc_challenger::Challenger;
 use sc_field::{ExtensionField, Field, NoMemory};
 use sc_jobs::{FittingJob, Report};
 use sc_rounds::SumcheckData;
 use sc_svo::Grids;
 use sc_table::{Point, VariableOrder};
-use sc_verdicts::AuditError;
 use std::alloc::Global;
 
 // Checks the rounds of a proof for a job of the right shape. No proof has no rounds.

@@ -2,8 +2,8 @@
 ghost use Rattle.std.specs.Prelude.{◌≡◌};
 ghost use Rattle.sc_jobs.specs.Audits.{refusal_by};
 
+use sc_audit_errors::AuditError;
 use sc_rounds::SumcheckError;
-use sc_verdicts::AuditError;
 
 // What the replay or the prover refuses is refused by the audit.
 pub(crate) fn refusal(error: SumcheckError) -> AuditError

@@ -11,7 +11,7 @@ ghost use Rattle.sc_rounds.specs.Products.{variables_in, sum_in};
 ghost use Rattle.sc_rounds.specs.Provers.{shown_of};
 ghost use Rattle.sc_rounds.specs.HeldProducts.{course_over};
 ghost use Rattle.sc_transcript.specs.Batches.{GoesOn};
-ghost use Rattle.sc_rounds.specs.Standings.{standing_in, standing_on};
+ghost use Rattle.sc_rounds.specs.ProverStates.{prover_state_in, prover_state_on};
 ghost use Rattle.sc_svo.specs.Batches.{batch_in};
 ghost use Rattle.sc_jobs.specs.Cases.{build};
 ghost use Rattle.sc_jobs.specs.Fitting.{job_in, stated_in, AllTrue, IsAllowed};
@@ -28,13 +28,13 @@ ghost use Rattle.sc_jobs.specs.Taken.{IsBatchOf};
 
 use crate::common::refusal;
 use crate::strategies::Built;
+use sc_audit_errors::AuditError;
 use sc_challenger::Challenger;
 use sc_field::{ExtensionField, Field, with_room};
 use sc_jobs::FittingJob;
 use sc_rounds::{ProductPolynomial, ProverTranscript, SumcheckData, SumcheckError, SumcheckShape};
 use sc_svo::SvoBatch;
 use sc_table::{Basis, Point};
-use sc_verdicts::AuditError;
 use std::alloc::Global;
 
 // Builds the rounds of a job whose statements are true, in the transcript of a copy of the
@@ -97,7 +97,7 @@ fn play_all<F: Field, EF: ExtensionField<F>, C: Challenger<F>>(
     ensures { LeavesRounds
         (rounds_for (job_in fitting.now) (wire_in F.number EF.number sumcheck_data.old)
         (C.party challenger.old))
-        (λ p. standing_in EF.number p.0 sum.new (C.party challenger.new).history
+        (λ p. prover_state_in EF.number p.0 sum.new (C.party challenger.new).history
         (wire_in F.number EF.number sumcheck_data.new)) (λ p. map EF.number p.1)
         (C.party challenger.new).history (wire_in F.number EF.number sumcheck_data.new) result }
 {
@@ -148,7 +148,7 @@ fn play<F: Field, EF: ExtensionField<F>, C: Challenger<F>>(
     ensures played { LeavesPlayed
         (play_for EF.extension EF.number EF.ops (stated_in fitting.now)
         transcript.old sumcheck_data.old)
-        (λ p. standing_on EF.number EF.number p sum.new transcript.new sumcheck_data.new)
+        (λ p. prover_state_on EF.number EF.number p sum.new transcript.new sumcheck_data.new)
         (map EF.number challenges.new.items) (driver_in transcript.new)
         (wire_in F.number EF.number sumcheck_data.new) result }
 {

@@ -7,10 +7,10 @@ ghost use Rattle.sc_jobs.specs.Stated.{IsRestated, truly_stated, shape_of, Refus
 ghost use Rattle.sc_audit.specs.Ways.{IsWayOf, IsBatchedFor};
 
 use crate::ways::{Batched, Way, batch_of};
+use sc_audit_errors::AuditError;
 use sc_field::{ExtensionField, Field, NoMemory};
 use sc_jobs::{FittingJob, Job, Mode, check_strategy};
 use sc_table::{Basis, Strategy};
-use sc_verdicts::AuditError;
 use std::alloc::Global;
 
 // Puts their true values in place of what the statements of a job claim, whose shape is not refused

@@ -13,13 +13,13 @@ ghost use Rattle.sc_audit.specs.Built.{LeavesBuild};
 ghost use Rattle.sc_jobs.specs.BuiltCases.{prover_for};
 
 use crate::common::refusal;
+use sc_audit_errors::AuditError;
 use sc_challenger::Challenger;
 use sc_field::{ExtensionField, Field, IntoTranscriptField, NoMemory};
 use sc_jobs::FittingJob;
 use sc_rounds::{BaseProduct, ProductPolynomial, ReprSumcheckProver, SumcheckData, SumcheckProver};
 use sc_svo::Grids;
 use sc_table::{Point, Poly};
-use sc_verdicts::AuditError;
 use std::alloc::Global;
 
 // Rounds that were built, with the claim that they began with, their challenges in drawing order,

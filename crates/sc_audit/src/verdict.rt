@@ -8,7 +8,7 @@ ghost use Rattle.sc_definitions.specs.Lucky.{batch_polynomial, luck_of, true_cla
 ghost use Rattle.sc_rounds.specs.Turns.{IsPairOf};
 ghost use Rattle.sc_transcript.specs.Data.{messages_in};
 ghost use Rattle.sc_jobs.specs.Fitting.{stated_in};
-ghost use Rattle.sc_verdicts.specs.Findings.{named};
+ghost use Rattle.sc_audit_errors.specs.Findings.{named};
 ghost use Rattle.sc_jobs.specs.Figures.{finding_in, finding_by, false_claim_of};
 
 use crate::strategies::embedded;

@@ -8,12 +8,12 @@ ghost use Rattle.sc_jobs.specs.Refusals.{strategy_refusal, false_refusal, refusa
 ghost use Rattle.sc_audit.specs.SmallRounds.{strategy_by, IsReady};
 ghost use Rattle.sc_jobs.specs.Taken.{IsBatchOf, TestsClaims};
 
+use sc_audit_errors::AuditError;
 use sc_definitions::FalseClaim;
 use sc_field::{ExtensionField, Field, NoMemory};
 use sc_jobs::{FittingJob, claims_of, first_other};
 use sc_svo::SvoBatch;
 use sc_table::Strategy;
-use sc_verdicts::AuditError;
 use std::alloc::Global;
 
 // How rounds are built, with what that takes.

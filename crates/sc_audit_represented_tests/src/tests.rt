@@ -1,17 +1,17 @@
 //! Builds on representations, and over fields that differ from those of the tables, with figures
 //! from a script that is no part of this.
 ghost use Rattle.std.specs.Prelude.{◌≡◌};
-ghost use Rattle.sc_claims.specs.EqStatements.{eq_arity};
+ghost use Rattle.sc_statements.specs.EqStatements.{eq_arity};
 
 mod representations;
 mod traced;
 
 use sc_audit::{AuditError, Grid, Job, Mode, Report, Strategy, Verdict, audit};
 use sc_challenger::{Challenger, ScriptedChallenger};
+use sc_constraints::{Constraint, EqStatement, Statements};
 use sc_definitions::Event;
 use sc_definitions::Event::Word;
 use sc_field::{ExtensionField, Field, IntoTranscriptField};
-use sc_statements::{Constraint, EqStatement, Statements};
 use sc_table::{Basis, Point, VariableOrder};
 use sc_tests_common::{are_pairs, have_numbers, of};
 use std::process::Abort;

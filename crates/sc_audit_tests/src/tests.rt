@@ -1,9 +1,9 @@
 //! Whole audits, with figures from a script that is no part of this.
 ghost use Rattle.std.specs.Prelude.{◌≡◌};
-ghost use Rattle.sc_claims.specs.EqStatements.{eq_arity};
-ghost use Rattle.sc_statements.specs.Groups.{group_arity};
-ghost use Rattle.sc_claims.specs.NextStatements.{next_arity};
-ghost use Rattle.sc_claims.specs.SelectStatements.{select_arity};
+ghost use Rattle.sc_statements.specs.EqStatements.{eq_arity};
+ghost use Rattle.sc_constraints.specs.Groups.{group_arity};
+ghost use Rattle.sc_statements.specs.NextStatements.{next_arity};
+ghost use Rattle.sc_statements.specs.SelectStatements.{select_arity};
 
 mod lucky;
 mod projective;
@@ -17,10 +17,10 @@ mod texts;
 
 use sc_audit::{AuditError, Grid, Job, Mode, Report, Strategy, Verdict, audit};
 use sc_challenger::{Challenger, Event, ScriptedChallenger};
+use sc_constraints::{Constraint, EqStatement, NextStatement, SelectStatement, Statements};
 use sc_definitions::Event::{Draw, Test, Word};
 use sc_field::Field;
 use sc_rounds::SumcheckData;
-use sc_statements::{Constraint, EqStatement, NextStatement, SelectStatement, Statements};
 use sc_table::{Basis, Point, RoundMessage, VariableOrder};
 use sc_tests_common::{are_pairs, have_numbers, of};
 use std::process::Abort;

@@ -2,7 +2,7 @@
 use Rattle.std.proofs.Common.{◌≡◌, ℕ, suc, ◌+◌, ◌-◌, ◌*◌, ◌%◌, ◌<◌, ◌≤◌, ◌^◌, ◌==◌, Bool, true, false, List, [], ◌∷◌, All, length, if◌then◌else◌, sym, ◌∙◌, ap, refl, arith, pow-suc}
 use Rattle.std.proofs.Math.Pow.{pow_mono}
 use Rattle.sc_definitions.specs.Ring.{Ops, IsRing, element, plus, times}
-use Rattle.sc_definitions.specs.Tables.{value, weight}
+use Rattle.sc_definitions.specs.Tables.{value, equality_weight}
 use Rattle.sc_definitions.proofs.RingLaws.{element-zero, element-plus, plus_comm, plus-zero, times-one}
 use Rattle.sc_definitions.proofs.SuccessorLaws.{element-weight}
 use Rattle.sc_definitions.proofs.Identity.{atom, nought, unit, ◌⊕◌, ◌⊗◌, Agree, identity}
@@ -38,10 +38,10 @@ places-below n (gate ∷ gates) left right = (
 
 module _ (o : Ops) (ring : IsRing o) where
   -- equality weights that are added once to nothing
-  pub weights-alone : (zs : List ℕ) (b y z s : ℕ) → y ≡ plus o z (times o s (weight o zs b)) → z ≡ 0 → s ≡ 1 → y ≡ weight o zs b
+  pub weights-alone : (zs : List ℕ) (b y z s : ℕ) → y ≡ plus o z (times o s (equality_weight o zs b)) → z ≡ 0 → s ≡ 1 → y ≡ equality_weight o zs b
   unfolding Agree
   weights-alone zs b y z s is none one =
-      let w = weight o zs b in
+      let w = equality_weight o zs b in
       is ∙ ap (λ n. plus o n (times o s w)) none ∙ ap (λ n. plus o 0 (times o n w)) one
       ∙ identity o ring (w ∷ []) (nought ⊕ unit ⊗ atom 0) (atom 0 ⊗ unit) tt tt refl ∙ times-one o ring w ∙ element-weight o ring zs b
 
@@ -75,7 +75,7 @@ module _ (o : Ops) (ring : IsRing o) where
 
     -- ---- the second half
 
-    module _ (us : List ℕ) (size : length us ≡ k) (points : ℕ → ℕ) (weights : (b : ℕ) → b < 2 ^ k → points b ≡ weight o us b) (V : ℕ) (at : V ≡ value o v us) where
+    module _ (us : List ℕ) (size : length us ≡ k) (points : ℕ → ℕ) (weights : (b : ℕ) → b < 2 ^ k → points b ≡ equality_weight o us b) (V : ℕ) (at : V ≡ value o v us) where
       factor-by : (p c : Bool) (a b : ℕ) →
           (if c then (if p then times o (times o a b) V else times o a b) else 0)
           ≡ plus o (if c then (if is_same_kind p false then times o a b else 0) else 0) (times o (if c then (if is_same_kind p true then times o a b else 0) else 0) V)
@@ -102,7 +102,7 @@ module _ (o : Ops) (ring : IsRing o) where
           let c = y == gate.right in
           let p = gate.product in
           let a = w g in
-          let b = weight o us gate.left in
+          let b = equality_weight o us gate.left in
           let A = if c then (if is_same_kind p false then times o a b else 0) else 0 in
           let B = if c then (if is_same_kind p true then times o a b else 0) else 0 in
           let S = shares_at o (λ gate. gate.right) (row_share o false w us) (suc g) gates y in
@@ -121,7 +121,7 @@ module _ (o : Ops) (ring : IsRing o) where
           let c = y == gate.right in
           let p = gate.product in
           let a = w g in
-          let b = weight o us gate.left in
+          let b = equality_weight o us gate.left in
           let A = if c then (if is_same_kind p false then times o a b else 0) else 0 in
           let S = shares_at o (λ gate. gate.right) (row_share o false w us) (suc g) gates y in
           let rest = shares_at o (λ gate. gate.right) (second_rest_share o w points V) (suc g) gates y in

@@ -4,7 +4,7 @@ use Rattle.std.proofs.lemmas.Bool.{cases_lt}
 use Rattle.std.proofs.lemmas.List.{drop-append-le, take-append-le, take-append-drop, take_all}
 use Rattle.std.proofs.Math.ListN.{drop_of_length-le}
 use Rattle.sc_definitions.specs.Ring.{Ops, IsRing}
-use Rattle.sc_definitions.specs.Tables.{sum_below, bound, bound_by}
+use Rattle.sc_definitions.specs.Tables.{sum_below, bound, folded_by}
 use Rattle.sc_definitions.specs.Polynomials.{poly_at}
 use Rattle.sc_definitions.proofs.Sums.{sum-same}
 use Rattle.sc_degree.specs.Provers.{IsFolded}
@@ -163,7 +163,7 @@ module _ (o : Ops) (ring : IsRing o) (t : LayerTables) (us : List ℕ) where
 -- at the last challenge of the first half the second one begins
 pub begun-after : (o : Ops) (t : LayerTables) (us : List ℕ) (p : Phase) → length us ≡ t.variables → SameRows (2 ^ t.variables) p (second_phase o t us) →
     (left_after t.variables (length us) ≡ t.variables) × SameRows (2 ^ t.variables) p (phase_after o t us)
-unfolding bound_by
+unfolding folded_by
 begun-after o t us p size same =
     let k = t.variables in
     let n = length us in
@@ -179,7 +179,7 @@ begun-after o t us p size same =
 
 -- before all challenges the first half stands
 pub first-after : (o : Ops) (t : LayerTables) (p : Phase) → 0 < t.variables → SameRows (2 ^ t.variables) p (first_phase o t) → SameRows (2 ^ t.variables) p (phase_after o t [])
-unfolding bound_by
+unfolding folded_by
 first-after o t p some same = rows-by (2 ^ t.variables) p (first_phase o t) (phase_after o t []) (sym (after-first o t [] some)) same
 
 -- and as many variables are left as it has

@@ -10,7 +10,7 @@ use Rattle.sc_definitions.specs.declared.events.Event.TheVariants.{Draw}
 use Rattle.sc_definitions.specs.Events.{Extension, words, extension_draw}
 use Rattle.sc_definitions.specs.Transcript.{Round, sent, round_events, rounds_events}
 use Rattle.sc_definitions.proofs.ReplayLaws.{sent-pair}
-use Rattle.sc_definitions.specs.Channels.{footing}
+use Rattle.sc_definitions.specs.Channels.{verifier_state}
 use Rattle.sc_transcript.specs.Walks.{IsWalked}
 use Rattle.sc_transcript.specs.Replayed.{IsCounted}
 use Rattle.sc_degree.specs.declared.error.GenericDegreeError.{GenericDegreeError}
@@ -86,7 +86,7 @@ module _ (r : LayerRun) (g : GivenLayer) where
   ]
 
   -- the rounds were replayed whole, and the challenge that merges the two values was drawn
-  pub ends-run : (rs : List ℕ) (rest merging : ℕ) (h1 h2 : List Event) → IsCounted (run_replay r g) → IsWalked (run_replay r g).walk rs (footing h1 rest) →
+  pub ends-run : (rs : List ℕ) (rest merging : ℕ) (h1 h2 : List Event) → IsCounted (run_replay r g) → IsWalked (run_replay r g).walk rs (verifier_state h1 rest) →
       merging ≡ extension_draw r.channel.rules r.channel.extension (h1 ++ sent r.channel.extension (g.left ∷ g.right ∷ [])) →
       h2 ≡ h1 ++ sent r.channel.extension (g.left ∷ g.right ∷ []) ++ replicate r.channel.extension.degree Draw → EndsRun r g rs rest merging h2
   ends-run rs rest merging h1 h2 counted walked merge history =

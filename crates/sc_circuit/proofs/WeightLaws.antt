@@ -5,10 +5,10 @@ use Rattle.std.proofs.Math.ListN.{drop_of_length-le}
 use Rattle.std.proofs.lemmas.Bool.{cases_lt}
 use Rattle.std.proofs.lemmas.Nat.{mul-le}
 use Rattle.sc_definitions.specs.Ring.{Ops, IsRing, element, plus, times, power}
-use Rattle.sc_definitions.specs.Tables.{sum_below, entries, value, weight}
+use Rattle.sc_definitions.specs.Tables.{sum_below, entries, value, equality_weight}
 use Rattle.sc_definitions.proofs.RingLaws.{element-zero, element-plus, element-small, plus_comm, plus_assoc, plus-zero}
 use Rattle.sc_definitions.proofs.Sums.{sum-same, sum-plus}
-use Rattle.sc_definitions.proofs.BlockLaws.{weight-append}
+use Rattle.sc_definitions.proofs.BlockLaws.{equality_weight-append}
 use Rattle.sc_definitions.proofs.Identity.{atom, ◌⊕◌, ◌⊗◌, Agree, identity}
 use Rattle.sc_field.proofs.EntryLaws.{entry-append_left, entry-append_last}
 use Rattle.sc_circuit_definitions.specs.declared.gate.Gate.{Gate}
@@ -91,24 +91,24 @@ module _ (o : Ops) (ring : IsRing o) where
   -- ---- at a point of two halves
 
   module _ (k : ℕ) (us vs : List ℕ) (first : length us ≡ k) (second : length vs ≡ k) (p : PlaceWeights)
-      (by_first : (b : ℕ) → b < 2 ^ k → p.first b ≡ weight o us b) (by_second : (b : ℕ) → b < 2 ^ k → p.second b ≡ weight o vs b) (w : ℕ → ℕ) where
+      (by_first : (b : ℕ) → b < 2 ^ k → p.first b ≡ equality_weight o us b) (by_second : (b : ℕ) → b < 2 ^ k → p.second b ≡ equality_weight o vs b) (w : ℕ → ℕ) where
     gate-here : (product : Bool) (g : ℕ) (gate : Gate) → gate.left < 2 ^ k → gate.right < 2 ^ k →
-        sum_below o (2 ^ length (us ++ vs)) (λ b. times o (if is_gate_at product k b gate then w g else 0) (weight o (us ++ vs) b))
+        sum_below o (2 ^ length (us ++ vs)) (λ b. times o (if is_gate_at product k b gate then w g else 0) (equality_weight o (us ++ vs) b))
         ≡ (if is_same_kind gate.product product then placed_share o p (w g) gate else 0)
     unfolding is_gate_at Agree
     gate-here product g gate left right =
         let K = 2 ^ k in
         let r = gate.left * K + gate.right in
         let N = 2 ^ length (us ++ vs) in
-        let h : ℕ → ℕ = weight o (us ++ vs) in
+        let h : ℕ → ℕ = equality_weight o (us ++ vs) in
         let size : N ≡ K * K = ap (λ n. 2 ^ n) (length-append us vs) ∙ ap (λ n. 2 ^ (n + length vs)) first ∙ ap (λ n. 2 ^ (k + n)) second ∙ pow-add 2 k k in
         let fits : suc gate.left * K ≤ K * K = mul-le (suc gate.left) K K K left (omega arith) in
         let inside : r < N = omega (arith, fits, size, right) in
         let left_low : gate.left < 2 ^ length us = subst (λ n. gate.left < 2 ^ n) (sym first) left in
         let right_low : gate.right < 2 ^ length vs = subst (λ n. gate.right < 2 ^ n) (sym second) right in
         let at : h r ≡ times o (p.first gate.left) (p.second gate.right) =
-        ap (λ n. h (gate.left * 2 ^ n + gate.right)) (sym second) ∙ weight-append o ring us vs gate.left gate.right left_low right_low
-        ∙ ap (λ n. times o n (weight o vs gate.right)) (sym (by_first gate.left left)) ∙ ap (times o (p.first gate.left)) (sym (by_second gate.right right)) in
+        ap (λ n. h (gate.left * 2 ^ n + gate.right)) (sym second) ∙ equality_weight-append o ring us vs gate.left gate.right left_low right_low
+        ∙ ap (λ n. times o n (equality_weight o vs gate.right)) (sym (by_first gate.left left)) ∙ ap (times o (p.first gate.left)) (sym (by_second gate.right right)) in
         elim (is_same_kind gate.product product) as (λ s. sum_below o N (λ b. times o (if s && (b == r) then w g else 0) (h b)) ≡ (if s then placed_share o p (w g) gate else 0)) [
           | true ↦ at_place o ring N r (w g) h inside ∙ ap (times o (w g)) at
               ∙ identity o ring (w g ∷ p.first gate.left ∷ p.second gate.right ∷ []) (atom 0 ⊗ (atom 1 ⊗ atom 2)) ((atom 0 ⊗ atom 1) ⊗ atom 2) tt tt refl
@@ -118,10 +118,10 @@ module _ (o : Ops) (ring : IsRing o) where
     kind-value : (product : Bool) (g : ℕ) (gates : List Gate) → PlacesBelow (2 ^ k) gates →
         value o (gate_weights o product w k g gates) (us ++ vs) ≡ kind_sum o product w p g gates
     unfolding value gate_weights kind_sum Agree
-    kind-value product g [] places = never o ring (2 ^ length (us ++ vs)) (weight o (us ++ vs))
+    kind-value product g [] places = never o ring (2 ^ length (us ++ vs)) (equality_weight o (us ++ vs))
     kind-value product g (gate ∷ gates) places =
         let N = 2 ^ length (us ++ vs) in
-        let h : ℕ → ℕ = weight o (us ++ vs) in
+        let h : ℕ → ℕ = equality_weight o (us ++ vs) in
         let A : ℕ → ℕ = λ b. if is_gate_at product k b gate then w g else 0 in
         let S : ℕ → ℕ = gate_weights o product w k (suc g) gates in
         sum-same o N _ _ (λ b _. identity o ring (A b ∷ S b ∷ h b ∷ []) ((atom 0 ⊕ atom 1) ⊗ atom 2) (atom 0 ⊗ atom 2 ⊕ atom 1 ⊗ atom 2) tt tt refl)

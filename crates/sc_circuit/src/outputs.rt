@@ -3,7 +3,7 @@
 ghost use Rattle.std.specs.Prelude.{◌≡◌, ◌≤◌, [], IfOk, OnErr, OnOk, length, map};
 ghost use Rattle.sc_definitions.specs.Events.{words};
 ghost use Rattle.sc_definitions.specs.Ring.{power};
-ghost use Rattle.sc_definitions.specs.Statements.{powers_sum};
+ghost use Rattle.sc_definitions.specs.Statements.{batched_by_powers};
 ghost use Rattle.sc_definitions.specs.Tables.{entries};
 ghost use Rattle.sc_challenger.specs.Parties.{Appends};
 ghost use Rattle.sc_circuit_definitions.specs.CircuitPlays.{first_start, output_challenge};
@@ -57,7 +57,8 @@ pub(crate) fn begin<F: Field, EF: ExtensionField<F>>(
     challenge: EF,
 ) -> Result<Reached<EF>, NoMemory>
     requires { length outputs.now ≤ 256 }
-    ensures claim { IfOk result (λ r. EF.number r.claim ≡ powers_sum EF.ops (EF.number challenge) 0
+    ensures claim { IfOk result (λ r. EF.number r.claim
+        ≡ batched_by_powers EF.ops (EF.number challenge) 0
         (map EF.embedding (map F.number outputs.now))) }
     ensures count { IfOk result (λ r. length r.weights.items ≡ length outputs.now) }
     ensures weights { IfOk result (λ r. AreSame (length outputs.now)

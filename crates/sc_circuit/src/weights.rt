@@ -2,7 +2,7 @@
 ghost use Rattle.std.specs.Prelude.{◌≡◌, ℕ, ◌+◌, ◌<◌, ◌≤◌, ◌^◌, All, IfOk, length, map};
 ghost use Rattle.std.specs.Prelude.{if◌then◌else◌, take, drop};
 ghost use Rattle.sc_definitions.specs.Ring.{power, ◌+⟨◌⟩◌, ◌*⟨◌⟩◌};
-ghost use Rattle.sc_definitions.specs.Tables.{entries, weight};
+ghost use Rattle.sc_definitions.specs.Tables.{entries, equality_weight};
 ghost use Rattle.sc_circuit_definitions.specs.Circuits.{is_same_kind, weighted_sum};
 ghost use Rattle.sc_circuit_definitions.specs.Circuits.{merged_weight};
 ghost use Rattle.sc_circuit.specs.Steps.{AreSame};
@@ -39,7 +39,7 @@ pub(crate) fn equality_weights<EF: Field>(alloc: Global, point: &[EF]) -> Result
     requires { length point.now ≤ 8 }
     ensures len { IfOk result (λ weights. length weights.items ≡ 2 ^ length point.now) }
     ensures weights { IfOk result (λ weights. (b : ℕ) → b < 2 ^ length point.now
-        → entries EF.number weights.items b ≡ weight EF.ops (map EF.number point.now) b) }
+        → entries EF.number weights.items b ≡ equality_weight EF.ops (map EF.number point.now) b) }
 {
     let mut weights = zeros(alloc, 1 << point.len())?;
     add_equality(weights.as_mut_slice(), point, EF::ONE);

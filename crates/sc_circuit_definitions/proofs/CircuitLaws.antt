@@ -11,14 +11,14 @@ use Rattle.sc_definitions.specs.Ring.{element, plus, times, opposite, minus}
 use Rattle.sc_definitions.specs.Tables.{rows_of, value}
 use Rattle.sc_definitions.specs.Polynomials.{poly_at, AllZero}
 use Rattle.sc_definitions.specs.Rounds.{claim_along}
-use Rattle.sc_definitions.specs.Statements.{powers_sum}
+use Rattle.sc_definitions.specs.Statements.{batched_by_powers}
 use Rattle.sc_definitions.specs.Interpolation.{next_through}
 use Rattle.sc_definitions.specs.Transcript.{messages_of, challenges, sent, rounds_events}
-use Rattle.sc_definitions.specs.Lucky.{Luck, in_batch, in_round}
+use Rattle.sc_definitions.specs.Lucky.{LuckyChallenge, in_batch, in_round}
 use Rattle.sc_definitions.proofs.RingLaws.{element-plus, plus_below, times_below, size_pos, plus-element_left, plus-element_right, times-element_left, times-element_right}
 use Rattle.sc_definitions.proofs.Sums.{element-sum}
 use Rattle.sc_definitions.proofs.PolyLaws.{length-minus}
-use Rattle.sc_definitions.proofs.StatementLaws.{element-powers_sum}
+use Rattle.sc_definitions.proofs.StatementLaws.{element-batched_by_powers}
 use Rattle.sc_definitions.proofs.RootLaws.{same-from_minus}
 use Rattle.sc_definitions.proofs.BuiltLaws.{length-messages, length-challenges}
 use Rattle.sc_definitions.proofs.Identity.{atom, nought, ◌⊕◌, ◌⊗◌, ◌⊖◌, Agree, identity}
@@ -256,9 +256,9 @@ module _ (q : CircuitCase) (is : IsCircuitCase q) where
       let gamma = output_challenge q in
       let long : length (map q.embedding q.outputs) ≡ length (images_of q q.layers) = length-map q.outputs q.embedding ∙ is.outputs_count ∙ sym (images-length q.layers) in
       record {
-        small = element-powers_sum q.ops is.field.ring gamma 0 (map q.embedding q.outputs);
+        small = element-batched_by_powers q.ops is.field.ring gamma 0 (map q.embedding q.outputs);
         exceeds = excess-powers q.ops is.field.ring gamma (map q.embedding q.outputs) (images_of q q.layers) long
-            ∙ ap (minus q.ops (powers_sum q.ops gamma 0 (map q.embedding q.outputs))) (sym (powers-weighted q.ops is.field.ring gamma (images_of q q.layers)));
+            ∙ ap (minus q.ops (batched_by_powers q.ops gamma 0 (map q.embedding q.outputs))) (sym (powers-weighted q.ops is.field.ring gamma (images_of q q.layers)));
       }
 
   -- where all layers agree although an output is false, a challenge was lucky
@@ -306,7 +306,7 @@ module _ (q : CircuitCase) (is : IsCircuitCase q) where
       let end = end_from q q.layers came start in
       let luck = stages_luck q.ops 0 (circuit_stages q plays end) in
       let true_claim : start.claim ≡ weighted_sum q.ops start.weights (images_of q q.layers) =
-      ap (λ xs. powers_sum q.ops gamma 0 (map q.embedding xs)) right ∙ sym (powers-weighted q.ops is.field.ring gamma (images_of q q.layers)) in
+      ap (λ xs. batched_by_powers q.ops gamma 0 (map q.embedding xs)) right ∙ sym (powers-weighted q.ops is.field.ring gamma (images_of q q.layers)) in
       ap (λ d. finding_by d (false_output q) luck) (agreed-built 0 q.layers came start is.circuit true_claim built)
       ∙ ap (λ d. finding_by None d luck) (ap (λ xs. first_difference 0 xs (top_values q.base q.layers q.inputs)) right ∙ difference-none 0 (top_values q.base q.layers q.inputs))
 
@@ -392,7 +392,7 @@ module _ (q : CircuitCase) (is : IsCircuitCase q) where
   length-first zero = excess-length
   length-first (suc i) = refl
 
-  certified_luck : (came : List SentLayer) (place : ℕ) (s : Stage) (l : Luck) → IsLocated q q.layers came (first_start q) place s → IsCertifiedIn q.ops s l →
+  certified_luck : (came : List SentLayer) (place : ℕ) (s : Stage) (l : LuckyChallenge) → IsLocated q q.layers came (first_start q) place s → IsCertifiedIn q.ops s l →
       IsCircuitCertified q (circuit_figures q came) place l
   unfolding circuit_figures challenge_lists
   certified_luck came place s (in_batch polynomial roots) at certified = record {

@@ -2,13 +2,13 @@
 use Rattle.std.proofs.Common.{◌≡◌, ℕ, suc, ◌+◌, ◌*◌, ◌^◌, ◌<◌, List, [], ◌∷◌, ◌++◌, length, take, drop, sym, ◌∙◌, ap, refl, arith, append_assoc, length-append, pow-add}
 use Rattle.std.proofs.Math.Seq.{drop-append_seam, take-append_seam}
 use Rattle.sc_definitions.specs.Ring.{Ops, IsRing, element, plus, times}
-use Rattle.sc_definitions.specs.Tables.{evaluation, prefix, sum_below, value, digits, weight, bound_in, bound_by}
-use Rattle.sc_definitions.specs.Rounds.{placed_entry}
+use Rattle.sc_definitions.specs.Tables.{evaluation, prefix, sum_below, value, digits, equality_weight, folded_in, folded_by}
+use Rattle.sc_definitions.specs.Rounds.{partial_value}
 use Rattle.sc_definitions.specs.Polynomials.{poly_at}
-use Rattle.sc_definitions.proofs.PlacedLaws.{placed_entry-bound_by, bound_by-append}
+use Rattle.sc_definitions.proofs.PlacedLaws.{partial_value-folded_by, folded_by-append}
 use Rattle.sc_definitions.proofs.RingLaws.{times-element_left, times-element_right, plus-element_right}
 use Rattle.sc_definitions.proofs.Sums.{sum-same, sum-plus}
-use Rattle.sc_definitions.proofs.BlockLaws.{sum-blocks, sum-times, weight-append}
+use Rattle.sc_definitions.proofs.BlockLaws.{sum-blocks, sum-times, equality_weight-append}
 use Rattle.sc_definitions.proofs.TableLaws.{length-digits, value-digits}
 use Rattle.sc_definitions.proofs.ValueLaws.{element-value}
 use Rattle.sc_definitions.proofs.Identity.{atom, ◌⊕◌, ◌⊗◌, Agree, identity}
@@ -30,37 +30,37 @@ module _ (o : Ops) (ring : IsRing o) where
       let Q = 2 ^ length ys in
       let size : 2 ^ length (xs ++ ys) ≡ P * Q = ap (λ n. 2 ^ n) (length-append xs ys) ∙ pow-add 2 (length xs) (length ys) in
       let A = atom 0 in let B = atom 1 in let C = atom 2 in
-      ap (λ n. sum_below o n (λ b. times o (f b) (weight o (xs ++ ys) b))) size
-      ∙ sum-blocks o ring P Q (λ b. times o (f b) (weight o (xs ++ ys) b))
+      ap (λ n. sum_below o n (λ b. times o (f b) (equality_weight o (xs ++ ys) b))) size
+      ∙ sum-blocks o ring P Q (λ b. times o (f b) (equality_weight o (xs ++ ys) b))
       ∙ sum-same o P _ _ (λ x lx. sum-same o Q _ _ (λ y ly.
-      ap (times o (f (x * Q + y))) (weight-append o ring xs ys x y lx ly)
-      ∙ identity o ring (f (x * Q + y) ∷ weight o xs x ∷ weight o ys y ∷ []) (A ⊗ (B ⊗ C)) ((A ⊗ B) ⊗ C) tt tt refl))
-      ∙ sum-swap o ring P Q (λ x y. times o (times o (f (x * Q + y)) (weight o xs x)) (weight o ys y))
-      ∙ sum-same o Q _ _ (λ y _. sym (sum-times o ring P (weight o ys y) (λ x. times o (f (x * Q + y)) (weight o xs x))))
+      ap (times o (f (x * Q + y))) (equality_weight-append o ring xs ys x y lx ly)
+      ∙ identity o ring (f (x * Q + y) ∷ equality_weight o xs x ∷ equality_weight o ys y ∷ []) (A ⊗ (B ⊗ C)) ((A ⊗ B) ⊗ C) tt tt refl))
+      ∙ sum-swap o ring P Q (λ x y. times o (times o (f (x * Q + y)) (equality_weight o xs x)) (equality_weight o ys y))
+      ∙ sum-same o Q _ _ (λ y _. sym (sum-times o ring P (equality_weight o ys y) (λ x. times o (f (x * Q + y)) (equality_weight o xs x))))
 
   -- a sum of tables has the sum of their values, and so has one times a number
   value-sums : (n : ℕ) (f : ℕ → ℕ → ℕ) (zs : List ℕ) → value o (λ x. sum_below o n (λ y. f x y)) zs ≡ sum_below o n (λ y. value o (λ x. f x y) zs)
   unfolding value
   value-sums n f zs =
-      sum-same o (2 ^ length zs) _ _ (λ x _. sum-times o ring n (weight o zs x) (f x))
-      ∙ sum-swap o ring (2 ^ length zs) n (λ x y. times o (f x y) (weight o zs x))
+      sum-same o (2 ^ length zs) _ _ (λ x _. sum-times o ring n (equality_weight o zs x) (f x))
+      ∙ sum-swap o ring (2 ^ length zs) n (λ x y. times o (f x y) (equality_weight o zs x))
 
   value-line : (f g : ℕ → ℕ) (c : ℕ) (zs : List ℕ) → value o (λ x. plus o (f x) (times o (g x) c)) zs ≡ plus o (value o f zs) (times o (value o g zs) c)
   unfolding value Agree
   value-line f g c zs =
       let N = 2 ^ length zs in
       let A = atom 0 in let B = atom 1 in let C = atom 2 in let W = atom 3 in
-      sum-same o N _ _ (λ x _. identity o ring (f x ∷ g x ∷ c ∷ weight o zs x ∷ []) ((A ⊕ B ⊗ C) ⊗ W) (A ⊗ W ⊕ (B ⊗ W) ⊗ C) tt tt refl)
-      ∙ sym (sum-plus o ring N (λ x. times o (f x) (weight o zs x)) (λ x. times o (times o (g x) (weight o zs x)) c))
-      ∙ ap (plus o (sum_below o N (λ x. times o (f x) (weight o zs x)))) (sym (sum-times o ring N c (λ x. times o (g x) (weight o zs x))))
+      sum-same o N _ _ (λ x _. identity o ring (f x ∷ g x ∷ c ∷ equality_weight o zs x ∷ []) ((A ⊕ B ⊗ C) ⊗ W) (A ⊗ W ⊕ (B ⊗ W) ⊗ C) tt tt refl)
+      ∙ sym (sum-plus o ring N (λ x. times o (f x) (equality_weight o zs x)) (λ x. times o (times o (g x) (equality_weight o zs x)) c))
+      ∙ ap (plus o (sum_below o N (λ x. times o (f x) (equality_weight o zs x)))) (sym (sum-times o ring N c (λ x. times o (g x) (equality_weight o zs x))))
 
   value-scaled : (g : ℕ → ℕ) (c : ℕ) (zs : List ℕ) → value o (λ x. times o (g x) c) zs ≡ times o (value o g zs) c
   unfolding value Agree
   value-scaled g c zs =
       let N = 2 ^ length zs in
       let B = atom 0 in let C = atom 1 in let W = atom 2 in
-      sum-same o N _ _ (λ x _. identity o ring (g x ∷ c ∷ weight o zs x ∷ []) ((B ⊗ C) ⊗ W) ((B ⊗ W) ⊗ C) tt tt refl)
-      ∙ sym (sum-times o ring N c (λ x. times o (g x) (weight o zs x)))
+      sum-same o N _ _ (λ x _. identity o ring (g x ∷ c ∷ equality_weight o zs x ∷ []) ((B ⊗ C) ⊗ W) ((B ⊗ W) ⊗ C) tt tt refl)
+      ∙ sym (sum-times o ring N c (λ x. times o (g x) (equality_weight o zs x)))
 
   module _ (t : LayerTables) where
     -- the halves of a point of two of them
@@ -157,13 +157,13 @@ module _ (o : Ops) (ring : IsRing o) where
 
   -- a phase's true claim is the sum over the rows of its bound tables
   pub phase-rows : (p : Phase) (rs : List ℕ) (m : ℕ) → phase_claim o p rs m ≡ sum_below o (2 ^ m) (row_sum o (bound_phase o rs m p))
-  unfolding phase_claim phase_at row_sum placed_entry
+  unfolding phase_claim phase_at row_sum partial_value
   phase-rows p rs m =
       sum-same o (2 ^ m) _ _ (λ b low.
-      let F = bound_by evaluation prefix o rs m p.factors b in
-      let V = bound_by evaluation prefix o rs m p.values b in
-      let R = bound_by evaluation prefix o rs m p.rests b in
-      let at : (f : ℕ → ℕ) → value o f (rs ++ digits m b) ≡ element o (bound_by evaluation prefix o rs m f b) = λ f. placed_entry-bound_by o ring evaluation prefix f rs m b low in
+      let F = folded_by evaluation prefix o rs m p.factors b in
+      let V = folded_by evaluation prefix o rs m p.values b in
+      let R = folded_by evaluation prefix o rs m p.rests b in
+      let at : (f : ℕ → ℕ) → value o f (rs ++ digits m b) ≡ element o (folded_by evaluation prefix o rs m f b) = λ f. partial_value-folded_by o ring evaluation prefix f rs m b low in
       ap (λ n. plus o (times o n (value o p.values (rs ++ digits m b))) (value o p.rests (rs ++ digits m b))) (at p.factors)
       ∙ ap (λ n. plus o (times o (element o F) n) (value o p.rests (rs ++ digits m b))) (at p.values)
       ∙ ap (plus o (times o (element o F) (element o V))) (at p.rests)
@@ -173,21 +173,21 @@ module _ (o : Ops) (ring : IsRing o) where
   -- with one challenge more they are those with the next variable bound
   pub phase-more : (p : Phase) (rs : List ℕ) (x m : ℕ) → bound_phase o (rs ++ x ∷ []) m p ≡ phase_at_next o m x (bound_phase o rs (suc m) p)
   phase-more p rs x m =
-      let more : (f : ℕ → ℕ) → bound_by evaluation prefix o (rs ++ x ∷ []) m f ≡ bound_in evaluation prefix o m x (bound_by evaluation prefix o rs (suc m) f) =
-      λ f. bound_by-append evaluation prefix o rs x m f in
+      let more : (f : ℕ → ℕ) → folded_by evaluation prefix o (rs ++ x ∷ []) m f ≡ folded_in evaluation prefix o m x (folded_by evaluation prefix o rs (suc m) f) =
+      λ f. folded_by-append evaluation prefix o rs x m f in
       ap (λ v. record {
         values = v;
-        factors = bound_by evaluation prefix o (rs ++ x ∷ []) m p.factors;
-        rests = bound_by evaluation prefix o (rs ++ x ∷ []) m p.rests;
+        factors = folded_by evaluation prefix o (rs ++ x ∷ []) m p.factors;
+        rests = folded_by evaluation prefix o (rs ++ x ∷ []) m p.rests;
       }) (more p.values)
       ∙ ap (λ f. record {
-        values = bound_in evaluation prefix o m x (bound_by evaluation prefix o rs (suc m) p.values);
+        values = folded_in evaluation prefix o m x (folded_by evaluation prefix o rs (suc m) p.values);
         factors = f;
-        rests = bound_by evaluation prefix o (rs ++ x ∷ []) m p.rests;
+        rests = folded_by evaluation prefix o (rs ++ x ∷ []) m p.rests;
       }) (more p.factors)
       ∙ ap (λ r. record {
-        values = bound_in evaluation prefix o m x (bound_by evaluation prefix o rs (suc m) p.values);
-        factors = bound_in evaluation prefix o m x (bound_by evaluation prefix o rs (suc m) p.factors);
+        values = folded_in evaluation prefix o m x (folded_by evaluation prefix o rs (suc m) p.values);
+        factors = folded_in evaluation prefix o m x (folded_by evaluation prefix o rs (suc m) p.factors);
         rests = r;
       }) (more p.rests)
 

@@ -5,15 +5,15 @@ use Rattle.std.proofs.lemmas.Nat.{mul-le}
 use Rattle.std.proofs.lemmas.List.{length-map}
 use Rattle.std.proofs.Math.Seq.{drop-append_seam, take-append_seam}
 use Rattle.sc_definitions.specs.Ring.{Ops, IsRing, element, plus, times, power}
-use Rattle.sc_definitions.specs.Tables.{sum_below, value, digits, weight, rows_of}
+use Rattle.sc_definitions.specs.Tables.{sum_below, value, digits, equality_weight, rows_of}
 use Rattle.sc_definitions.specs.Shifts.{only_at}
-use Rattle.sc_definitions.specs.Statements.{powers_sum}
+use Rattle.sc_definitions.specs.Statements.{batched_by_powers}
 use Rattle.sc_definitions.proofs.RingLaws.{element-times, plus-zero, plus_comm, times-element_left, times-element_right, plus-element_left, plus-element_right}
 use Rattle.sc_definitions.proofs.Sums.{sum-same, sum-plus, times-sum}
 use Rattle.sc_definitions.proofs.SuccessorLaws.{sum-none, one-place}
 use Rattle.sc_definitions.proofs.TableLaws.{two_halves, length-digits, value-digits}
 use Rattle.sc_definitions.proofs.Identity.{atom, nought, ◌⊕◌, ◌⊗◌, Agree, identity}
-use Rattle.sc_soundness.proofs.PowerLaws.{sum-first, powers_sum-rows}
+use Rattle.sc_soundness.proofs.PowerLaws.{sum-first, batched_by_powers-rows}
 use Rattle.sc_circuit_definitions.specs.declared.gate.Gate.{Gate}
 use Rattle.sc_circuit_definitions.specs.Circuits.{gate_value, PlacesBelow, weighted_sum, merged_weight, is_same_kind, is_gate_at, gate_weights}
 use Rattle.sc_circuit_definitions.specs.LayerRounds.{LayersSumGates, layer_sum, layer_at, layer_claim}
@@ -180,10 +180,10 @@ module _ (o : Ops) (ring : IsRing o) where
   -- ---- weights
 
   -- powers as weights
-  pub powers-weighted : (c : ℕ) (values : List ℕ) → weighted_sum o (power o c) values ≡ powers_sum o c 0 values
+  pub powers-weighted : (c : ℕ) (values : List ℕ) → weighted_sum o (power o c) values ≡ batched_by_powers o c 0 values
   unfolding weighted_sum
   powers-weighted c values =
-      sum-same o (length values) _ _ (λ i _. let e : i ≡ 0 + i = omega arith in ap (λ n. times o (power o c n) (rows_of values i)) e) ∙ sym (powers_sum-rows o ring c 0 values)
+      sum-same o (length values) _ _ (λ i _. let e : i ≡ 0 + i = omega arith in ap (λ n. times o (power o c n) (rows_of values i)) e) ∙ sym (batched_by_powers-rows o ring c 0 values)
 
   -- the weights of two points: their two values, the second times the challenge that merges them
   pub merged-weighted : (c : ℕ) (us vs values : List ℕ) → length values ≡ 2 ^ length us → length us ≡ length vs →
@@ -192,9 +192,9 @@ module _ (o : Ops) (ring : IsRing o) where
   merged-weighted c us vs values long same =
       let N = length values in
       let f = rows_of values in
-      let U : ℕ → ℕ = λ g. times o (f g) (weight o us g) in
-      let V : ℕ → ℕ = λ g. times o (f g) (weight o vs g) in
-      sum-same o N _ _ (λ g _. identity o ring (weight o us g ∷ c ∷ weight o vs g ∷ f g ∷ [])
+      let U : ℕ → ℕ = λ g. times o (f g) (equality_weight o us g) in
+      let V : ℕ → ℕ = λ g. times o (f g) (equality_weight o vs g) in
+      sum-same o N _ _ (λ g _. identity o ring (equality_weight o us g ∷ c ∷ equality_weight o vs g ∷ f g ∷ [])
       ((atom 0 ⊕ atom 1 ⊗ atom 2) ⊗ atom 3) (atom 3 ⊗ atom 0 ⊕ atom 1 ⊗ (atom 3 ⊗ atom 2)) tt tt refl)
       ∙ sym (sum-plus o ring N U (λ g. times o c (V g)))
       ∙ ap (plus o (sum_below o N U)) (sym (times-sum o ring c N V))

@@ -3,7 +3,7 @@ use Rattle.std.proofs.Common.{◌≡◌, ℕ, suc, ◌+◌, ◌*◌, ◌/◌, �
 use Rattle.std.proofs.lemmas.Bool.{cases_eq}
 use Rattle.std.proofs.lemmas.Nat.{div-mul-add, mod-mul-add}
 use Rattle.sc_definitions.specs.Ring.{Ops, IsRing, element, plus, times}
-use Rattle.sc_definitions.specs.Tables.{sum_below, value, weight}
+use Rattle.sc_definitions.specs.Tables.{sum_below, value, equality_weight}
 use Rattle.sc_definitions.specs.Shifts.{only_at}
 use Rattle.sc_definitions.proofs.RingLaws.{element-element, element-zero, element-times, plus_comm, plus-zero, plus-element_left}
 use Rattle.sc_definitions.proofs.Sums.{sum-same, sum-plus}
@@ -133,18 +133,18 @@ module _ (o : Ops) (ring : IsRing o) where
 
     module _ (us : List ℕ) (size : length us ≡ k) where
       one-row : (product : Bool) (g : ℕ) (gate : Gate) (y : ℕ) → gate.left < 2 ^ k → gate.right < 2 ^ k → y < 2 ^ k →
-          sum_below o (2 ^ k) (λ x. times o (if is_gate_at product k (x * 2 ^ k + y) gate then w g else 0) (weight o us x)) ≡ (if y == gate.right then row_share o product w us g gate else 0)
+          sum_below o (2 ^ k) (λ x. times o (if is_gate_at product k (x * 2 ^ k + y) gate then w g else 0) (equality_weight o us x)) ≡ (if y == gate.right then row_share o product w us g gate else 0)
       unfolding is_gate_at row_share
       one-row product g gate y low_l low_r ly =
           let K = 2 ^ k in
           let l = gate.left in let r = gate.right in
           let c = y == r in
-          elim (is_same_kind gate.product product) as (λ s. sum_below o K (λ x. times o (if s && (x * K + y == l * K + r) then w g else 0) (weight o us x))
-          ≡ (if c then (if s then times o (w g) (weight o us l) else 0) else 0)) [
+          elim (is_same_kind gate.product product) as (λ s. sum_below o K (λ x. times o (if s && (x * K + y == l * K + r) then w g else 0) (equality_weight o us x))
+          ≡ (if c then (if s then times o (w g) (equality_weight o us l) else 0) else 0)) [
             | true ↦
-                sum-same o K _ _ (λ x _. ap (λ b. times o (if b then w g else 0) (weight o us x)) (same_places K x y l r ly low_r ∙ turned (x == l) c))
-                ∙ picked K l c (w g) (weight o us) low_l
-            | false ↦ never o ring K (weight o us) ∙ nothing c
+                sum-same o K _ _ (λ x _. ap (λ b. times o (if b then w g else 0) (equality_weight o us x)) (same_places K x y l r ly low_r ∙ turned (x == l) c))
+                ∙ picked K l c (w g) (equality_weight o us) low_l
+            | false ↦ never o ring K (equality_weight o us) ∙ nothing c
           ] where
             turned : (a b : Bool) → (a && b) ≡ (b && a)
             turned true true = refl
@@ -160,16 +160,16 @@ module _ (o : Ops) (ring : IsRing o) where
           row_at o k (gate_weights o product w k g gates) us y ≡ shares_at o (λ gate. gate.right) (row_share o product w us) g gates y
       unfolding row_at value gate_weights shares_at Agree
       rows-walk product g [] y places ly =
-          sum-same o (2 ^ length us) _ _ (λ x _. identity o ring (weight o us x ∷ []) (nought ⊗ atom 0) nought tt tt refl) ∙ sum-none o ring (2 ^ length us)
+          sum-same o (2 ^ length us) _ _ (λ x _. identity o ring (equality_weight o us x ∷ []) (nought ⊗ atom 0) nought tt tt refl) ∙ sum-none o ring (2 ^ length us)
       rows-walk product g (gate ∷ gates) y places ly =
           let K = 2 ^ k in
           let A : ℕ → ℕ = λ x. if is_gate_at product k (x * K + y) gate then w g else 0 in
           let S : ℕ → ℕ = λ x. gate_weights o product w k (suc g) gates (x * K + y) in
           let N = 2 ^ length us in
           let many : N ≡ K = ap (λ n. 2 ^ n) size in
-          sum-same o N _ _ (λ x _. identity o ring (A x ∷ S x ∷ weight o us x ∷ []) ((atom 0 ⊕ atom 1) ⊗ atom 2) (atom 0 ⊗ atom 2 ⊕ atom 1 ⊗ atom 2) tt tt refl)
-          ∙ sym (sum-plus o ring N (λ x. times o (A x) (weight o us x)) (λ x. times o (S x) (weight o us x)))
-          ∙ ap (λ n. plus o n (sum_below o N (λ x. times o (S x) (weight o us x)))) (ap (λ n. sum_below o n (λ x. times o (A x) (weight o us x))) many ∙ one-row product g gate y places.0 places.1 ly)
+          sum-same o N _ _ (λ x _. identity o ring (A x ∷ S x ∷ equality_weight o us x ∷ []) ((atom 0 ⊕ atom 1) ⊗ atom 2) (atom 0 ⊗ atom 2 ⊕ atom 1 ⊗ atom 2) tt tt refl)
+          ∙ sym (sum-plus o ring N (λ x. times o (A x) (equality_weight o us x)) (λ x. times o (S x) (equality_weight o us x)))
+          ∙ ap (λ n. plus o n (sum_below o N (λ x. times o (S x) (equality_weight o us x)))) (ap (λ n. sum_below o n (λ x. times o (A x) (equality_weight o us x))) many ∙ one-row product g gate y places.0 places.1 ly)
           ∙ ap (plus o (if y == gate.right then row_share o product w us g gate else 0)) (rows-walk product (suc g) gates y places.2 ly)
 
     pub walks-make_phases : (gates : List Gate) → PlacesBelow (2 ^ k) gates → WalksMakePhases o k w v gates

@@ -2,11 +2,11 @@
 use Rattle.std.proofs.Common.{◌≡◌, ℕ, true, List, [], ◌∷◌, refl}
 use Rattle.sc_definitions.specs.Ring.{Ops, plus, times, opposite, power}
 use Rattle.sc_definitions.specs.Residues.{residues}
-use Rattle.sc_definitions.specs.Tables.{sum_below, weight, value, digits, rows_of}
+use Rattle.sc_definitions.specs.Tables.{sum_below, equality_weight, value, digits, rows_of}
 use Rattle.sc_definitions.specs.Polynomials.{poly_at, poly_plus, poly_scaled, poly_times, poly_sum, poly_minus}
 use Rattle.sc_definitions.specs.Roots.{count_below, root_count}
 use Rattle.sc_definitions.specs.Rounds.{claim_along}
-use Rattle.sc_definitions.specs.Statements.{powers_sum}
+use Rattle.sc_definitions.specs.Statements.{batched_by_powers}
 use Rattle.sc_definitions.specs.Interpolation.{first_below, inverse, others, lagrange, through, node_values, sent_through, next_through}
 use Rattle.sc_definitions.specs.Events.{own_extension, draws, extension_draw}
 use Rattle.sc_definitions.specs.Scripted.{scripted_rules}
@@ -50,7 +50,7 @@ built :
     × ((circuit_figures (over (residues 65537) (15 ∷ [])) (sends (15 ∷ 65502 ∷ []) (0 ∷ 65439 ∷ []))).merges ≡ 4 ∷ [])
     × ((circuit_figures (over (residues 65537) (15 ∷ [])) (sends (15 ∷ 65502 ∷ []) (0 ∷ 65439 ∷ []))).last ≡ 43)
 unfolding circuit_figures honest_layer layer_round layer_line part_line layer_variables first_below is_gate_at gate_weights gate_value merged_weight
-    node_values poly_at poly_plus poly_scaled poly_times poly_sum value weight digits rows_of sum_below powers_sum power draws extension_draw sent
+    node_values poly_at poly_plus poly_scaled poly_times poly_sum value equality_weight digits rows_of sum_below batched_by_powers power draws extension_draw sent
     before_draw round_events challenge degree_seed seed_words nibbles separator_bytes step_bytes length_bytes length_prefixed eight_bytes protocol_name
     label_text plus times opposite
 built = (refl, refl, refl, refl, refl, refl)
@@ -63,7 +63,7 @@ found :
     × ((circuit_figures (over (residues 17) (16 ∷ [])) (record { rounds = round_of (15 ∷ 16 ∷ []) 0 ∷ round_of (0 ∷ 4 ∷ []) 0 ∷ []; left = 7; right = 8 } ∷ [])).finding ≡ refuted 0)
 unfolding circuit_figures first_disagreement agrees layer_sum first_difference stages_luck stage_luck first_turn claim_along next_through sent_through
     through lagrange others inverse root_count count_below poly_minus layer_excess layer_claim layer_at weighted_sum layer_round layer_line part_line
-    layer_variables first_below is_gate_at gate_weights gate_value merged_weight poly_at poly_plus poly_scaled poly_times poly_sum value weight digits
-    rows_of sum_below powers_sum power draws extension_draw sent before_draw round_events challenge degree_seed seed_words nibbles separator_bytes
+    layer_variables first_below is_gate_at gate_weights gate_value merged_weight poly_at poly_plus poly_scaled poly_times poly_sum value equality_weight digits
+    rows_of sum_below batched_by_powers power draws extension_draw sent before_draw round_events challenge degree_seed seed_words nibbles separator_bytes
     step_bytes length_bytes length_prefixed eight_bytes protocol_name label_text plus times opposite
 found = (refl, refl, refl)

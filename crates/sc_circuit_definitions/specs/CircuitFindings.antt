@@ -5,7 +5,7 @@ use Rattle.sc_definitions.specs.Ring.{Ops}
 use Rattle.sc_definitions.specs.Rounds.{claim_along}
 use Rattle.sc_definitions.specs.Interpolation.{next_through}
 use Rattle.sc_definitions.specs.Transcript.{messages_of}
-use Rattle.sc_definitions.specs.Lucky.{IsCertificate, Luck, in_batch, in_round, IsRoundLuck}
+use Rattle.sc_definitions.specs.Lucky.{IsCertificate, LuckyChallenge, in_batch, in_round, IsRoundLuck}
 use Rattle.sc_soundness.specs.Courses.{course_without_rounds}
 use Rattle.sc_soundness.specs.Stages.{Stage, StageLuck, stages_luck}
 use Rattle.sc_soundness.specs.Differences.{Difference, first_difference}
@@ -134,7 +134,7 @@ pub record IsLayerLuck (q : CircuitCase) (f : CircuitFigures) (layer round : ℕ
   pub luck : IsRoundLuck q.ops challenges round polynomial roots
 
 -- a lucky challenge of a layer is certified
-abbrev pub IsCircuitCertified : CircuitCase → CircuitFigures → ℕ → Luck → Type 0
+abbrev pub IsCircuitCertified : CircuitCase → CircuitFigures → ℕ → LuckyChallenge → Type 0
 IsCircuitCertified q f layer (in_batch polynomial roots) = IsMergeLuck q f layer polynomial roots
 IsCircuitCertified q f layer (in_round round polynomial roots) = IsLayerLuck q f layer round polynomial roots
 

@@ -5,7 +5,7 @@ use Rattle.sc_definitions.specs.declared.events.Event.TheVariants.{Draw}
 use Rattle.sc_definitions.specs.Ring.{Ops, IsField, IsRingMap, ◌+⟨◌⟩◌, ◌-⟨◌⟩◌, ◌*⟨◌⟩◌, power}
 use Rattle.sc_definitions.specs.Tables.{rows_of}
 use Rattle.sc_definitions.specs.Polynomials.{poly_minus}
-use Rattle.sc_definitions.specs.Statements.{powers_sum}
+use Rattle.sc_definitions.specs.Statements.{batched_by_powers}
 use Rattle.sc_definitions.specs.Events.{Extension, words, extension_draw}
 use Rattle.sc_definitions.specs.Transcript.{Round, sent, rounds_events, challenges, messages_of}
 use Rattle.sc_definitions.specs.Replays.{AllPass}
@@ -60,7 +60,7 @@ output_challenge q = extension_draw q.channel.rules q.channel.extension (q.histo
 abbrev pub first_start : CircuitCase → LayerStart
 first_start q = record {
   history = q.history ++ words q.outputs ++ replicate q.channel.extension.degree Draw;
-  claim = powers_sum q.ops (output_challenge q) 0 (map q.embedding q.outputs);
+  claim = batched_by_powers q.ops (output_challenge q) 0 (map q.embedding q.outputs);
   weights = power q.ops (output_challenge q);
   drawn = output_challenge q;
   excess = poly_minus q.ops (map q.embedding q.outputs) (images_of q q.layers);

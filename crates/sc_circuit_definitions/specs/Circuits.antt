@@ -1,7 +1,7 @@
 -- Layered circuits: the values of their layers, and the weights of their gates.
 use Rattle.std.specs.Prelude.{◌≡◌, ◌<◌, ◌≤◌, ℕ, suc, ◌+◌, ◌*◌, ◌^◌, ◌==◌, ◌&&◌, Bool, true, false, not, List, [], ◌∷◌, length, map, if◌then◌else◌}
 use Rattle.sc_definitions.specs.Ring.{Ops, ◌+⟨◌⟩◌, ◌*⟨◌⟩◌}
-use Rattle.sc_definitions.specs.Tables.{sum_below, weight, rows_of}
+use Rattle.sc_definitions.specs.Tables.{sum_below, equality_weight, rows_of}
 use Rattle.sc_definitions.specs.Interpolation.{first_below}
 use Rattle.sc_circuit_definitions.specs.declared.gate.Gate.{Gate}
 
@@ -60,7 +60,7 @@ weighted_sum o w values = sum_below o (length values) (λ g. w g *⟨ o ⟩ rows
 
 -- the equality weights of two points, those of the second times the challenge that merges them
 unfoldable pub merged_weight : Ops → ℕ → List ℕ → List ℕ → ℕ → ℕ
-merged_weight o merge us vs g = weight o us g +⟨ o ⟩ merge *⟨ o ⟩ weight o vs g
+merged_weight o merge us vs g = equality_weight o us g +⟨ o ⟩ merge *⟨ o ⟩ equality_weight o vs g
 
 -- whether a gate is a product, or else a sum, and its places x and y in a layer of k variables are this row, x 2^k + y
 abbrev pub is_same_kind : Bool → Bool → Bool

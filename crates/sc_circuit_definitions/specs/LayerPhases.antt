@@ -3,7 +3,7 @@
 use Rattle.std.specs.Prelude.{◌≡◌, ◌<◌, ℕ, suc, ◌+◌, ◌*◌, ◌^◌, ◌==◌, Bool, List, [], ◌∷◌, ◌++◌, length, if◌then◌else◌}
 use Rattle.sc_definitions.specs.Polynomials.{poly_at}
 use Rattle.sc_definitions.specs.Ring.{Ops, ◌+⟨◌⟩◌, ◌*⟨◌⟩◌}
-use Rattle.sc_definitions.specs.Tables.{evaluation, prefix, sum_below, value, weight, digits, bound_in, bound_by}
+use Rattle.sc_definitions.specs.Tables.{evaluation, prefix, sum_below, value, equality_weight, digits, folded_in, folded_by}
 use Rattle.sc_circuit_definitions.specs.declared.gate.Gate.{Gate}
 use Rattle.sc_circuit_definitions.specs.Circuits.{is_same_kind, gate_weights}
 use Rattle.sc_circuit_definitions.specs.LayerRounds.{LayerTables, gate_tables, layer_round}
@@ -58,17 +58,17 @@ row_sum o p b = p.factors b *⟨ o ⟩ p.values b +⟨ o ⟩ p.rests b
 -- the three tables with challenges bound, m variables being left
 abbrev pub bound_phase : Ops → List ℕ → ℕ → Phase → Phase
 bound_phase o rs m p = record {
-  values = bound_by evaluation prefix o rs m p.values;
-  factors = bound_by evaluation prefix o rs m p.factors;
-  rests = bound_by evaluation prefix o rs m p.rests;
+  values = folded_by evaluation prefix o rs m p.values;
+  factors = folded_by evaluation prefix o rs m p.factors;
+  rests = folded_by evaluation prefix o rs m p.rests;
 }
 
 -- the three tables with the next variable at x, m variables being left after it
 abbrev pub phase_at_next : Ops → ℕ → ℕ → Phase → Phase
 phase_at_next o m x p = record {
-  values = bound_in evaluation prefix o m x p.values;
-  factors = bound_in evaluation prefix o m x p.factors;
-  rests = bound_in evaluation prefix o m x p.rests;
+  values = folded_in evaluation prefix o m x p.values;
+  factors = folded_in evaluation prefix o m x p.factors;
+  rests = folded_in evaluation prefix o m x p.rests;
 }
 
 -- ---- walks over the gates, which make the tables
@@ -87,7 +87,7 @@ rest_share o w v g gate = if gate.product then 0 else w g *⟨ o ⟩ v gate.righ
 
 -- a gate's share of the sums, or of the products, at us and its second place
 unfoldable pub row_share : Ops → Bool → (ℕ → ℕ) → List ℕ → ℕ → Gate → ℕ
-row_share o product w us g gate = if is_same_kind gate.product product then w g *⟨ o ⟩ weight o us gate.left else 0
+row_share o product w us g gate = if is_same_kind gate.product product then w g *⟨ o ⟩ equality_weight o us gate.left else 0
 
 -- ---- the laws
 

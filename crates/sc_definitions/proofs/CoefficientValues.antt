@@ -3,12 +3,12 @@ use Rattle.std.proofs.Common.{◌≡◌, ℕ, suc, ◌+◌, ◌*◌, ◌-◌, �
 use Rattle.std.proofs.lemmas.Bool.{cases_lt}
 use Rattle.std.proofs.lemmas.Nat.{mul-le, pow_pos}
 use Rattle.sc_definitions.specs.Ring.{Ops, IsRing, element, plus, times, minus, power}
-use Rattle.sc_definitions.specs.Tables.{prefix, suffix, sum_below, weight, monomial, coefficient_value}
+use Rattle.sc_definitions.specs.Tables.{prefix, suffix, sum_below, equality_weight, monomial, coefficient_value}
 use Rattle.sc_definitions.specs.Statements.{successor, successor_weight, slot_weight, weight_of}
 use Rattle.sc_definitions.specs.Parts.{Carry, Done, Omega, part_weight}
 use Rattle.sc_definitions.proofs.RingLaws.{element-one, element-times, times-one, times_comm, times-element_left, plus-element_left}
 use Rattle.sc_definitions.proofs.Sums.{sum-same, sum-plus, sum-split, times-sum, element-sum}
-use Rattle.sc_definitions.proofs.TableLaws.{two_halves, weight-low, weight-high}
+use Rattle.sc_definitions.proofs.TableLaws.{two_halves, equality_weight-low, equality_weight-high}
 use Rattle.sc_definitions.proofs.PlacedLaws.{monomial-low, monomial-high}
 use Rattle.sc_definitions.proofs.BlockLaws.{sum-blocks, sums-product, slot-prefix, slot-suffix}
 use Rattle.sc_definitions.proofs.Power.{power-plus}
@@ -77,12 +77,12 @@ module _ (o : Ops) (ring : IsRing o) where
   -- ---- equality weights, products of coordinates, powers
 
   pub coefficients-weight : (z x : ℕ) (zs xs : List ℕ) → length zs ≡ length xs →
-      coefficient_value o (weight o (z ∷ zs)) (x ∷ xs) ≡ times o (plus o (minus o 1 z) (times o z x)) (coefficient_value o (weight o zs) xs)
+      coefficient_value o (equality_weight o (z ∷ zs)) (x ∷ xs) ≡ times o (plus o (minus o 1 z) (times o z x)) (coefficient_value o (equality_weight o zs) xs)
   coefficients-weight z x zs xs size =
       let same : 2 ^ length zs ≡ 2 ^ length xs = ap (λ k. 2 ^ k) size in
-      line-multiples (weight o (z ∷ zs)) (weight o zs) (minus o 1 z) z x xs
-      (λ b low. weight-low o ring z zs b (omega (arith, low, same)))
-      (λ b low. ap (λ n. weight o (z ∷ zs) (n + b)) (sym same) ∙ weight-high o ring z zs b (omega (arith, low, same)))
+      line-multiples (equality_weight o (z ∷ zs)) (equality_weight o zs) (minus o 1 z) z x xs
+      (λ b low. equality_weight-low o ring z zs b (omega (arith, low, same)))
+      (λ b low. ap (λ n. equality_weight o (z ∷ zs) (n + b)) (sym same) ∙ equality_weight-high o ring z zs b (omega (arith, low, same)))
 
   pub coefficients-monomial : (z x : ℕ) (zs xs : List ℕ) → length zs ≡ length xs →
       coefficient_value o (monomial o (z ∷ zs)) (x ∷ xs) ≡ times o (plus o 1 (times o z x)) (coefficient_value o (monomial o zs) xs)
@@ -111,13 +111,13 @@ module _ (o : Ops) (ring : IsRing o) where
 
   -- ---- parts of successor weights
 
-  one_low : (z : ℕ) → weight o (z ∷ []) 0 ≡ minus o 1 z
-  unfolding weight Agree
-  one_low z = weight-low o ring z [] 0 (pow_pos 0) ∙ identity o ring (z ∷ []) ((unit ⊖ atom 0) ⊗ unit) (unit ⊖ atom 0) tt tt refl
+  one_low : (z : ℕ) → equality_weight o (z ∷ []) 0 ≡ minus o 1 z
+  unfolding equality_weight Agree
+  one_low z = equality_weight-low o ring z [] 0 (pow_pos 0) ∙ identity o ring (z ∷ []) ((unit ⊖ atom 0) ⊗ unit) (unit ⊖ atom 0) tt tt refl
 
-  one_high : (z : ℕ) → weight o (z ∷ []) 1 ≡ element o z
-  unfolding weight element
-  one_high z = weight-high o ring z [] 0 (pow_pos 0) ∙ times-one o ring z
+  one_high : (z : ℕ) → equality_weight o (z ∷ []) 1 ≡ element o z
+  unfolding equality_weight element
+  one_high z = equality_weight-high o ring z [] 0 (pow_pos 0) ∙ times-one o ring z
 
   -- row c of the first half, and of the second
   low_row : (n c : ℕ) → 0 * n + c ≡ c
@@ -274,18 +274,18 @@ module _ (o : Ops) (ring : IsRing o) where
 
   -- the value of a slot's weights: the selector's coordinates stand first, or last
   pub coefficients-slot_first : (ss zs xs ys : List ℕ) → length ss ≡ length xs → length zs ≡ length ys → coefficient_value o (weight_of o (successor prefix ss zs)) (xs ++ ys)
-      ≡ times o (coefficient_value o (weight o ss) xs) (coefficient_value o (successor_weight o zs) ys)
+      ≡ times o (coefficient_value o (equality_weight o ss) xs) (coefficient_value o (successor_weight o zs) ys)
   unfolding weight_of
   coefficients-slot_first ss zs xs ys first second =
       let same : 2 ^ length zs ≡ 2 ^ length ys = ap (λ k. 2 ^ k) second in
-      coefficients-product (slot_weight prefix o ss zs) (weight o ss) (successor_weight o zs) xs ys
+      coefficients-product (slot_weight prefix o ss zs) (equality_weight o ss) (successor_weight o zs) xs ys
       (λ a c _ lc. ap (λ n. slot_weight prefix o ss zs (a * n + c)) (sym same) ∙ slot-prefix o ring ss zs a c (omega (arith, lc, same)))
 
   pub coefficients-slot_last : (ss zs xs ys : List ℕ) → length zs ≡ length xs → length ss ≡ length ys → coefficient_value o (weight_of o (successor suffix ss zs)) (xs ++ ys)
-      ≡ times o (coefficient_value o (weight o ss) ys) (coefficient_value o (successor_weight o zs) xs)
+      ≡ times o (coefficient_value o (equality_weight o ss) ys) (coefficient_value o (successor_weight o zs) xs)
   unfolding weight_of
   coefficients-slot_last ss zs xs ys first second =
       let same : 2 ^ length ss ≡ 2 ^ length ys = ap (λ k. 2 ^ k) second in
-      coefficients-product (slot_weight suffix o ss zs) (successor_weight o zs) (weight o ss) xs ys
+      coefficients-product (slot_weight suffix o ss zs) (successor_weight o zs) (equality_weight o ss) xs ys
       (λ a c _ lc. ap (λ n. slot_weight suffix o ss zs (a * n + c)) (sym same) ∙ slot-suffix o ring ss zs a c (omega (arith, lc, same)))
-      ∙ times_comm o ring (coefficient_value o (successor_weight o zs) xs) (coefficient_value o (weight o ss) ys)
+      ∙ times_comm o ring (coefficient_value o (successor_weight o zs) xs) (coefficient_value o (equality_weight o ss) ys)

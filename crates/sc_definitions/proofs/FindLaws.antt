@@ -2,13 +2,13 @@
 use Rattle.std.proofs.Common.{◌≡◌, ℕ, zero, suc, ◌+◌, ◌^◌, ◌<◌, ◌≤◌, List, [], ◌∷◌, ◌++◌, length, take, drop, map, get_or, Some, None, sym, ◌∙◌, ap, refl, subst, arith}
 use Rattle.std.proofs.lemmas.List.{length-map}
 use Rattle.sc_definitions.specs.Ring.{Ops, IsRing}
-use Rattle.sc_definitions.specs.Tables.{IsOffered, inner, bound_in}
-use Rattle.sc_definitions.specs.Rounds.{honest_pair, sent_polynomial, next_claim}
+use Rattle.sc_definitions.specs.Tables.{IsOffered, inner_product, folded_in}
+use Rattle.sc_definitions.specs.Rounds.{honest_message, sent_polynomial, next_claim}
 use Rattle.sc_definitions.specs.Messages.{message_of}
 use Rattle.sc_definitions.specs.Polynomials.{poly_minus}
 use Rattle.sc_definitions.specs.TwoTables.{TwoTables, true_claim_on}
 use Rattle.sc_definitions.specs.Lucky.{course_on, first_turn, round_excess}
-use Rattle.sc_definitions.proofs.SameTables.{Agree, inner-same}
+use Rattle.sc_definitions.proofs.SameTables.{Agree, inner_product-same}
 use Rattle.sc_definitions.proofs.TurnLaws.{Walks, turn-here, turn-later, walks-begin, walks-message, walks-on, honest-sends}
 
 -- ---- lists by an index
@@ -48,9 +48,9 @@ pub record Finds (o : Ops) (p : TwoTables) (m : ℕ) (f w : ℕ → ℕ) (first 
 
 module _ (o : Ops) (ring : IsRing o) (p : TwoTables) (offered : IsOffered p.basis p.order) where
   pub finds-begin : (n : ℕ) (f w : ℕ → ℕ) (claim truth : ℕ) (ms : List (List ℕ)) (rs : List ℕ) → Agree n f p.table → Agree n w p.weights →
-      truth ≡ inner o n f w → Finds o p n f w claim claim truth 0 ms rs
+      truth ≡ inner_product o n f w → Finds o p n f w claim claim truth 0 ms rs
   finds-begin n f w claim truth ms rs evals weights is = record {
-    walks = walks-begin o ring p offered n f w truth evals weights (is ∙ inner-same o n f p.table w p.weights evals weights);
+    walks = walks-begin o ring p offered n f w truth evals weights (is ∙ inner_product-same o n f p.table w p.weights evals weights);
     rest = refl;
   }
 
@@ -75,12 +75,12 @@ module _ (o : Ops) (ring : IsRing o) (p : TwoTables) (offered : IsOffered p.basi
     -- the true claim after the round
     after : next_truth ≡ true_claim_on o p (before ++ number x ∷ []) m
     after =
-        let on = walks-on o ring p offered before m f w truth found.walks (number x) (bound_in p.basis p.order o m (number x) f) (bound_in p.basis p.order o m (number x) w) next_truth
+        let on = walks-on o ring p offered before m f w truth found.walks (number x) (folded_in p.basis p.order o m (number x) f) (folded_in p.basis p.order o m (number x) w) next_truth
         (λ b low. refl) (λ b low. refl)
         (truth_is ∙ ap (λ v. next_claim p.basis o truth v (number x)) honest) in
         on.truth
 
-    pub finds-more : (next ≡ next_truth → ⊥) → (g v : ℕ → ℕ) → Agree m g (bound_in p.basis p.order o m (number x) f) → Agree m v (bound_in p.basis p.order o m (number x) w) →
+    pub finds-more : (next ≡ next_truth → ⊥) → (g v : ℕ → ℕ) → Agree m g (folded_in p.basis p.order o m (number x) f) → Agree m v (folded_in p.basis p.order o m (number x) w) →
         Finds o p m g v first next next_truth (i + 1) (map sends ms) (map number rs)
     finds-more differ g v evals weights =
         let one : suc i ≡ i + 1 = omega arith in
@@ -106,7 +106,7 @@ module _ (o : Ops) (ring : IsRing o) (p : TwoTables) (offered : IsOffered p.basi
         let course = course_on o p in
         let late = drop (i + 1) (map sends ms) in
         let W = p.weights in
-        let pair : a ∷ l ∷ [] ≡ honest_pair p.basis p.order o p.table W before m = honest ∙ walks-message o ring p offered before m f w truth found.walks in
+        let pair : a ∷ l ∷ [] ≡ honest_message p.basis p.order o p.table W before m = honest ∙ walks-message o ring p offered before m f w truth found.walks in
         let due = honest-sends o ring p.table W before m truth a l p.basis p.order offered found.walks.truth pair in
         let polynomial : round_excess o p claim (sends y) before (length late) ≡ cs =
         ap (λ s. round_excess o p claim s before (length late)) sent ∙ ap (round_excess o p claim (c ∷ q ∷ []) before) behind

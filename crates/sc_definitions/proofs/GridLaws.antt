@@ -5,21 +5,21 @@ use Rattle.std.specs.List.{range_with_len}
 use Rattle.std.proofs.Math.Nat.{pow-suc}
 use Rattle.std.proofs.lemmas.List.FromFn.{length-map-range_with_len, get_or-map-range_with_len, map-range_with_len_more, fill_by_all}
 use Rattle.sc_definitions.specs.Ring.{Ops, IsRing, element, plus, times, minus, opposite}
-use Rattle.sc_definitions.specs.Tables.{evaluation, Order, prefix, suffix, sum_below, rows_of, inner, bound, bound_low, bound_in, bound_by}
-use Rattle.sc_definitions.specs.Rounds.{sent_pair, honest_pair}
+use Rattle.sc_definitions.specs.Tables.{evaluation, Order, prefix, suffix, sum_below, rows_of, inner_product, bound, bound_low, folded_in, folded_by}
+use Rattle.sc_definitions.specs.Rounds.{sent_pair, honest_message}
 use Rattle.sc_definitions.specs.Polynomials.{poly_at}
 use Rattle.sc_definitions.specs.Messages.{low_entry, high_entry, first_term, leading_term, message_first, message_leading}
 use Rattle.sc_definitions.specs.Statements.{weight_of}
-use Rattle.sc_definitions.specs.Grids.{Digit, nought, one, infinity, digit_of, ternary, low_row, high_row, grid_value, grid_entry, grid_list, grid_of, grids_of, digit_weight, place_weight, read_off, read_message}
+use Rattle.sc_definitions.specs.Grids.{Digit, digit_zero, one, infinity, digit_of, ternary, low_row, high_row, grid_value, grid_entry, grid_list, grid_of, grids_of, digit_weight, place_weight, read_off, read_message}
 use Rattle.sc_definitions.specs.Combined.{Scaled, combined_weight}
 use Rattle.sc_definitions.proofs.RingLaws.{plus-zero, plus_comm, times-zero, times-one, element-times}
 use Rattle.sc_definitions.proofs.Sums.{sum-same, element-sum}
-use Rattle.sc_definitions.proofs.TableLaws.{two_halves, inner-sum}
+use Rattle.sc_definitions.proofs.TableLaws.{two_halves, inner_product-sum}
 use Rattle.sc_definitions.proofs.PlayedLaws.{low-same, high-same}
-use Rattle.sc_definitions.proofs.SameTables.{inner-same}
+use Rattle.sc_definitions.proofs.SameTables.{inner_product-same}
 use Rattle.sc_definitions.proofs.SuccessorLaws.{sum-none}
 use Rattle.sc_definitions.proofs.MessageLaws.{lines-sum}
-use Rattle.sc_definitions.proofs.RoundLaws.{honest_pair-message}
+use Rattle.sc_definitions.proofs.RoundLaws.{honest_message-message}
 use Rattle.sc_definitions.proofs.Identity.{atom, nought as null, unit, neg, ◌⊕◌, ◌⊗◌, ◌⊖◌, Agree, identity}
 
 -- ---- rows
@@ -50,11 +50,11 @@ high_entry-of prefix half h u v = refl
 high_entry-of suffix half h u v = refl
 
 -- the table with a variable at r is the line through its two parts
-pub bound_in-line : (order : Order) (o : Ops) (m r : ℕ) (f : ℕ → ℕ) →
-    bound_in evaluation order o m r f ≡ (λ b. plus o (low_entry order f b) (times o (minus o (high_entry order (2 ^ m) f b) (low_entry order f b)) r))
+pub folded_in-line : (order : Order) (o : Ops) (m r : ℕ) (f : ℕ → ℕ) →
+    folded_in evaluation order o m r f ≡ (λ b. plus o (low_entry order f b) (times o (minus o (high_entry order (2 ^ m) f b) (low_entry order f b)) r))
 unfolding bound bound_low low_entry high_entry
-bound_in-line prefix o m r f = refl
-bound_in-line suffix o m r f = refl
+folded_in-line prefix o m r f = refl
+folded_in-line suffix o m r f = refl
 
 -- ---- tables that agree at each row
 
@@ -66,9 +66,9 @@ pub grid_value-same : (order : Order) (o : Ops) (f g : ℕ → ℕ) (ds : List D
     ((k : ℕ) → k < 2 ^ (length ds + m) → f k ≡ g k) → b < 2 ^ m → grid_value order o f ds m b ≡ grid_value order o g ds m b
 unfolding grid_value
 grid_value-same order o f g [] m b same low = let e : length {A = Digit} [] + m ≡ m = omega arith in same b (rw e low)
-grid_value-same order o f g (nought ∷ ds) m b same low =
+grid_value-same order o f g (digit_zero ∷ ds) m b same low =
     grid_value-same order o (low_entry order f) (low_entry order g) ds m b
-    (λ k below. low-same order (2 ^ (length ds + m)) k f g below (λ j under. same j (rw (more_rows nought ds m) under))) low
+    (λ k below. low-same order (2 ^ (length ds + m)) k f g below (λ j under. same j (rw (more_rows digit_zero ds m) under))) low
 grid_value-same order o f g (one ∷ ds) m b same low =
     let half = 2 ^ (length ds + m) in
     grid_value-same order o (high_entry order half f) (high_entry order half g) ds m b
@@ -87,7 +87,7 @@ pub grid_entry-same : (order : Order) (o : Ops) (f g w v : ℕ → ℕ) (ds : Li
     grid_entry order o f w ds m ≡ grid_entry order o g v ds m
 unfolding grid_entry
 grid_entry-same order o f g w v ds m evals weights =
-    inner-same o m _ _ _ _ (λ b low. grid_value-same order o f g ds m b evals low) (λ b low. grid_value-same order o w v ds m b weights low)
+    inner_product-same o m _ _ _ _ (λ b low. grid_value-same order o f g ds m b evals low) (λ b low. grid_value-same order o w v ds m b weights low)
 
 module _ (o : Ops) (ring : IsRing o) where
   -- ---- sums of tables
@@ -98,7 +98,7 @@ module _ (o : Ops) (ring : IsRing o) where
       ≡ plus o (times o c (grid_value order o u ds m b)) (times o d (grid_value order o v ds m b))
   unfolding grid_value Agree
   grid_value-sum order c d u v [] m b = refl
-  grid_value-sum order c d u v (nought ∷ ds) m b =
+  grid_value-sum order c d u v (digit_zero ∷ ds) m b =
       ap (λ t. grid_value order o t ds m b) (low_entry-of order (λ x y. plus o (times o c x) (times o d y)) u v)
       ∙ grid_value-sum order c d (low_entry order u) (low_entry order v) ds m b
   grid_value-sum order c d u v (one ∷ ds) m b =
@@ -160,14 +160,14 @@ module _ (o : Ops) (ring : IsRing o) where
       let n = length ds + m in
       let f0 = grid_value order o (low_entry order f) ds m b in
       let f1 = grid_value order o (high_entry order (2 ^ n) f) ds m b in
-      grid_value order o (bound_in evaluation order o n r f) ds m b ≡ plus o f0 (times o (minus o f1 f0) r)
+      grid_value order o (folded_in evaluation order o n r f) ds m b ≡ plus o f0 (times o (minus o f1 f0) r)
   unfolding Agree
   grid_value-line order m r f ds b =
       let n = length ds + m in
       let low = low_entry order f in
       let high = high_entry order (2 ^ n) f in
       let A = atom 0 in let B = atom 1 in let R = atom 2 in
-      ap (λ t. grid_value order o t ds m b) (bound_in-line order o n r f
+      ap (λ t. grid_value order o t ds m b) (folded_in-line order o n r f
       ∙ fun_ext (λ k. identity o ring (low k ∷ high k ∷ r ∷ []) (A ⊕ (B ⊖ A) ⊗ R) ((unit ⊖ R) ⊗ A ⊕ R ⊗ B) tt tt refl))
       ∙ grid_value-sum order (minus o 1 r) r low high ds m b
       ∙ identity o ring (grid_value order o low ds m b ∷ grid_value order o high ds m b ∷ r ∷ [])
@@ -180,7 +180,7 @@ module _ (o : Ops) (ring : IsRing o) where
       grid_value order o f (ds ++ es) m b ≡ grid_value order o (grid_value order o f ds (length es + m)) es m b
   unfolding grid_value Agree
   grid_value-append order f [] es m b = refl
-  grid_value-append order f (nought ∷ ds) es m b = grid_value-append order (low_entry order f) ds es m b
+  grid_value-append order f (digit_zero ∷ ds) es m b = grid_value-append order (low_entry order f) ds es m b
   grid_value-append order f (one ∷ ds) es m b =
       let e : length (ds ++ es) + m ≡ length ds + (length es + m) = omega (arith, length-append ds es) in
       ap (λ n. grid_value order o (high_entry order (2 ^ n) f) (ds ++ es) m b) e
@@ -202,12 +202,12 @@ module _ (o : Ops) (ring : IsRing o) where
 
   -- with one digit more, 0, it is the value at the first digits at the row where the last variable is 0
   pub grid_value-append_nought : (order : Order) (f : ℕ → ℕ) (ds : List Digit) (m b : ℕ) →
-      grid_value order o f (ds ++ nought ∷ []) m b ≡ grid_value order o f ds (suc m) (low_row order b)
+      grid_value order o f (ds ++ digit_zero ∷ []) m b ≡ grid_value order o f ds (suc m) (low_row order b)
   unfolding grid_value
   grid_value-append_nought order f ds m b =
-      let e : length (nought ∷ []) + m ≡ suc m = omega arith in
-      grid_value-append order f ds (nought ∷ []) m b
-      ∙ ap (λ g. g b) (low_entry-row order (grid_value order o f ds (length (nought ∷ []) + m)))
+      let e : length (digit_zero ∷ []) + m ≡ suc m = omega arith in
+      grid_value-append order f ds (digit_zero ∷ []) m b
+      ∙ ap (λ g. g b) (low_entry-row order (grid_value order o f ds (length (digit_zero ∷ []) + m)))
       ∙ ap (λ n. grid_value order o f ds n (low_row order b)) e
 
   last_one : (order : Order) (g : ℕ → ℕ) (m b : ℕ) → high_entry order (2 ^ (length {A = Digit} [] + m)) g b ≡ g (high_row order m b)
@@ -251,15 +251,15 @@ module _ (o : Ops) (ring : IsRing o) where
       let U = grid_value order o u ds m in
       let V = grid_value order o v ds m in
       let C = atom 0 in let A = atom 1 in let B = atom 2 in
-      ap (inner o m F) (fun_ext (λ b.
+      ap (inner_product o m F) (fun_ext (λ b.
       ap (λ t. grid_value order o t ds m b) (fun_ext (λ k. identity o ring (c ∷ u k ∷ v k ∷ []) (C ⊗ A ⊕ B) (C ⊗ A ⊕ unit ⊗ B) tt tt refl))
       ∙ grid_value-sum order c 1 u v ds m b
       ∙ identity o ring (c ∷ U b ∷ V b ∷ []) (C ⊗ A ⊕ unit ⊗ B) (C ⊗ A ⊕ B) tt tt refl))
-      ∙ inner-sum o ring m c F U V
+      ∙ inner_product-sum o ring m c F U V
 
   -- the entry under weights that are 0 at each row
   pub grid_entry-zero : (order : Order) (f : ℕ → ℕ) (ds : List Digit) (m : ℕ) → grid_entry order o f (λ b. 0) ds m ≡ 0
-  unfolding grid_entry inner
+  unfolding grid_entry inner_product
   grid_entry-zero order f ds m =
       let F = grid_value order o f ds m in
       sum-same o (2 ^ m) _ _ (λ b _. ap (times o (F b)) (grid_value-zero order ds m b) ∙ times-zero o ring (F b)) ∙ sum-none o ring (2 ^ m)
@@ -324,22 +324,22 @@ module _ (order : Order) (o : Ops) (f w : ℕ → ℕ) (d : Digit) (j m : ℕ) w
 pub record IsGrid (order : Order) (o : Ops) (f w : ℕ → ℕ) (j m : ℕ) (grid : List ℕ × List ℕ) : Type 0 where
   pub length_nought : length grid.0 ≡ 3 ^ j
   pub length_infinity : length grid.1 ≡ 3 ^ j
-  pub at_nought : (k : ℕ) → k < 3 ^ j → rows_of grid.0 k ≡ grid_entry order o f w (ternary j k ++ nought ∷ []) m
+  pub at_nought : (k : ℕ) → k < 3 ^ j → rows_of grid.0 k ≡ grid_entry order o f w (ternary j k ++ digit_zero ∷ []) m
   pub at_infinity : (k : ℕ) → k < 3 ^ j → rows_of grid.1 k ≡ grid_entry order o f w (ternary j k ++ infinity ∷ []) m
 
 -- a pair that is a round's grid by its entries is the grid
 pub grid-is : (order : Order) (o : Ops) (f w : ℕ → ℕ) (j m : ℕ) (grid : List ℕ × List ℕ) →
     IsGrid order o f w j m grid → grid ≡ grid_of order o f w j m
 grid-is order o f w j m grid is =
-    ap (λ xs. (xs, grid.1)) (grid_list-is order o f w nought j m grid.0 is.length_nought is.at_nought)
-    ∙ ap (λ ys. (grid_list order o f w nought j m, ys)) (grid_list-is order o f w infinity j m grid.1 is.length_infinity is.at_infinity)
+    ap (λ xs. (xs, grid.1)) (grid_list-is order o f w digit_zero j m grid.0 is.length_nought is.at_nought)
+    ∙ ap (λ ys. (grid_list order o f w digit_zero j m, ys)) (grid_list-is order o f w infinity j m grid.1 is.length_infinity is.at_infinity)
 
 -- the grid is a round's grid by its entries
 pub grid_of-is : (order : Order) (o : Ops) (f w : ℕ → ℕ) (j m : ℕ) → IsGrid order o f w j m (grid_of order o f w j m)
 grid_of-is order o f w j m = record {
-  length_nought = length-grid_list order o f w nought j m;
+  length_nought = length-grid_list order o f w digit_zero j m;
   length_infinity = length-grid_list order o f w infinity j m;
-  at_nought = rows-grid_list order o f w nought j m;
+  at_nought = rows-grid_list order o f w digit_zero j m;
   at_infinity = rows-grid_list order o f w infinity j m;
 }
 
@@ -399,9 +399,9 @@ module _ (o : Ops) (ring : IsRing o) where
   three_digits : (order : Order) (f w : ℕ → ℕ) (r : ℕ) (ds : List Digit) (m : ℕ) →
       let at : Digit → ℕ = λ d. times o (grid_entry order o f w (d ∷ ds) m) (digit_weight o d r) in
       let n = length ds + m in
-      plus o (plus o (at nought) (at one)) (at infinity)
-      ≡ grid_entry order o (bound_in evaluation order o n r f) (bound_in evaluation order o n r w) ds m
-  unfolding grid_entry grid_value inner digit_weight sent_pair poly_at Agree
+      plus o (plus o (at digit_zero) (at one)) (at infinity)
+      ≡ grid_entry order o (folded_in evaluation order o n r f) (folded_in evaluation order o n r w) ds m
+  unfolding grid_entry grid_value inner_product digit_weight sent_pair poly_at Agree
   three_digits order f w r ds m =
       let N = 2 ^ m in
       let half = 2 ^ (length ds + m) in
@@ -419,12 +419,12 @@ module _ (o : Ops) (ring : IsRing o) where
       ∙ sym (lines-sum o ring N f0 f1 w0 w1 r)
       ∙ sum-same o N _ _ (λ k _.
       ap (λ v. times o v (plus o (w0 k) (times o (minus o (w1 k) (w0 k)) r))) (sym (grid_value-line o ring order m r f ds k))
-      ∙ ap (times o (grid_value order o (bound_in evaluation order o (length ds + m) r f) ds m k)) (sym (grid_value-line o ring order m r w ds k)))
+      ∙ ap (times o (grid_value order o (folded_in evaluation order o (length ds + m) r f) ds m k)) (sym (grid_value-line o ring order m r w ds k)))
 
   -- an entry is an element
   pub element-grid_entry : (order : Order) (f w : ℕ → ℕ) (ds : List Digit) (m : ℕ) →
       element o (grid_entry order o f w ds m) ≡ grid_entry order o f w ds m
-  unfolding grid_entry inner
+  unfolding grid_entry inner_product
   element-grid_entry order f w ds m = element-sum o ring (2 ^ m) (λ b. times o (grid_value order o f ds m b) (grid_value order o w ds m b))
 
   sum-one : (f : ℕ → ℕ) → sum_below o (3 ^ 0) f ≡ element o (f 0)
@@ -447,7 +447,7 @@ module _ (o : Ops) (ring : IsRing o) where
     -- the three places that differ in the first digit alone
     three_places : (q : ℕ) →
         let X : ℕ → ℕ = λ k. share (k % 3) (k / 3) in
-        let bound_at : (ℕ → ℕ) → ℕ → ℕ = bound_in evaluation order o (length rs + suc m) r in
+        let bound_at : (ℕ → ℕ) → ℕ → ℕ = folded_in evaluation order o (length rs + suc m) r in
         plus o (plus o (X (q * 3 + 0)) (X (q * 3 + 1))) (X (q * 3 + 2))
         ≡ times o (grid_entry order o (bound_at f) (bound_at w) (ternary (length rs) q ++ d ∷ []) m) (place_weight o rs q)
     unfolding Agree
@@ -461,16 +461,16 @@ module _ (o : Ops) (ring : IsRing o) where
         ap (λ x. plus o (plus o x (X (q * 3 + 1))) (X (q * 3 + 2))) (share-at q 0 (omega arith))
         ∙ ap (λ x. plus o (plus o (share 0 q) x) (X (q * 3 + 2))) (share-at q 1 (omega arith))
         ∙ ap (λ x. plus o (plus o (share 0 q) (share 1 q)) x) (share-at q 2 (omega arith))
-        ∙ identity o ring (at nought ∷ at one ∷ at infinity ∷ digit_weight o nought r ∷ digit_weight o one r ∷ digit_weight o infinity r ∷ P ∷ [])
+        ∙ identity o ring (at digit_zero ∷ at one ∷ at infinity ∷ digit_weight o digit_zero r ∷ digit_weight o one r ∷ digit_weight o infinity r ∷ P ∷ [])
         ((A ⊗ (U ⊗ Q) ⊕ B ⊗ (V ⊗ Q)) ⊕ C ⊗ (W ⊗ Q)) (((A ⊗ U ⊕ B ⊗ V) ⊕ C ⊗ W) ⊗ Q) tt tt refl
         ∙ ap (λ x. times o x P) (three_digits order f w r ds m)
-        ∙ ap (λ n. times o (grid_entry order o (bound_in evaluation order o n r f) (bound_in evaluation order o n r w) ds m) P) size
+        ∙ ap (λ n. times o (grid_entry order o (folded_in evaluation order o n r f) (folded_in evaluation order o n r w) ds m) P) size
 
   -- the sum over the places of one list is the entry of the bound tables
   places : (order : Order) (f w : ℕ → ℕ) (rs : List ℕ) (d : Digit) (m : ℕ) →
       sum_below o (3 ^ length rs) (λ k. times o (grid_entry order o f w (ternary (length rs) k ++ d ∷ []) m) (place_weight o rs k))
-      ≡ grid_entry order o (bound_by evaluation order o rs (suc m) f) (bound_by evaluation order o rs (suc m) w) (d ∷ []) m
-  unfolding bound_by place_weight ternary
+      ≡ grid_entry order o (folded_by evaluation order o rs (suc m) f) (folded_by evaluation order o rs (suc m) w) (d ∷ []) m
+  unfolding folded_by place_weight ternary
   places order f w [] d m =
       let x = grid_entry order o f w (d ∷ []) m in
       sum-one (λ k. times o (grid_entry order o f w ([] ++ d ∷ []) m) 1)
@@ -481,41 +481,41 @@ module _ (o : Ops) (ring : IsRing o) where
       ap (λ k. sum_below o k X) (pow-suc 3 (length rs))
       ∙ sum-triples (3 ^ length rs) X
       ∙ sum-same o (3 ^ length rs) _ _ (λ q _. three_places order f w r rs d m q)
-      ∙ places order (bound_in evaluation order o n r f) (bound_in evaluation order o n r w) rs d m
+      ∙ places order (folded_in evaluation order o n r f) (folded_in evaluation order o n r w) rs d m
 
   -- what is read off one list of a round
   list-read : (order : Order) (f w : ℕ → ℕ) (d : Digit) (rs : List ℕ) (m : ℕ) →
       read_off o (grid_list order o f w d (length rs) m) rs
-      ≡ grid_entry order o (bound_by evaluation order o rs (suc m) f) (bound_by evaluation order o rs (suc m) w) (d ∷ []) m
+      ≡ grid_entry order o (folded_by evaluation order o rs (suc m) f) (folded_by evaluation order o rs (suc m) w) (d ∷ []) m
   unfolding read_off
   list-read order f w d rs m =
       sum-same o (3 ^ length rs) _ _ (λ k low. ap (λ v. times o v (place_weight o rs k)) (rows-grid_list order o f w d (length rs) m k low))
       ∙ places order f w rs d m
 
-  entry_nought : (order : Order) (g h : ℕ → ℕ) (m : ℕ) → grid_entry order o g h (nought ∷ []) m ≡ message_first evaluation order o (2 ^ m) g h
-  unfolding grid_entry inner grid_value message_first first_term
+  entry_nought : (order : Order) (g h : ℕ → ℕ) (m : ℕ) → grid_entry order o g h (digit_zero ∷ []) m ≡ message_first evaluation order o (2 ^ m) g h
+  unfolding grid_entry inner_product grid_value message_first first_term
   entry_nought order g h m = refl
 
   entry_infinity : (order : Order) (g h : ℕ → ℕ) (m : ℕ) → grid_entry order o g h (infinity ∷ []) m ≡ message_leading evaluation order o (2 ^ m) g h
-  unfolding grid_entry inner grid_value message_leading leading_term
+  unfolding grid_entry inner_product grid_value message_leading leading_term
   entry_infinity order g h m =
       let e : length {A = Digit} [] + m ≡ m = omega arith in
       ap (λ n. sum_below o (2 ^ m) (leading_term evaluation order o (2 ^ n) g h)) e
 
   -- what is read off a round's grid at the challenges before it is what an honest round sends
   pub read_message-honest : (order : Order) (f w : ℕ → ℕ) (rs : List ℕ) (m : ℕ) →
-      read_message o (grid_of order o f w (length rs) m) rs ≡ honest_pair evaluation order o f w rs m
+      read_message o (grid_of order o f w (length rs) m) rs ≡ honest_message evaluation order o f w rs m
   unfolding read_message
   read_message-honest order f w rs m =
-      let F = bound_by evaluation order o rs (suc m) f in
-      let W = bound_by evaluation order o rs (suc m) w in
-      ap (λ c. c ∷ read_off o (grid_list order o f w infinity (length rs) m) rs ∷ []) (list-read order f w nought rs m ∙ entry_nought order F W m)
+      let F = folded_by evaluation order o rs (suc m) f in
+      let W = folded_by evaluation order o rs (suc m) w in
+      ap (λ c. c ∷ read_off o (grid_list order o f w infinity (length rs) m) rs ∷ []) (list-read order f w digit_zero rs m ∙ entry_nought order F W m)
       ∙ ap (λ q. message_first evaluation order o (2 ^ m) F W ∷ q ∷ []) (list-read order f w infinity rs m ∙ entry_infinity order F W m)
-      ∙ sym (honest_pair-message o ring evaluation order tt f w rs m)
+      ∙ sym (honest_message-message o ring evaluation order tt f w rs m)
 
   -- the same, of the grid at index j of the rounds' grids
   pub grids_of-honest : (order : Order) (n : ℕ) (f w : ℕ → ℕ) (l j : ℕ) (d : List ℕ × List ℕ) (rs : List ℕ) → j < l → length rs ≡ j →
-      read_message o (get_or (grids_of order o n f w l) j d) rs ≡ honest_pair evaluation order o f w rs (n - suc j)
+      read_message o (get_or (grids_of order o n f w l) j d) rs ≡ honest_message evaluation order o f w rs (n - suc j)
   grids_of-honest order n f w l j d rs low drawn =
       ap (λ g. read_message o g rs) (grids_of-at order o n f w l j d low)
       ∙ ap (λ k. read_message o (grid_of order o f w k (n - suc j)) rs) (sym drawn)

@@ -1,17 +1,17 @@
--- A round that moves a standing sends the honest pair of the tables before it, and its bound tables are those with the challenge placed.
+-- A round that moves a prover state sends the honest message of the tables before it, and its bound tables are those with the challenge placed.
 use Rattle.std.proofs.Common.{◌≡◌, ℕ, ◌+◌, ◌^◌, ◌<◌, List, [], ◌∷◌, ◌++◌, length, refl, ap, sym, ◌∙◌}
 use Rattle.sc_definitions.specs.Ring.{Ops, IsRing, plus, times}
-use Rattle.sc_definitions.specs.Tables.{Basis, evaluation, projective, Order, prefix, suffix, IsOffered, sum_below, monomial, coefficient_value, value_in, rows_of, placed, bound_coefficients, bound_in, bound_by}
+use Rattle.sc_definitions.specs.Tables.{Basis, evaluation, projective, Order, prefix, suffix, IsOffered, sum_below, monomial, coefficient_value, value_in, rows_of, placed, bound_coefficients, folded_in, folded_by}
 use Rattle.sc_definitions.specs.Messages.{message_of}
 use Rattle.sc_definitions.specs.Channels.{Wire}
-use Rattle.sc_definitions.specs.Standings.{Setting, Standing, entries_of, half_rows, honest_in, IsRound, IsHonestRound}
+use Rattle.sc_definitions.specs.ProverStates.{Setting, ProverState, entries_of, half_rows, honest_in, IsRound, IsHonestRound}
 use Rattle.sc_definitions.proofs.Sums.{sum-same, sum-split, sum-plus}
 use Rattle.sc_definitions.proofs.Identity.{atom, unit, ◌⊕◌, ◌⊗◌, Agree, identity}
 use Rattle.sc_definitions.proofs.TableLaws.{two_halves, value-bound, value-same}
 use Rattle.sc_definitions.proofs.SuffixLaws.{value-bound_low}
 use Rattle.sc_definitions.proofs.PlacedLaws.{monomial-low, monomial-high}
-use Rattle.sc_definitions.proofs.RoundLaws.{honest_pair-message}
-use Rattle.sc_definitions.proofs.StandingLaws.{rows-entries_of}
+use Rattle.sc_definitions.proofs.RoundLaws.{honest_message-message}
+use Rattle.sc_definitions.proofs.ProverStateLaws.{rows-entries_of}
 
 module _ (o : Ops) (ring : IsRing o) where
   -- a table of coefficients with its first variable bound
@@ -31,7 +31,7 @@ module _ (o : Ops) (ring : IsRing o) where
 
   -- a table with the variable of a round bound, in either basis
   pub value_in-bound : (basis : Basis) (order : Order) → IsOffered basis order → (f : ℕ → ℕ) (r : ℕ) (zs : List ℕ) →
-      value_in basis o f (placed order (r ∷ []) zs) ≡ value_in basis o (bound_in basis order o (length zs) r f) zs
+      value_in basis o f (placed order (r ∷ []) zs) ≡ value_in basis o (folded_in basis order o (length zs) r f) zs
   value_in-bound evaluation prefix offered f r zs = value-bound o ring f r zs
   value_in-bound evaluation suffix offered f r zs = value-bound_low o ring f zs r
   value_in-bound projective prefix offered f r zs = coefficient_value-bound f r zs
@@ -44,23 +44,23 @@ value_in-same projective o f g zs same = sum-same o (2 ^ length zs) _ _ (λ b lo
 
 -- the value of a table that a round has bound
 bound_value : (s : Setting) → IsRing s.ops → IsOffered s.basis s.order → (m r : ℕ) (xs ys zs : List ℕ) →
-    ys ≡ entries_of m (bound_in s.basis s.order s.ops m r (rows_of xs)) → length zs ≡ m →
+    ys ≡ entries_of m (folded_in s.basis s.order s.ops m r (rows_of xs)) → length zs ≡ m →
     value_in s.basis s.ops (rows_of ys) zs ≡ value_in s.basis s.ops (rows_of xs) (placed s.order (r ∷ []) zs)
 bound_value s ring offered m r xs ys zs bound size =
     value_in-same s.basis s.ops _ _ zs (λ b low.
     ap (λ t. rows_of t b) bound ∙ rows-entries_of m _ b (rw (← size) low)
-    ∙ ap (λ n. bound_in s.basis s.order s.ops n r (rows_of xs) b) (sym size))
+    ∙ ap (λ n. folded_in s.basis s.order s.ops n r (rows_of xs) b) (sym size))
     ∙ sym (value_in-bound s.ops ring s.basis s.order offered (rows_of xs) r zs)
 
 -- what a round sends
-sent_is : (s : Setting) → IsRing s.ops → IsOffered s.basis s.order → (t u : Standing) (r : ℕ) → (p : IsRound s t u r) → p.round.values ≡ honest_in s t [] u.variables
-unfolding bound_by
+sent_is : (s : Setting) → IsRing s.ops → IsOffered s.basis s.order → (t u : ProverState) (r : ℕ) → (p : IsRound s t u r) → p.round.values ≡ honest_in s t [] u.variables
+unfolding folded_by
 sent_is s ring offered t u r p =
     p.message
     ∙ ap (λ n. message_of s.basis s.order s.ops (half_rows n) (rows_of t.evals) (rows_of t.weights)) p.fewer
-    ∙ sym (honest_pair-message s.ops ring s.basis s.order offered (rows_of t.evals) (rows_of t.weights) [] u.variables)
+    ∙ sym (honest_message-message s.ops ring s.basis s.order offered (rows_of t.evals) (rows_of t.weights) [] u.variables)
 
-pub honest-round : (s : Setting) → IsRing s.ops → IsOffered s.basis s.order → (t u : Standing) (r : ℕ) → IsRound s t u r → IsHonestRound s t u r
+pub honest-round : (s : Setting) → IsRing s.ops → IsOffered s.basis s.order → (t u : ProverState) (r : ℕ) → IsRound s t u r → IsHonestRound s t u r
 honest-round s ring offered t u r p = record {
   message = ap (λ (w : Wire). w.messages) p.wire ∙ ap (λ v. t.wire.messages ++ v ∷ []) (sent_is s ring offered t u r p);
   evals = λ zs size. bound_value s ring offered u.variables r t.evals u.evals zs p.evals size;

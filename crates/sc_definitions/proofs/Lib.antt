@@ -24,7 +24,7 @@ pub mod WorkedGrids
 pub mod ReplayLaws
 pub mod Lengths
 pub mod Lists
-pub mod StandingLaws
+pub mod ProverStateLaws
 pub mod SameTables
 pub mod GridLaws
 pub mod PartialLaws

@@ -4,27 +4,27 @@ use Rattle.std.specs.List.{slice_get}
 use Rattle.std.proofs.lemmas.Bool.{cases_eq}
 use Rattle.std.proofs.lemmas.List.{append-nil, length-map}
 use Rattle.sc_definitions.specs.Ring.{Ops, IsRing, IsField, element, plus, times, opposite, minus, power}
-use Rattle.sc_definitions.specs.Tables.{evaluation, projective, Basis, Order, IsOffered, inner, bound_by}
-use Rattle.sc_definitions.specs.Rounds.{true_claim, slow_leading, slow_round, honest_pair, sent_pair, sent_polynomial, next_claim, claim_along}
+use Rattle.sc_definitions.specs.Tables.{evaluation, projective, Basis, Order, IsOffered, inner_product, folded_by}
+use Rattle.sc_definitions.specs.Rounds.{true_claim, slow_leading, round_polynomial, honest_message, sent_pair, sent_polynomial, next_claim, claim_along}
 use Rattle.sc_definitions.specs.Polynomials.{poly_at, poly_minus, AllZero}
 use Rattle.sc_definitions.specs.Roots.{root_count}
-use Rattle.sc_definitions.specs.Statements.{Statement, true_value, IsTrueOf, AllTrueOf, powers_sum, claimed_values, true_values, weights_at, batched_weight, batched_claim}
+use Rattle.sc_definitions.specs.Statements.{Statement, true_value, IsTrueOf, AllTrueOf, batched_by_powers, claimed_values, true_values, weights_at, batched_weight, batched_claim}
 use Rattle.sc_definitions.specs.Problem.{Problem, weights_of, claim_of, residual_of, eval_of, weight_value_of}
 use Rattle.sc_definitions.specs.TwoTables.{TwoTables, tables_in, true_claim_on}
-use Rattle.sc_definitions.specs.Lucky.{IsCertificate, after_zeros, excess, batch_polynomial, true_claim_of, round_excess, product_excess, Course, course_of, course_on, product_course, Turn, first_turn, IsTurn, Luck, in_batch, luck_in, luck_of, IsRoundLuck, IsCertified}
+use Rattle.sc_definitions.specs.Lucky.{IsCertificate, after_zeros, excess, batch_polynomial, true_claim_of, round_excess, product_excess, Course, course_of, course_on, product_course, Turn, first_turn, IsTurn, LuckyChallenge, in_batch, luck_in, luck_of, IsRoundLuck, IsCertified}
 use Rattle.sc_definitions.specs.Interpolation.{through, sent_through, next_through}
 use Rattle.sc_definitions.specs.Products.{product_claim, product_round}
 use Rattle.sc_definitions.proofs.RingLaws.{element-plus, element-small, plus-opposite, plus-element_left, plus-element_right}
 use Rattle.sc_definitions.proofs.Identity.{atom, nought, unit, ◌⊕◌, ◌⊗◌, ◌⊖◌, Agree, identity, same_element}
-use Rattle.sc_definitions.proofs.StatementLaws.{element-powers_sum}
+use Rattle.sc_definitions.proofs.StatementLaws.{element-batched_by_powers}
 use Rattle.sc_definitions.proofs.PowerSums.{poly_at-zeros}
 use Rattle.sc_definitions.proofs.PolyLaws.{poly_at-minus, length-minus}
 use Rattle.sc_definitions.proofs.RootLaws.{same-from_minus, element-poly_at}
 use Rattle.sc_definitions.proofs.RootCount.{root_count-bound, last_place}
 use Rattle.sc_definitions.proofs.InterpolationLaws.{length-through, through-at, same_value}
 use Rattle.sc_definitions.proofs.ProductLaws.{product_round-at, product_claim-split, product_round-length}
-use Rattle.sc_definitions.proofs.BuildLaws.{inner-powers_sum, true_claim-end}
-use Rattle.sc_definitions.proofs.RoundLaws.{true_claim-inner, true_claim-next, slow_round-values}
+use Rattle.sc_definitions.proofs.BuildLaws.{inner_product-batched_by_powers, true_claim-end}
+use Rattle.sc_definitions.proofs.RoundLaws.{true_claim-inner, true_claim-next, round_polynomial-values}
 use Rattle.sc_definitions.proofs.Sums.{element-sum}
 use Rattle.std.specs.Option.{option_map}
 use Rattle.std.proofs.lemmas.Option.{same_Some}
@@ -54,22 +54,22 @@ module _ (o : Ops) (ring : IsRing o) where
 
   -- the batch of the excesses is what the batch of the claims exceeds that of the true values by
   excess-sum : (n : ℕ) (f : ℕ → ℕ) (c p : ℕ) (ss : List Statement) →
-      powers_sum o c p (map (excess o n f) ss) ≡ minus o (powers_sum o c p (claimed_values ss)) (powers_sum o c p (true_values o n f ss))
-  unfolding powers_sum excess Agree
+      batched_by_powers o c p (map (excess o n f) ss) ≡ minus o (batched_by_powers o c p (claimed_values ss)) (batched_by_powers o c p (true_values o n f ss))
+  unfolding batched_by_powers excess Agree
   excess-sum n f c p [] = identity o ring [] nought (nought ⊖ nought) tt tt refl
   excess-sum n f c p (s ∷ ss) =
       let P = atom 0 in let A = atom 1 in let B = atom 2 in let S = atom 3 in let T = atom 4 in
       ap (plus o (times o (power o c p) (minus o s.claimed (true_value o n f s.kind)))) (excess-sum n f c (suc p) ss)
-      ∙ identity o ring (power o c p ∷ s.claimed ∷ true_value o n f s.kind ∷ powers_sum o c (suc p) (claimed_values ss) ∷ powers_sum o c (suc p) (true_values o n f ss) ∷ [])
+      ∙ identity o ring (power o c p ∷ s.claimed ∷ true_value o n f s.kind ∷ batched_by_powers o c (suc p) (claimed_values ss) ∷ batched_by_powers o c (suc p) (true_values o n f ss) ∷ [])
       (P ⊗ (A ⊖ B) ⊕ (S ⊖ T)) ((P ⊗ A ⊕ S) ⊖ (P ⊗ B ⊕ T)) tt tt refl
 
   pub batch-at : (p : Problem) → poly_at o (batch_polynomial o p) p.batching ≡ minus o (claim_of o p) (true_claim_of o p [] p.variables)
-  unfolding batch_polynomial claim_of weights_of batched_claim batched_weight bound_by
+  unfolding batch_polynomial claim_of weights_of batched_claim batched_weight folded_by
   batch-at p =
       let c = p.batching in let i = p.initial in let n = p.variables in let f = p.table in let ss = p.statements in
       poly_at-zeros o ring i (map (excess o n f) ss) c ∙ excess-sum n f c i ss
-      ∙ ap (minus o (powers_sum o c i (claimed_values ss)))
-      (sym (inner-powers_sum o ring n f c i ss) ∙ sym (true_claim-inner o ring p.basis p.order f (λ b. powers_sum o c i (weights_at o ss b)) [] n))
+      ∙ ap (minus o (batched_by_powers o c i (claimed_values ss)))
+      (sym (inner_product-batched_by_powers o ring n f c i ss) ∙ sym (true_claim-inner o ring p.basis p.order f (λ b. batched_by_powers o c i (weights_at o ss b)) [] n))
 
   -- where no statement exceeds its true value, all are true
   zeros-last : (n : ℕ) (xs : List ℕ) → AllZero o (after_zeros n xs) → AllZero o xs
@@ -77,7 +77,7 @@ module _ (o : Ops) (ring : IsRing o) where
   zeros-last (suc n) xs h = zeros-last n xs h.1
 
   none-exceeds : (n : ℕ) (f : ℕ → ℕ) (ss : List Statement) → All (λ c. c < o.size) (claimed_values ss) → AllZero o (map (excess o n f) ss) → AllTrueOf o n f ss
-  unfolding excess IsTrueOf true_value inner
+  unfolding excess IsTrueOf true_value inner_product
   none-exceeds n f [] low zeros = tt
   none-exceeds n f (s ∷ ss) low zeros =
       let v = true_value o n f s.kind in
@@ -98,8 +98,8 @@ module _ (o : Ops) (ring : IsRing o) where
   three_sent evaluation claim c q = refl
   three_sent projective claim c q = refl
 
-  three_slow : (basis : Basis) (order : Order) (f w : ℕ → ℕ) (rs : List ℕ) (m : ℕ) → length (slow_round basis order o f w rs m) ≡ 3
-  unfolding slow_round
+  three_slow : (basis : Basis) (order : Order) (f w : ℕ → ℕ) (rs : List ℕ) (m : ℕ) → length (round_polynomial basis order o f w rs m) ≡ 3
+  unfolding round_polynomial
   three_slow basis order f w rs m = refl
 
   -- what a round sends exceeds the true polynomial, at its challenge, by as much as the next claim exceeds the true one
@@ -108,14 +108,14 @@ module _ (o : Ops) (ring : IsRing o) where
   unfolding round_excess next_claim
   excess-at t offered claim c q rs m r =
       let S = sent_polynomial t.basis o claim (c ∷ q ∷ []) in
-      let T = slow_round t.basis t.order o t.table t.weights rs m in
+      let T = round_polynomial t.basis t.order o t.table t.weights rs m in
       poly_at-minus o ring S T r (three_sent t.basis claim c q ∙ sym (three_slow t.basis t.order t.table t.weights rs m))
-      ∙ ap (minus o (poly_at o S r)) (sym (slow_round-values o ring t.basis t.order offered t.table t.weights rs m r))
+      ∙ ap (minus o (poly_at o S r)) (sym (round_polynomial-values o ring t.basis t.order offered t.table t.weights rs m r))
 
   pub excess-length : (t : TwoTables) (claim c q : ℕ) (rs : List ℕ) (m : ℕ) → length (round_excess o t claim (c ∷ q ∷ []) rs m) ≡ 3
   unfolding round_excess
   excess-length t claim c q rs m =
-      length-minus o ring (sent_polynomial t.basis o claim (c ∷ q ∷ [])) (slow_round t.basis t.order o t.table t.weights rs m)
+      length-minus o ring (sent_polynomial t.basis o claim (c ∷ q ∷ [])) (round_polynomial t.basis t.order o t.table t.weights rs m)
       (three_sent t.basis claim c q ∙ sym (three_slow t.basis t.order t.table t.weights rs m))
       ∙ three_slow t.basis t.order t.table t.weights rs m
 
@@ -124,9 +124,9 @@ module _ (o : Ops) (ring : IsRing o) where
 
   -- where it exceeds it nowhere the claim is the true one
   pub claims-same : (basis : Basis) (order : Order) → IsOffered basis order → (f w : ℕ → ℕ) (claim c q : ℕ) (rs : List ℕ) (m : ℕ) →
-      AllZero o (poly_minus o (sent_polynomial basis o claim (c ∷ q ∷ [])) (slow_round basis order o f w rs m)) →
+      AllZero o (poly_minus o (sent_polynomial basis o claim (c ∷ q ∷ [])) (round_polynomial basis order o f w rs m)) →
       element o claim ≡ element o (true_claim basis order o f w rs (suc m))
-  unfolding poly_minus sent_polynomial sent_pair slow_round next_claim honest_pair poly_at Agree
+  unfolding poly_minus sent_polynomial sent_pair round_polynomial next_claim honest_message poly_at Agree
   claims-same evaluation order offered f w claim c q rs m zeros =
       let t = true_claim evaluation order o f w rs (suc m) in
       let a = true_claim evaluation order o f w (rs ++ 0 ∷ []) m in
@@ -171,7 +171,7 @@ module _ (o : Ops) (ring : IsRing o) where
       ∙ sym both
 
   pub element-true : (basis : Basis) (order : Order) (f w : ℕ → ℕ) (rs : List ℕ) (m : ℕ) → element o (true_claim basis order o f w rs m) ≡ true_claim basis order o f w rs m
-  unfolding true_claim inner
+  unfolding true_claim inner_product
   element-true basis order f w rs m = element-sum o ring (2 ^ m) _
 
   pub element-next : (basis : Basis) (claim : ℕ) (message : List ℕ) (r : ℕ) → element o (next_claim basis o claim message r) ≡ next_claim basis o claim message r
@@ -385,7 +385,7 @@ module _ (o : Ops) (field : IsField o) (p : Problem) (offered : IsOffered p.basi
   pub luck-certified : All (λ c. c < o.size) (claimed_values p.statements) → (AllTrueOf o p.variables p.table p.statements → ⊥) →
       (messages : List (List ℕ)) (rs : List ℕ) → length messages ≡ p.variables → length rs ≡ p.variables → AllSend IsPair messages →
       residual_of o p messages rs ≡ times o (eval_of o p rs) (weight_value_of o p rs) →
-      (l : Luck) × (luck_of o p messages rs ≡ Some l) × IsCertified o p rs l
+      (l : LuckyChallenge) × (luck_of o p messages rs ≡ Some l) × IsCertified o p rs l
   unfolding luck_of residual_of eval_of weight_value_of claim_of batched_claim
   luck-certified low some messages rs count drawn pairs right =
       let ring = field.ring in
@@ -395,7 +395,7 @@ module _ (o : Ops) (field : IsField o) (p : Problem) (offered : IsOffered p.basi
       ⊎_elim
       (λ same. (batch, ap (λ b. if b then Some batch else rest) (eq-eqb _ _ same), (batch_certifies o field p low some same, length-batch o p)))
       (λ other.
-      let whole : element o (claim_of o p) ≡ claim_of o p = element-powers_sum o ring p.batching p.initial (claimed_values p.statements) in
+      let whole : element o (claim_of o p) ≡ claim_of o p = element-batched_by_powers o ring p.batching p.initial (claimed_values p.statements) in
       let wrong : element o (claim_of o p) ≢ true_claim_of o p [] (length messages) =
       λ e. other (sym whole ∙ e ∙ ap (true_claim_of o p []) count) in
       let end : claim_along (next_claim p.basis o) (claim_of o p) messages rs ≡ true_claim_of o p ([] ++ rs) 0 =

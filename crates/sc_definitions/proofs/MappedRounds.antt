@@ -2,7 +2,7 @@
 use Rattle.std.proofs.Common.{◌≡◌, ℕ, zero, suc, ◌+◌, ◌*◌, ◌^◌, ◌<◌, List, [], ◌∷◌, map, slice_index, refl, ap, sym, ◌∙◌, subst}
 use Rattle.std.proofs.Math.Path.{fun_ext}
 use Rattle.sc_definitions.specs.Ring.{Ops, IsRing, IsRingMap, plus, times, minus, IsRepresentation}
-use Rattle.sc_definitions.specs.Tables.{Basis, evaluation, projective, Order, prefix, suffix, entries, rows_of, sum_below, inner, bound, bound_low, bound_coefficients, bound_in}
+use Rattle.sc_definitions.specs.Tables.{Basis, evaluation, projective, Order, prefix, suffix, entries, rows_of, sum_below, inner_product, bound, bound_low, bound_coefficients, folded_in}
 use Rattle.sc_definitions.specs.Messages.{low_entry, high_entry, first_term, leading_term, message_first, message_leading, message_of}
 use Rattle.sc_definitions.specs.Polynomials.{poly_at}
 use Rattle.sc_definitions.specs.Rounds.{sent_pair, sent_polynomial, next_claim}
@@ -167,7 +167,7 @@ module _ (a b : Ops) (ra : IsRing a) (rb : IsRing b) (h : ℕ → ℕ) (m : IsRi
       ∙ ap (λ d. times b d (h r)) (map-minus a b ra rb h m hi lo lh ll))
 
   map-bound : (basis : Basis) (order : Order) (n r : ℕ) (f : ℕ → ℕ) → AreBelow f → r < a.size → (k : ℕ) →
-      h (bound_in basis order a n r f k) ≡ bound_in basis order b n (h r) (image f) k
+      h (folded_in basis order a n r f k) ≡ folded_in basis order b n (h r) (image f) k
   unfolding bound bound_low bound_coefficients
   map-bound evaluation prefix n r f low lr k = map-line (f k) (f (2 ^ n + k)) r (low k) (low (2 ^ n + k)) lr
   map-bound evaluation suffix n r f low lr k = map-line (f (2 * k)) (f (2 * k + 1)) r (low (2 * k)) (low (2 * k + 1)) lr
@@ -176,10 +176,10 @@ module _ (a b : Ops) (ra : IsRing a) (rb : IsRing b) (h : ℕ → ℕ) (m : IsRi
 
   -- the bound table of the images, from that of the entries
   pub image_bound : (basis : Basis) (order : Order) (n r s : ℕ) (f f' F F' : ℕ → ℕ) → AreBelow f → r < a.size → h r ≡ s → F ≡ image f → F' ≡ image f' →
-      ((k : ℕ) → k < 2 ^ n → f' k ≡ bound_in basis order a n r f k) → (k : ℕ) → k < 2 ^ n → F' k ≡ bound_in basis order b n s F k
+      ((k : ℕ) → k < 2 ^ n → f' k ≡ folded_in basis order a n r f k) → (k : ℕ) → k < 2 ^ n → F' k ≡ folded_in basis order b n s F k
   image_bound basis order n r s f f' F F' low lr r_is F_is F'_is bound_is k in_range =
       ap (λ g. g k) F'_is ∙ ap h (bound_is k in_range) ∙ map-bound basis order n r f low lr k
-      ∙ ap (λ t. bound_in basis order b n t (image f) k) r_is ∙ ap (λ g. bound_in basis order b n s g k) (sym F_is)
+      ∙ ap (λ t. folded_in basis order b n t (image f) k) r_is ∙ ap (λ g. folded_in basis order b n s g k) (sym F_is)
 
   map-step : (c r p : ℕ) → c < a.size → r < a.size → p < a.size → h (plus a c (times a r p)) ≡ plus b (h c) (times b (h r) (h p))
   map-step c r p lc lr lp =
@@ -220,8 +220,8 @@ module _ (a b : Ops) (ra : IsRing a) (rb : IsRing b) (h : ℕ → ℕ) (m : IsRi
       ∙ ap (λ v. next_claim basis b (h claim) (v ∷ h q ∷ []) s) (sym C_is) ∙ ap (λ v. next_claim basis b (h claim) (C ∷ v ∷ []) s) (sym Q_is)
 
   -- the sum of the products of the images, from that of the entries
-  pub image_inner : (n : ℕ) (f w : ℕ → ℕ) → AreBelow f → AreBelow w → h (inner a n f w) ≡ inner b n (image f) (image w)
-  unfolding inner
+  pub image_inner : (n : ℕ) (f w : ℕ → ℕ) → AreBelow f → AreBelow w → h (inner_product a n f w) ≡ inner_product b n (image f) (image w)
+  unfolding inner_product
   image_inner n f w lf lw =
       map-sum (2 ^ n) (λ k. times a (f k) (w k)) (λ k. times_below a ra (f k) (w k))
       ∙ ap (sum_below b (2 ^ n)) (fun_ext (λ k. m.times_kept (f k) (w k) (lf k) (lw k)))
@@ -243,8 +243,8 @@ module _ (a b : Ops) (ra : IsRing a) (rb : IsRing b) (h : ℕ → ℕ) (m : IsRi
 
 -- ---- the claim in a representation
 
-inner_below : (o : Ops) → IsRing o → (n : ℕ) (f w : ℕ → ℕ) → inner o n f w < o.size
-unfolding inner
+inner_below : (o : Ops) → IsRing o → (n : ℕ) (f w : ℕ → ℕ) → inner_product o n f w < o.size
+unfolding inner_product
 inner_below o ring n f w =
     let S = sum_below o (2 ^ n) (λ b. times o (f b) (w b)) in
     subst (λ k. k < o.size) (element-sum o ring (2 ^ n) (λ b. times o (f b) (w b))) (element_below o ring S)
@@ -252,8 +252,8 @@ inner_below o ring n f w =
 -- the claim in the representation, from that of the represented tables
 pub represented_sum : (e r : Ops) → IsRing e → (ring : IsRing r) → (from to : ℕ → ℕ) → IsRepresentation e r from to → (n : ℕ) (u v f w : ℕ → ℕ) (sum total : ℕ) →
     ((k : ℕ) → u k < r.size) → ((k : ℕ) → v k < r.size) → f ≡ (λ k. to (u k)) → w ≡ (λ k. to (v k)) →
-    sum ≡ inner e n f w → total ≡ from sum → total ≡ inner r n u v
+    sum ≡ inner_product e n f w → total ≡ from sum → total ≡ inner_product r n u v
 represented_sum e r ring_e ring from to rep n u v f w sum total u_low v_low f_is w_is true_sum total_is =
     total_is
-    ∙ ap from (true_sum ∙ ap (λ g. inner e n g w) f_is ∙ ap (inner e n (λ k. to (u k))) w_is ∙ sym (image_inner r e ring ring_e to rep.back n u v u_low v_low))
-    ∙ rep.forth_back (inner r n u v) (inner_below r ring n u v)
+    ∙ ap from (true_sum ∙ ap (λ g. inner_product e n g w) f_is ∙ ap (inner_product e n (λ k. to (u k))) w_is ∙ sym (image_inner r e ring ring_e to rep.back n u v u_low v_low))
+    ∙ rep.forth_back (inner_product r n u v) (inner_below r ring n u v)

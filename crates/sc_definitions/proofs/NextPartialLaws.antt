@@ -5,11 +5,11 @@ use Rattle.std.specs.List.{range_with_len}
 use Rattle.std.proofs.lemmas.Nat.{pow_pos}
 use Rattle.std.proofs.lemmas.List.FromFn.{length-map-range_with_len, get_or-map-range_with_len, map-range_with_len_more, fill_by_all}
 use Rattle.sc_definitions.specs.Ring.{Ops, IsRing, plus, times}
-use Rattle.sc_definitions.specs.Tables.{Order, prefix, suffix, sum_below, rows_of, weight, inner}
+use Rattle.sc_definitions.specs.Tables.{Order, prefix, suffix, sum_below, rows_of, equality_weight, inner_product}
 use Rattle.sc_definitions.specs.Grids.{Digit, grid_value, grid_entry}
 use Rattle.sc_definitions.specs.Shifts.{shifted, only_at}
 use Rattle.sc_definitions.specs.Statements.{successor_weight}
-use Rattle.sc_definitions.specs.Standings.{entries_of}
+use Rattle.sc_definitions.specs.ProverStates.{entries_of}
 use Rattle.sc_definitions.specs.Partials.{joined_row, summed_behind, kept_of, behind_of}
 use Rattle.sc_definitions.specs.Parts.{Part, Carry, Done, Omega, part_weight, under, beside, closing, next_partial, PartTables, tables_by, next_partials_of}
 use Rattle.sc_definitions.proofs.RingLaws.{times_comm, element-times}
@@ -18,7 +18,7 @@ use Rattle.sc_definitions.proofs.SuccessorLaws.{one-place}
 use Rattle.sc_definitions.proofs.BlockLaws.{sum-times}
 use Rattle.sc_definitions.proofs.GridLaws.{grid_value-same, grid_value-sum}
 use Rattle.sc_definitions.proofs.PartialLaws.{behind_of-none, joined_row-none, summed_behind-rows, grid_value-behind, grid_value-summed}
-use Rattle.sc_definitions.proofs.StandingLaws.{entries-is}
+use Rattle.sc_definitions.proofs.ProverStateLaws.{entries-is}
 use Rattle.sc_definitions.proofs.PartLaws.{three, three-same, sum-three, successor-append, successor-done_omega, only_at-times}
 use Rattle.sc_definitions.proofs.Identity.{atom, unit, ◌⊕◌, ◌⊗◌, Agree, identity}
 
@@ -34,7 +34,7 @@ summed_behind-same order o l m w v f a same =
 
 -- the part Done sums under the equality weights, moved up by one row
 pub summed_behind-done : (order : Order) (o : Ops) (l m : ℕ) (ys : List ℕ) (f : ℕ → ℕ) (a : ℕ) →
-    summed_behind order o l m (part_weight o Done ys) f a ≡ summed_behind order o l m (shifted 0 (weight o ys)) f a
+    summed_behind order o l m (part_weight o Done ys) f a ≡ summed_behind order o l m (shifted 0 (equality_weight o ys)) f a
 unfolding part_weight
 summed_behind-done order o l m ys f a = refl
 
@@ -54,25 +54,25 @@ module _ (o : Ops) (ring : IsRing o) where
 
   -- the part Carry sums to the entries with row 0 after, each times the last row's weight
   pub summed_behind-carry : (order : Order) (l m : ℕ) (ys : List ℕ) (f : ℕ → ℕ) (a : ℕ) → length ys ≡ m →
-      summed_behind order o l m (part_weight o Carry ys) f a ≡ times o (f (joined_row order l m a 0)) (weight o ys (2 ^ m - 1))
+      summed_behind order o l m (part_weight o Carry ys) f a ≡ times o (f (joined_row order l m a 0)) (equality_weight o ys (2 ^ m - 1))
   unfolding part_weight
   summed_behind-carry order l m ys f a size =
-      let W = weight o ys (2 ^ length ys - 1) in
+      let W = equality_weight o ys (2 ^ length ys - 1) in
       let row : ℕ → ℕ = λ c. f (joined_row order l m a c) in
       summed_behind-rows order o l m (only_at 0 (λ k. W)) f a
       ∙ sum-same o (2 ^ m) _ (only_at 0 (λ c. times o W (row c)))
       (λ c _. times_comm o ring (row c) (only_at 0 (λ k. W) c) ∙ only_at-times o ring 0 (λ k. W) row c)
       ∙ one-place o ring (2 ^ m) 0 (λ c. times o W (row c)) (pow_pos m)
       ∙ element-times o ring W (row 0) ∙ times_comm o ring W (row 0)
-      ∙ ap (λ n. times o (row 0) (weight o ys (2 ^ n - 1))) size
+      ∙ ap (λ n. times o (row 0) (equality_weight o ys (2 ^ n - 1))) size
 
   -- the part Omega sums to the entries with the last row after, each times its weight
   pub summed_behind-omega : (order : Order) (l m : ℕ) (ys : List ℕ) (f : ℕ → ℕ) (a : ℕ) → length ys ≡ m →
-      summed_behind order o l m (part_weight o Omega ys) f a ≡ times o (f (joined_row order l m a (2 ^ m - 1))) (weight o ys (2 ^ m - 1))
+      summed_behind order o l m (part_weight o Omega ys) f a ≡ times o (f (joined_row order l m a (2 ^ m - 1))) (equality_weight o ys (2 ^ m - 1))
   unfolding part_weight
   summed_behind-omega order l m ys f a size =
       let n = 2 ^ m - 1 in
-      let w = weight o ys in
+      let w = equality_weight o ys in
       let row : ℕ → ℕ = λ c. f (joined_row order l m a c) in
       summed_behind-rows order o l m (only_at (2 ^ length ys - 1) w) f a
       ∙ ap (λ k. sum_below o (2 ^ m) (λ c. times o (row c) (only_at (2 ^ k - 1) w c))) size
@@ -120,7 +120,7 @@ module _ (o : Ops) (ring : IsRing o) where
       ((a c : ℕ) → a < 2 ^ length ds → c < 2 ^ m → w (joined_row order (length ds) m a c) ≡ three o (λ part. times o (u part a) (v part c))) →
       grid_entry order o f w ds m
       ≡ three o (λ part. times o (grid_value order o (summed_behind order o (length ds) m (v part) f) ds 0 0) (grid_value order o (u part) ds 0 0))
-  unfolding grid_entry inner Agree
+  unfolding grid_entry inner_product Agree
   grid_entry-products order f w u v ds m is =
       let F = grid_value order o f ds m in
       let U : Part → ℕ = λ part. grid_value order o (u part) ds 0 0 in
@@ -155,8 +155,8 @@ module _ (o : Ops) (ring : IsRing o) where
 
   -- the entry of a part's table that keeps none
   pub next_partial-sum : (order : Order) (part : Part) (f : ℕ → ℕ) (zs : List ℕ) →
-      next_partial order o part f zs 0 0 ≡ inner o (length zs) f (part_weight o (under order part) zs)
-  unfolding inner
+      next_partial order o part f zs 0 0 ≡ inner_product o (length zs) f (part_weight o (under order part) zs)
+  unfolding inner_product
   next_partial-sum order part f zs =
       let n = length zs in
       let w = part_weight o (under order part) in
@@ -174,14 +174,14 @@ module _ (o : Ops) (ring : IsRing o) where
 
   -- the table that closes and that of Omega make the sum of a table's entries times successor weights
   pub next_partial-none : (order : Order) (f : ℕ → ℕ) (zs : List ℕ) →
-      plus o (next_partial order o (closing order) f zs 0 0) (next_partial order o Omega f zs 0 0) ≡ inner o (length zs) f (successor_weight o zs)
-  unfolding inner Agree
+      plus o (next_partial order o (closing order) f zs 0 0) (next_partial order o Omega f zs 0 0) ≡ inner_product o (length zs) f (successor_weight o zs)
+  unfolding inner_product Agree
   next_partial-none order f zs =
       let n = length zs in
       let D = part_weight o Done zs in let W = part_weight o Omega zs in
       ap (plus o (next_partial order o (closing order) f zs 0 0))
-      (next_partial-sum order Omega f zs ∙ ap (λ k. inner o n f (part_weight o k zs)) (omega-under order))
-      ∙ ap (λ s. plus o s (inner o n f W)) (next_partial-sum order (closing order) f zs ∙ ap (λ k. inner o n f (part_weight o k zs)) (closing-under order))
+      (next_partial-sum order Omega f zs ∙ ap (λ k. inner_product o n f (part_weight o k zs)) (omega-under order))
+      ∙ ap (λ s. plus o s (inner_product o n f W)) (next_partial-sum order (closing order) f zs ∙ ap (λ k. inner_product o n f (part_weight o k zs)) (closing-under order))
       ∙ sum-plus o ring (2 ^ n) (λ b. times o (f b) (D b)) (λ b. times o (f b) (W b))
       ∙ sum-same o (2 ^ n) _ _ (λ b low.
       identity o ring (f b ∷ D b ∷ W b ∷ []) (atom 0 ⊗ atom 1 ⊕ atom 0 ⊗ atom 2) (atom 0 ⊗ (atom 1 ⊕ atom 2)) tt tt refl

@@ -2,7 +2,7 @@
 use Rattle.std.proofs.Common.{◌≡◌, ℕ, suc, ◌+◌, ◌-◌, ◌*◌, ◌^◌, ◌<◌, List, [], ◌∷◌, ◌++◌, length, get_or, take, drop, sym, ◌∙◌, ap, refl, arith, length-drop, length-take-le, drop-cons, take-suc, mul_assoc}
 use Rattle.std.proofs.Math.Nat.{add-mul, pow-suc}
 use Rattle.sc_definitions.specs.Ring.{Ops, IsRing, plus, times, minus}
-use Rattle.sc_definitions.specs.Tables.{prefix, suffix, sum_below, weight, bound, bound_low}
+use Rattle.sc_definitions.specs.Tables.{prefix, suffix, sum_below, equality_weight, bound, bound_low}
 use Rattle.sc_definitions.specs.Shifts.{shifted, only_at}
 use Rattle.sc_definitions.specs.Partials.{partial}
 use Rattle.sc_definitions.specs.Parts.{Part, Equal, Carry, Done, Omega, part_weight, under, next_partial}
@@ -20,19 +20,19 @@ module _ (o : Ops) (z : ℕ) where
   one_at part b = part_weight o part (z ∷ []) b
 
   equal-ones : (one_at Equal 0 ≡ times o (minus o 1 z) 1) × (one_at Equal 1 ≡ times o z 1)
-  unfolding part_weight weight
+  unfolding part_weight equality_weight
   equal-ones = (refl, refl)
 
   carry-ones : (one_at Carry 0 ≡ times o z 1) × (one_at Carry 1 ≡ 0)
-  unfolding part_weight only_at weight
+  unfolding part_weight only_at equality_weight
   carry-ones = (refl, refl)
 
   done-ones : (one_at Done 0 ≡ 0) × (one_at Done 1 ≡ times o (minus o 1 z) 1)
-  unfolding part_weight shifted weight
+  unfolding part_weight shifted equality_weight
   done-ones = (refl, refl)
 
   omega-ones : (one_at Omega 0 ≡ 0) × (one_at Omega 1 ≡ times o z 1)
-  unfolding part_weight only_at weight
+  unfolding part_weight only_at equality_weight
   omega-ones = (refl, refl)
 
 module _ (o : Ops) (ring : IsRing o) where

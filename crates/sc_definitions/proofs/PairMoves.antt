@@ -4,15 +4,15 @@ use Rattle.std.proofs.Math.Nat.{pow-suc}
 use Rattle.std.proofs.lemmas.List.{length-map}
 use Rattle.std.proofs.lemmas.Grind.{same_number_lists}
 use Rattle.sc_definitions.specs.Ring.{Ops, IsRing, times}
-use Rattle.sc_definitions.specs.Tables.{Basis, Order, IsOffered, entries, rows_of, sum_below, inner, bound_in}
+use Rattle.sc_definitions.specs.Tables.{Basis, Order, IsOffered, entries, rows_of, sum_below, inner_product, folded_in}
 use Rattle.sc_definitions.specs.Messages.{message_first, message_leading, message_of}
 use Rattle.sc_definitions.specs.Rounds.{next_claim}
 use Rattle.sc_definitions.specs.Transcript.{round_of}
 use Rattle.sc_definitions.specs.Channels.{IsSent, with_rounds}
-use Rattle.sc_definitions.specs.Standings.{Setting, Standing, half_rows, IsRound}
+use Rattle.sc_definitions.specs.ProverStates.{Setting, ProverState, half_rows, IsRound}
 use Rattle.sc_definitions.proofs.Sums.{sum-same}
-use Rattle.sc_definitions.proofs.MessageLaws.{inner-bound_in}
-use Rattle.sc_definitions.proofs.StandingLaws.{IsSized, entries-is}
+use Rattle.sc_definitions.proofs.MessageLaws.{inner_product-folded_in}
+use Rattle.sc_definitions.proofs.ProverStateLaws.{IsSized, entries-is}
 
 -- a power of two with a variable left is even
 pub even_power : (n v : ℕ) → 0 < v → n ≡ 2 ^ v → n % 2 ≡ 0
@@ -56,19 +56,19 @@ message_halves basis order o n v m f w F W a b size more same_f same_w first lea
     ∙ ap (λ g. message_of basis order o (2 ^ m) f g) same_w
 
 -- the sum over the rows of two lists
-pub dot_sum : (o : Ops) {d L : ℕ} (n : ℕ) {F W f w : ℕ → ℕ} → d ≡ sum_below o L (λ b. times o (F b) (W b)) → L ≡ 2 ^ n → F ≡ f → W ≡ w → d ≡ inner o n f w
-unfolding inner
+pub dot_sum : (o : Ops) {d L : ℕ} (n : ℕ) {F W f w : ℕ → ℕ} → d ≡ sum_below o L (λ b. times o (F b) (W b)) → L ≡ 2 ^ n → F ≡ f → W ≡ w → d ≡ inner_product o n f w
+unfolding inner_product
 dot_sum o n {F} {W} {f} is size same_f same_w =
     is ∙ ap (λ k. sum_below o k (λ b. times o (F b) (W b))) size ∙ ap (λ g. sum_below o (2 ^ n) (λ b. times o (g b) (W b))) same_f
     ∙ ap (λ g. sum_below o (2 ^ n) (λ b. times o (f b) (g b))) same_w
 
 -- the round
-pub moves : (s : Setting) (t u : Standing) (values : List ℕ) (witness r : ℕ) →
+pub moves : (s : Setting) (t u : ProverState) (values : List ℕ) (witness r : ℕ) →
     IsSent s.channel t.history (round_of values witness) r u.history → u.wire ≡ with_rounds s.channel.bits t.wire (round_of values witness ∷ []) →
     t.variables ≡ u.variables + 1 → IsSized u →
     values ≡ message_of s.basis s.order s.ops (2 ^ u.variables) (rows_of t.evals) (rows_of t.weights) →
-    ((b : ℕ) → b < 2 ^ u.variables → rows_of u.evals b ≡ bound_in s.basis s.order s.ops u.variables r (rows_of t.evals) b) →
-    ((b : ℕ) → b < 2 ^ u.variables → rows_of u.weights b ≡ bound_in s.basis s.order s.ops u.variables r (rows_of t.weights) b) →
+    ((b : ℕ) → b < 2 ^ u.variables → rows_of u.evals b ≡ folded_in s.basis s.order s.ops u.variables r (rows_of t.evals) b) →
+    ((b : ℕ) → b < 2 ^ u.variables → rows_of u.weights b ≡ folded_in s.basis s.order s.ops u.variables r (rows_of t.weights) b) →
     u.claim ≡ next_claim s.basis s.ops t.claim values r → IsRound s t u r
 moves s t u values witness r sent wire less sized message evals weights claim =
     let fewer : t.variables ≡ suc u.variables = omega (arith, less) in
@@ -85,13 +85,13 @@ moves s t u values witness r sent wire less sized message evals weights claim =
 
 -- the sum of the bound tables
 pub sum_after : (basis : Basis) (order : Order) → IsOffered basis order → (o : Ops) → IsRing o → (n m : ℕ) (f w : ℕ → ℕ) (claim : ℕ) (values : List ℕ) (r : ℕ) (f' w' : ℕ → ℕ) (claim' : ℕ) →
-    n ≡ m + 1 → claim ≡ inner o n f w → values ≡ message_of basis order o (2 ^ m) f w →
-    ((b : ℕ) → b < 2 ^ m → f' b ≡ bound_in basis order o m r f b) → ((b : ℕ) → b < 2 ^ m → w' b ≡ bound_in basis order o m r w b) →
-    claim' ≡ next_claim basis o claim values r → claim' ≡ inner o m f' w'
-unfolding inner
+    n ≡ m + 1 → claim ≡ inner_product o n f w → values ≡ message_of basis order o (2 ^ m) f w →
+    ((b : ℕ) → b < 2 ^ m → f' b ≡ folded_in basis order o m r f b) → ((b : ℕ) → b < 2 ^ m → w' b ≡ folded_in basis order o m r w b) →
+    claim' ≡ next_claim basis o claim values r → claim' ≡ inner_product o m f' w'
+unfolding inner_product
 sum_after basis order offered o ring n m f w claim values r f' w' claim' more true_sum message evals weights next =
     let size : n ≡ suc m = omega arith in
     next ∙ ap (λ vs. next_claim basis o claim vs r) message
-    ∙ ap (λ c. next_claim basis o c (message_of basis order o (2 ^ m) f w) r) (true_sum ∙ ap (λ k. inner o k f w) size)
-    ∙ sym (inner-bound_in o ring basis order offered m f w r)
-    ∙ sym (sum-same o (2 ^ m) _ _ (λ b low. ap (λ x. times o x (w' b)) (evals b low) ∙ ap (λ x. times o (bound_in basis order o m r f b) x) (weights b low)))
+    ∙ ap (λ c. next_claim basis o c (message_of basis order o (2 ^ m) f w) r) (true_sum ∙ ap (λ k. inner_product o k f w) size)
+    ∙ sym (inner_product-folded_in o ring basis order offered m f w r)
+    ∙ sym (sum-same o (2 ^ m) _ _ (λ b low. ap (λ x. times o x (w' b)) (evals b low) ∙ ap (λ x. times o (folded_in basis order o m r f b) x) (weights b low)))

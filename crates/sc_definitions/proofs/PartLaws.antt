@@ -4,7 +4,7 @@ use Rattle.std.proofs.lemmas.Bool.{cases_eq}
 use Rattle.std.proofs.lemmas.Nat.{mul-le, pow_pos}
 use Rattle.std.proofs.Math.Nat.{mod-eq_of_lt}
 use Rattle.sc_definitions.specs.Ring.{Ops, IsRing, element, plus, times}
-use Rattle.sc_definitions.specs.Tables.{Order, prefix, suffix, sum_below, weight, eq_product, value, digits}
+use Rattle.sc_definitions.specs.Tables.{Order, prefix, suffix, sum_below, equality_weight, eq_product, value, digits}
 use Rattle.sc_definitions.specs.Shifts.{shifted, only_at}
 use Rattle.sc_definitions.specs.Parts.{Part, Equal, Carry, Done, Omega, part_weight, part_at, under}
 use Rattle.sc_definitions.specs.Statements.{successor, successor_weight, slot_weight, weight_of, next_carry, next_done, next_omega}
@@ -13,7 +13,7 @@ use Rattle.sc_definitions.proofs.Sums.{sum-same, sum-plus, element-sum}
 use Rattle.sc_definitions.proofs.TableLaws.{length-digits, value-digits}
 use Rattle.sc_definitions.proofs.ValueLaws.{value-weight}
 use Rattle.sc_definitions.proofs.SuccessorLaws.{element-weight, sum-first, one-place, shifted-zero, shifted-suc, only_at-here, only_at-elsewhere, successor-parts}
-use Rattle.sc_definitions.proofs.BlockLaws.{sum-blocks, sums-product, weight-append}
+use Rattle.sc_definitions.proofs.BlockLaws.{sum-blocks, sums-product, equality_weight-append}
 use Rattle.sc_definitions.proofs.Identity.{atom, nought, ◌⊕◌, ◌⊗◌, Agree, identity}
 
 -- what the parts Done, Carry and Omega make in sum
@@ -29,42 +29,42 @@ shifted-same before n f g same (suc b) low = shifted-suc before f b ∙ same b (
 
 module _ (o : Ops) (zs : List ℕ) where
   -- the part Equal is the equality weights
-  pub part-equal : (b : ℕ) → part_weight o Equal zs b ≡ weight o zs b
+  pub part-equal : (b : ℕ) → part_weight o Equal zs b ≡ equality_weight o zs b
   unfolding part_weight
   part-equal b = refl
 
   -- the part Done is the equality weights, moved up by one row
-  pub part-done : (b : ℕ) → part_weight o Done zs b ≡ shifted 0 (weight o zs) b
+  pub part-done : (b : ℕ) → part_weight o Done zs b ≡ shifted 0 (equality_weight o zs) b
   unfolding part_weight
   part-done b = refl
 
   -- at row 0, nothing is done
   pub done-zero : part_weight o Done zs 0 ≡ 0
-  done-zero = part-done 0 ∙ shifted-zero 0 (weight o zs)
+  done-zero = part-done 0 ∙ shifted-zero 0 (equality_weight o zs)
 
   -- at the row after b, the weight of row b is
-  pub done-suc : (b : ℕ) → part_weight o Done zs (suc b) ≡ weight o zs b
-  done-suc b = part-done (suc b) ∙ shifted-suc 0 (weight o zs) b
+  pub done-suc : (b : ℕ) → part_weight o Done zs (suc b) ≡ equality_weight o zs b
+  done-suc b = part-done (suc b) ∙ shifted-suc 0 (equality_weight o zs) b
 
   -- at row 0, the weight of the last row is carried
-  pub carry-zero : part_weight o Carry zs 0 ≡ weight o zs (2 ^ length zs - 1)
+  pub carry-zero : part_weight o Carry zs 0 ≡ equality_weight o zs (2 ^ length zs - 1)
   unfolding part_weight
-  carry-zero = only_at-here 0 (λ k. weight o zs (2 ^ length zs - 1)) 0 refl
+  carry-zero = only_at-here 0 (λ k. equality_weight o zs (2 ^ length zs - 1)) 0 refl
 
   -- at the other rows, nothing is
   pub carry-suc : (b : ℕ) → part_weight o Carry zs (suc b) ≡ 0
   unfolding part_weight
-  carry-suc b = only_at-elsewhere 0 (λ k. weight o zs (2 ^ length zs - 1)) (suc b) (λ e. omega arith)
+  carry-suc b = only_at-elsewhere 0 (λ k. equality_weight o zs (2 ^ length zs - 1)) (suc b) (λ e. omega arith)
 
   -- the last row has its own weight
-  pub omega-last : (b : ℕ) → b ≡ 2 ^ length zs - 1 → part_weight o Omega zs b ≡ weight o zs b
+  pub omega-last : (b : ℕ) → b ≡ 2 ^ length zs - 1 → part_weight o Omega zs b ≡ equality_weight o zs b
   unfolding part_weight
-  omega-last b e = only_at-here (2 ^ length zs - 1) (weight o zs) b e
+  omega-last b e = only_at-here (2 ^ length zs - 1) (equality_weight o zs) b e
 
   -- the other rows have none
   pub omega-before : (b : ℕ) → (b ≡ 2 ^ length zs - 1 → ⊥) → part_weight o Omega zs b ≡ 0
   unfolding part_weight
-  omega-before b other = only_at-elsewhere (2 ^ length zs - 1) (weight o zs) b other
+  omega-before b other = only_at-elsewhere (2 ^ length zs - 1) (equality_weight o zs) b other
 
 module _ (o : Ops) (ring : IsRing o) where
   -- a part's weights are elements
@@ -107,11 +107,11 @@ module _ (o : Ops) (ring : IsRing o) where
       let last : q * P + (P - 1) ≡ Q * P - 1 = omega (arith, pos, rows) in
       last ∙ ap (λ n. n - 1) (sym (rows-append xs ys))
 
-  weight-last : (xs ys : List ℕ) →
-      weight o (xs ++ ys) (2 ^ length (xs ++ ys) - 1) ≡ times o (weight o xs (2 ^ length xs - 1)) (weight o ys (2 ^ length ys - 1))
-  weight-last xs ys =
-      ap (weight o (xs ++ ys)) (sym (last-append xs ys))
-      ∙ weight-append o ring xs ys (2 ^ length xs - 1) (2 ^ length ys - 1) (omega (arith, pow_pos (length xs))) (omega (arith, pow_pos (length ys)))
+  equality_weight-last : (xs ys : List ℕ) →
+      equality_weight o (xs ++ ys) (2 ^ length (xs ++ ys) - 1) ≡ times o (equality_weight o xs (2 ^ length xs - 1)) (equality_weight o ys (2 ^ length ys - 1))
+  equality_weight-last xs ys =
+      ap (equality_weight o (xs ++ ys)) (sym (last-append xs ys))
+      ∙ equality_weight-append o ring xs ys (2 ^ length xs - 1) (2 ^ length ys - 1) (omega (arith, pow_pos (length xs))) (omega (arith, pow_pos (length ys)))
 
   -- carried in both parts
   pub carry-append : (xs ys : List ℕ) (a c : ℕ) → a < 2 ^ length xs → c < 2 ^ length ys →
@@ -128,8 +128,8 @@ module _ (o : Ops) (ring : IsRing o) where
       ∙ sym (ap (λ n. times o n (part_weight o Carry ys 0)) (carry-suc o xs a) ∙ zero-times (part_weight o Carry ys 0))
   carry-append xs ys zero zero la lc =
       let e : 0 * 2 ^ length ys + 0 ≡ 0 = omega arith in
-      ap (part_weight o Carry (xs ++ ys)) e ∙ carry-zero o (xs ++ ys) ∙ weight-last xs ys
-      ∙ sym (ap (λ n. times o n (part_weight o Carry ys 0)) (carry-zero o xs) ∙ ap (times o (weight o xs (2 ^ length xs - 1))) (carry-zero o ys))
+      ap (part_weight o Carry (xs ++ ys)) e ∙ carry-zero o (xs ++ ys) ∙ equality_weight-last xs ys
+      ∙ sym (ap (λ n. times o n (part_weight o Carry ys 0)) (carry-zero o xs) ∙ ap (times o (equality_weight o xs (2 ^ length xs - 1))) (carry-zero o ys))
 
   -- done in the second part, or in the first where the second carries
   pub done-append : (xs ys : List ℕ) (a c : ℕ) → a < 2 ^ length xs → c < 2 ^ length ys →
@@ -140,9 +140,9 @@ module _ (o : Ops) (ring : IsRing o) where
       let e : a * 2 ^ length ys + suc c ≡ suc (a * 2 ^ length ys + c) = omega arith in
       let X = part_weight o Equal xs a in let D = part_weight o Done xs a in
       ap (part_weight o Done (xs ++ ys)) e ∙ done-suc o (xs ++ ys) (a * 2 ^ length ys + c)
-      ∙ weight-append o ring xs ys a c la (omega (arith, lc))
-      ∙ ap (λ n. times o n (weight o ys c)) (sym (part-equal o xs a))
-      ∙ identity o ring (X ∷ weight o ys c ∷ D ∷ []) (atom 0 ⊗ atom 1) (atom 0 ⊗ atom 1 ⊕ atom 2 ⊗ nought) tt tt refl
+      ∙ equality_weight-append o ring xs ys a c la (omega (arith, lc))
+      ∙ ap (λ n. times o n (equality_weight o ys c)) (sym (part-equal o xs a))
+      ∙ identity o ring (X ∷ equality_weight o ys c ∷ D ∷ []) (atom 0 ⊗ atom 1) (atom 0 ⊗ atom 1 ⊕ atom 2 ⊗ nought) tt tt refl
       ∙ ap (λ n. plus o (times o X n) (times o D 0)) (sym (done-suc o ys c))
       ∙ ap (λ n. plus o (times o X (part_weight o Done ys (suc c))) (times o D n)) (sym (carry-suc o ys c))
   done-append xs ys zero zero la lc =
@@ -158,10 +158,10 @@ module _ (o : Ops) (ring : IsRing o) where
       let e : suc a * P + 0 ≡ suc (a * P + (P - 1)) = omega arith in
       let X = part_weight o Equal xs (suc a) in
       ap (part_weight o Done (xs ++ ys)) e ∙ done-suc o (xs ++ ys) (a * P + (P - 1))
-      ∙ weight-append o ring xs ys a (P - 1) (omega (arith, la)) (omega (arith, pos))
-      ∙ identity o ring (X ∷ weight o xs a ∷ weight o ys (P - 1) ∷ []) (atom 1 ⊗ atom 2) (atom 0 ⊗ nought ⊕ atom 1 ⊗ atom 2) tt tt refl
-      ∙ ap (λ n. plus o (times o X n) (times o (weight o xs a) (weight o ys (P - 1)))) (sym (done-zero o ys))
-      ∙ ap (λ n. plus o (times o X (part_weight o Done ys 0)) (times o n (weight o ys (P - 1)))) (sym (done-suc o xs a))
+      ∙ equality_weight-append o ring xs ys a (P - 1) (omega (arith, la)) (omega (arith, pos))
+      ∙ identity o ring (X ∷ equality_weight o xs a ∷ equality_weight o ys (P - 1) ∷ []) (atom 1 ⊗ atom 2) (atom 0 ⊗ nought ⊕ atom 1 ⊗ atom 2) tt tt refl
+      ∙ ap (λ n. plus o (times o X n) (times o (equality_weight o xs a) (equality_weight o ys (P - 1)))) (sym (done-zero o ys))
+      ∙ ap (λ n. plus o (times o X (part_weight o Done ys 0)) (times o n (equality_weight o ys (P - 1)))) (sym (done-suc o xs a))
       ∙ ap (λ n. plus o (times o X (part_weight o Done ys 0)) (times o (part_weight o Done xs (suc a)) n)) (sym (carry-zero o ys))
 
   -- the last row in both parts
@@ -174,8 +174,8 @@ module _ (o : Ops) (ring : IsRing o) where
       (λ a_last. ⊎_elim
       (λ c_last.
       omega-last o (xs ++ ys) (a * P + c) (ap (λ k. k * P + c) a_last ∙ ap (λ k. (Q - 1) * P + k) c_last ∙ last)
-      ∙ weight-append o ring xs ys a c la lc
-      ∙ ap (λ n. times o n (weight o ys c)) (sym (omega-last o xs a a_last))
+      ∙ equality_weight-append o ring xs ys a c la lc
+      ∙ ap (λ n. times o n (equality_weight o ys c)) (sym (omega-last o xs a a_last))
       ∙ ap (times o (part_weight o Omega xs a)) (sym (omega-last o ys c c_last)))
       (λ c_not.
       omega-before o (xs ++ ys) (a * P + c)
@@ -210,7 +210,7 @@ module _ (o : Ops) (ring : IsRing o) where
 
   -- it weighs a row by its successor weight
   pub successor-kind : (order : Order) (zs : List ℕ) (b : ℕ) → b < 2 ^ length zs → weight_of o (successor order [] zs) b ≡ successor_weight o zs b
-  unfolding weight_of slot_weight weight
+  unfolding weight_of slot_weight equality_weight
   successor-kind prefix zs b low =
       ap (λ k. times o 1 (successor_weight o zs k)) (mod-eq_of_lt low)
       ∙ times_comm o ring 1 (successor_weight o zs b) ∙ times-one o ring (successor_weight o zs b) ∙ element-successor zs b
@@ -238,20 +238,20 @@ module _ (o : Ops) (ring : IsRing o) where
   unfolding value Agree
   value-products f g h xs ys is =
       let Q = 2 ^ length xs in let P = 2 ^ length ys in
-      let term : Part → ℕ → ℕ → ℕ = λ part a c. times o (times o (g part a) (weight o xs a)) (times o (h part c) (weight o ys c)) in
+      let term : Part → ℕ → ℕ → ℕ = λ part a c. times o (times o (g part a) (equality_weight o xs a)) (times o (h part c) (equality_weight o ys c)) in
       let A = atom 0 in let B = atom 1 in let C = atom 2 in let D = atom 3 in let E = atom 4 in let F = atom 5 in
       let V = atom 6 in let W = atom 7 in
-      ap (λ n. sum_below o n (λ b. times o (f b) (weight o (xs ++ ys) b))) (rows-append xs ys)
-      ∙ sum-blocks o ring Q P (λ b. times o (f b) (weight o (xs ++ ys) b))
+      ap (λ n. sum_below o n (λ b. times o (f b) (equality_weight o (xs ++ ys) b))) (rows-append xs ys)
+      ∙ sum-blocks o ring Q P (λ b. times o (f b) (equality_weight o (xs ++ ys) b))
       ∙ sum-same o Q _ _ (λ a la. sum-same o P _ (λ c. three o (λ part. term part a c)) (λ c lc.
-      ap (λ k. times o k (weight o (xs ++ ys) (a * P + c))) (is a c la lc)
-      ∙ ap (times o (three o (λ part. times o (g part a) (h part c)))) (weight-append o ring xs ys a c la lc)
-      ∙ identity o ring (g Done a ∷ h Done c ∷ g Carry a ∷ h Carry c ∷ g Omega a ∷ h Omega c ∷ weight o xs a ∷ weight o ys c ∷ [])
+      ap (λ k. times o k (equality_weight o (xs ++ ys) (a * P + c))) (is a c la lc)
+      ∙ ap (times o (three o (λ part. times o (g part a) (h part c)))) (equality_weight-append o ring xs ys a c la lc)
+      ∙ identity o ring (g Done a ∷ h Done c ∷ g Carry a ∷ h Carry c ∷ g Omega a ∷ h Omega c ∷ equality_weight o xs a ∷ equality_weight o ys c ∷ [])
       (((A ⊗ B ⊕ C ⊗ D) ⊕ E ⊗ F) ⊗ (V ⊗ W))
       (((A ⊗ V) ⊗ (B ⊗ W) ⊕ (C ⊗ V) ⊗ (D ⊗ W)) ⊕ (E ⊗ V) ⊗ (F ⊗ W)) tt tt refl)
       ∙ sum-three P (λ part c. term part a c))
       ∙ sum-three Q (λ part a. sum_below o P (term part a))
-      ∙ three-same _ _ (λ part. sym (sums-product o ring Q P (λ a. times o (g part a) (weight o xs a)) (λ c. times o (h part c) (weight o ys c))))
+      ∙ three-same _ _ (λ part. sym (sums-product o ring Q P (λ a. times o (g part a) (equality_weight o xs a)) (λ c. times o (h part c) (equality_weight o ys c))))
 
   -- ---- parts at a second point
 
@@ -275,7 +275,7 @@ module _ (o : Ops) (ring : IsRing o) where
   -- the weights of the last row and of row 0, multiplied
   pub carry-at : (zs xs : List ℕ) → length zs ≡ length xs → part_at o Carry zs xs ≡ next_carry o zs xs
   unfolding part_at part_weight value next_carry
-  carry-at zs xs size = sum-only_at (2 ^ length xs) 0 (λ k. weight o zs (2 ^ length zs - 1)) (weight o xs) (pow_pos (length xs))
+  carry-at zs xs size = sum-only_at (2 ^ length xs) 0 (λ k. equality_weight o zs (2 ^ length zs - 1)) (equality_weight o xs) (pow_pos (length xs))
 
   -- those of each row but the last and of the row after it, in sum
   pub done-at : (zs xs : List ℕ) → length zs ≡ length xs → part_at o Done zs xs ≡ next_done o zs xs
@@ -284,7 +284,7 @@ module _ (o : Ops) (ring : IsRing o) where
       let n = 2 ^ length zs - 1 in
       let same : 2 ^ length zs ≡ 2 ^ length xs = ap (λ k. 2 ^ k) size in
       let whole : 2 ^ length xs ≡ suc n = omega (arith, same, pow_pos (length xs)) in
-      let w = weight o zs in let v = weight o xs in
+      let w = equality_weight o zs in let v = equality_weight o xs in
       let up : ℕ → ℕ = λ b. times o (shifted 0 w b) (v b) in
       let S = sum_below o n (λ b. times o (w b) (v (b + 1))) in
       ap (λ k. sum_below o k up) whole ∙ sum-first o ring n up
@@ -299,7 +299,7 @@ module _ (o : Ops) (ring : IsRing o) where
   unfolding part_at part_weight value next_omega
   omega-at zs xs size =
       let same : 2 ^ length zs ≡ 2 ^ length xs = ap (λ k. 2 ^ k) size in
-      sum-only_at (2 ^ length xs) (2 ^ length zs - 1) (weight o zs) (weight o xs) (omega (arith, same, pow_pos (length xs)))
+      sum-only_at (2 ^ length xs) (2 ^ length zs - 1) (equality_weight o zs) (equality_weight o xs) (omega (arith, same, pow_pos (length xs)))
 
   -- ---- points that are joined of two
 

@@ -5,19 +5,19 @@ use Rattle.std.specs.List.{range_with_len}
 use Rattle.std.proofs.Math.Nat.{add-mul}
 use Rattle.std.proofs.lemmas.List.FromFn.{length-map-range_with_len, get_or-map-range_with_len, map-range_with_len_more, fill_by_all}
 use Rattle.sc_definitions.specs.Ring.{Ops, IsRing, element, plus, times, minus}
-use Rattle.sc_definitions.specs.Tables.{Order, prefix, suffix, sum_below, rows_of, weight, value, inner, bound, bound_low}
+use Rattle.sc_definitions.specs.Tables.{Order, prefix, suffix, sum_below, rows_of, equality_weight, value, inner_product, bound, bound_low}
 use Rattle.sc_definitions.specs.Messages.{low_entry, high_entry}
-use Rattle.sc_definitions.specs.Grids.{Digit, nought, one, infinity, grid_value, grid_entry}
+use Rattle.sc_definitions.specs.Grids.{Digit, digit_zero, one, infinity, grid_value, grid_entry}
 use Rattle.sc_definitions.specs.Partials.{joined_row, summed_first, summed_last, summed_behind, kept_of, behind_of, partial, partials_of}
-use Rattle.sc_definitions.specs.Standings.{entries_of}
+use Rattle.sc_definitions.specs.ProverStates.{entries_of}
 use Rattle.sc_definitions.proofs.RingLaws.{times_comm}
 use Rattle.sc_definitions.proofs.Sums.{sum-same}
 use Rattle.sc_definitions.proofs.Lengths.{times-pow_suc}
 use Rattle.sc_definitions.proofs.TableLaws.{value-line, value-none, lines-weighted}
 use Rattle.sc_definitions.proofs.SuffixLaws.{value-bound_low}
-use Rattle.sc_definitions.proofs.BlockLaws.{sum-times, weight-append}
+use Rattle.sc_definitions.proofs.BlockLaws.{sum-times, equality_weight-append}
 use Rattle.sc_definitions.proofs.GridLaws.{grid_value-same, grid_value-times, grid_value-sum_below}
-use Rattle.sc_definitions.proofs.StandingLaws.{entries-is}
+use Rattle.sc_definitions.proofs.ProverStateLaws.{entries-is}
 use Rattle.sc_definitions.proofs.Identity.{atom, ◌⊗◌, Agree, identity}
 
 -- ---- the coordinates that are kept, and those of the others
@@ -83,7 +83,7 @@ pub grid_value-behind : (order : Order) (o : Ops) (f : ℕ → ℕ) (ds : List D
     grid_value order o f ds m c ≡ grid_value order o (λ a. f (joined_row order (length ds) m a c)) ds 0 0
 unfolding grid_value
 grid_value-behind order o f [] m c = ap f (sym (joined_row-none order m c))
-grid_value-behind order o f (nought ∷ ds) m c =
+grid_value-behind order o f (digit_zero ∷ ds) m c =
     grid_value-behind order o (low_entry order f) ds m c
     ∙ ap (λ t. grid_value order o t ds 0 0) (fun_ext (λ a. joined-low order f (length ds) m a c))
 grid_value-behind order o f (one ∷ ds) m c =
@@ -100,22 +100,22 @@ module _ (o : Ops) (ring : IsRing o) where
   -- ---- weights that are products
 
   -- the equality weight of a row is the product of that of the kept coordinates and that of the others
-  pub weight-split : (order : Order) (zs : List ℕ) (l m a c : ℕ) → length zs ≡ l + m → a < 2 ^ l → c < 2 ^ m →
-      weight o zs (joined_row order l m a c) ≡ times o (weight o (kept_of order l zs) a) (weight o (behind_of order l zs) c)
-  weight-split prefix zs l m a c whole la lc =
+  pub equality_weight-split : (order : Order) (zs : List ℕ) (l m a c : ℕ) → length zs ≡ l + m → a < 2 ^ l → c < 2 ^ m →
+      equality_weight o zs (joined_row order l m a c) ≡ times o (equality_weight o (kept_of order l zs) a) (equality_weight o (behind_of order l zs) c)
+  equality_weight-split prefix zs l m a c whole la lc =
       let first : length (take l zs) ≡ l = length-take-le l zs (omega arith) in
       let second : length (drop l zs) ≡ m = length-drop l zs ∙ omega arith in
-      ap (λ t. weight o t (a * 2 ^ m + c)) (sym (take-append-drop l zs))
-      ∙ ap (λ n. weight o (take l zs ++ drop l zs) (a * 2 ^ n + c)) (sym second)
-      ∙ weight-append o ring (take l zs) (drop l zs) a c (rw first la) (rw second lc)
-  weight-split suffix zs l m a c whole la lc =
+      ap (λ t. equality_weight o t (a * 2 ^ m + c)) (sym (take-append-drop l zs))
+      ∙ ap (λ n. equality_weight o (take l zs ++ drop l zs) (a * 2 ^ n + c)) (sym second)
+      ∙ equality_weight-append o ring (take l zs) (drop l zs) a c (rw first la) (rw second lc)
+  equality_weight-split suffix zs l m a c whole la lc =
       let k = length zs - l in
       let first : length (take k zs) ≡ m = length-take-le k zs (omega arith) ∙ omega arith in
       let second : length (drop k zs) ≡ l = length-drop k zs ∙ omega arith in
-      ap (λ t. weight o t (c * 2 ^ l + a)) (sym (take-append-drop k zs))
-      ∙ ap (λ n. weight o (take k zs ++ drop k zs) (c * 2 ^ n + a)) (sym second)
-      ∙ weight-append o ring (take k zs) (drop k zs) c a (rw first lc) (rw second la)
-      ∙ times_comm o ring (weight o (take k zs) c) (weight o (drop k zs) a)
+      ap (λ t. equality_weight o t (c * 2 ^ l + a)) (sym (take-append-drop k zs))
+      ∙ ap (λ n. equality_weight o (take k zs ++ drop k zs) (c * 2 ^ n + a)) (sym second)
+      ∙ equality_weight-append o ring (take k zs) (drop k zs) c a (rw first lc) (rw second la)
+      ∙ times_comm o ring (equality_weight o (take k zs) c) (equality_weight o (drop k zs) a)
 
   -- the value at digits of weights that are products, with row c after: that of the weights in front, times the weight of c
   pub grid_value-product : (order : Order) (w u v : ℕ → ℕ) (ds : List Digit) (m c : ℕ) →
@@ -129,8 +129,8 @@ module _ (o : Ops) (ring : IsRing o) where
 
   -- the value at digits of a table summed over the others is the sum of its values at the digits, each times the weight of the row after
   pub grid_value-summed : (order : Order) (f v : ℕ → ℕ) (ds : List Digit) (m : ℕ) →
-      grid_value order o (summed_behind order o (length ds) m v f) ds 0 0 ≡ inner o m (grid_value order o f ds m) v
-  unfolding inner
+      grid_value order o (summed_behind order o (length ds) m v f) ds 0 0 ≡ inner_product o m (grid_value order o f ds m) v
+  unfolding inner_product
   grid_value-summed order f v ds m =
       let row : ℕ → ℕ → ℕ = λ c a. f (joined_row order (length ds) m a c) in
       ap (λ t. grid_value order o t ds 0 0) (fun_ext (λ a. summed_behind-rows order o (length ds) m v f a))
@@ -142,7 +142,7 @@ module _ (o : Ops) (ring : IsRing o) where
   pub grid_entry-product : (order : Order) (f w u v : ℕ → ℕ) (ds : List Digit) (m : ℕ) →
       ((a c : ℕ) → a < 2 ^ length ds → c < 2 ^ m → w (joined_row order (length ds) m a c) ≡ times o (u a) (v c)) →
       grid_entry order o f w ds m ≡ times o (grid_value order o (summed_behind order o (length ds) m v f) ds 0 0) (grid_value order o u ds 0 0)
-  unfolding grid_entry inner Agree
+  unfolding grid_entry inner_product Agree
   grid_entry-product order f w u v ds m is =
       let F = grid_value order o f ds m in
       let U = grid_value order o u ds 0 0 in
@@ -154,15 +154,15 @@ module _ (o : Ops) (ring : IsRing o) where
 
   -- the entry under equality weights: the value at the digits of the partial table, times that of the kept coordinates' weights
   pub grid_entry-partial : (order : Order) (f : ℕ → ℕ) (zs : List ℕ) (ds : List Digit) (m : ℕ) → length zs ≡ length ds + m →
-      grid_entry order o f (weight o zs) ds m
-      ≡ times o (grid_value order o (partial order o f zs (length ds)) ds 0 0) (grid_value order o (weight o (kept_of order (length ds) zs)) ds 0 0)
+      grid_entry order o f (equality_weight o zs) ds m
+      ≡ times o (grid_value order o (partial order o f zs (length ds)) ds 0 0) (grid_value order o (equality_weight o (kept_of order (length ds) zs)) ds 0 0)
   unfolding partial
   grid_entry-partial order f zs ds m whole =
       let l = length ds in
       let left : m ≡ length zs - l = omega arith in
-      let kept = weight o (kept_of order l zs) in
-      let behind = weight o (behind_of order l zs) in
-      grid_entry-product order f (weight o zs) kept behind ds m (λ a c la lc. weight-split order zs l m a c whole la lc)
+      let kept = equality_weight o (kept_of order l zs) in
+      let behind = equality_weight o (behind_of order l zs) in
+      grid_entry-product order f (equality_weight o zs) kept behind ds m (λ a c la lc. equality_weight-split order zs l m a c whole la lc)
       ∙ ap (λ n. times o (grid_value order o (summed_behind order o l n behind f) ds 0 0) (grid_value order o kept ds 0 0)) left
 
   -- ---- partial tables
@@ -174,8 +174,8 @@ module _ (o : Ops) (ring : IsRing o) where
   partial-value order f zs l a =
       let m = length zs - l in
       let behind = behind_of order l zs in
-      summed_behind-rows order o l m (weight o behind) f a
-      ∙ ap (λ n. sum_below o (2 ^ n) (λ c. times o (f (joined_row order l m a c)) (weight o behind c))) (sym (length-behind_of order l zs))
+      summed_behind-rows order o l m (equality_weight o behind) f a
+      ∙ ap (λ n. sum_below o (2 ^ n) (λ c. times o (f (joined_row order l m a c)) (equality_weight o behind c))) (sym (length-behind_of order l zs))
 
   -- prefix: the partial table that keeps l variables is the one that keeps one more, with its last variable at the coordinate of that one
   pub partial-step_prefix : (f : ℕ → ℕ) (zs : List ℕ) (l z a : ℕ) → l < length zs → z ≡ get_or zs l z →
@@ -219,7 +219,7 @@ module _ (o : Ops) (ring : IsRing o) where
       ∙ ap (λ n. value o g (take n zs)) more
       ∙ ap (value o g) split
       ∙ value-bound_low o ring g ys z
-      ∙ lines-weighted o ring (2 ^ length ys) (λ c. g (2 * c)) (λ c. g (2 * c + 1)) (weight o ys) z
+      ∙ lines-weighted o ring (2 ^ length ys) (λ c. g (2 * c)) (λ c. g (2 * c + 1)) (equality_weight o ys) z
       ∙ ap (λ t. plus o (value o t ys) (times o (minus o (value o (λ c. g (2 * c + 1)) ys) (value o t ys)) z)) (fun_ext (λ c. ap f (first c)))
       ∙ ap (λ t. plus o (value o (row a) ys) (times o (minus o (value o t ys) (value o (row a) ys)) z)) (fun_ext (λ c. ap f (second c)))
       ∙ ap (λ k. plus o k (times o (minus o (value o (row (2 ^ l + a)) ys) k) z)) (sym (partial-value suffix f zs (suc l) a))

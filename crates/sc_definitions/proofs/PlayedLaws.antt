@@ -2,11 +2,11 @@
 use Rattle.std.proofs.Common.{◌≡◌, ℕ, suc, ◌+◌, ◌*◌, ◌^◌, ◌<◌, List, [], ◌∷◌, ap, sym, ◌∙◌, arith}
 use Rattle.std.proofs.Math.Nat.{pow-suc}
 use Rattle.sc_definitions.specs.Ring.{Ops, IsRing, element}
-use Rattle.sc_definitions.specs.Tables.{Basis, evaluation, projective, Order, prefix, suffix, value, point_of, digits, bound, bound_low, bound_coefficients, bound_in, bound_by}
+use Rattle.sc_definitions.specs.Tables.{Basis, evaluation, projective, Order, prefix, suffix, value, point_of, digits, bound, bound_low, bound_coefficients, folded_in, folded_by}
 use Rattle.sc_definitions.specs.Messages.{low_entry, high_entry, first_term, leading_term, message_first, message_leading, message_of}
-use Rattle.sc_definitions.specs.Rounds.{placed_entry}
+use Rattle.sc_definitions.specs.Rounds.{partial_value}
 use Rattle.sc_definitions.proofs.Sums.{sum-same}
-use Rattle.sc_definitions.proofs.PlacedLaws.{placed_entry-bound_by}
+use Rattle.sc_definitions.proofs.PlacedLaws.{partial_value-folded_by}
 
 -- ---- tables that agree at each row
 
@@ -41,25 +41,25 @@ message-same projective order o half f g w v p q =
     ap (λ c. c ∷ message_leading projective order o half f w ∷ []) (sum-same o half _ _ (λ b low. cc (f0 b low, f1 b low, w0 b low, w1 b low)))
     ∙ ap (λ c. message_first projective order o half g v ∷ c ∷ []) (sum-same o half _ _ (λ b low. cc (f1 b low, w1 b low)))
 
-pub bound_in-same : (basis : Basis) (order : Order) (o : Ops) (m r b : ℕ) (f g : ℕ → ℕ) → b < 2 ^ m →
-    ((k : ℕ) → k < 2 ^ suc m → f k ≡ g k) → bound_in basis order o m r f b ≡ bound_in basis order o m r g b
+pub folded_in-same : (basis : Basis) (order : Order) (o : Ops) (m r b : ℕ) (f g : ℕ → ℕ) → b < 2 ^ m →
+    ((k : ℕ) → k < 2 ^ suc m → f k ≡ g k) → folded_in basis order o m r f b ≡ folded_in basis order o m r g b
 unfolding bound bound_low bound_coefficients
-bound_in-same evaluation prefix o m r b f g low same =
+folded_in-same evaluation prefix o m r b f g low same =
     let twice : 2 ^ suc m ≡ 2 ^ m * 2 = pow-suc 2 m in
     let first : f b ≡ g b = same b (omega (arith, low, twice)) in
     let second : f (2 ^ m + b) ≡ g (2 ^ m + b) = same (2 ^ m + b) (omega (arith, low, twice)) in cc
-bound_in-same evaluation suffix o m r b f g low same =
+folded_in-same evaluation suffix o m r b f g low same =
     let twice : 2 ^ suc m ≡ 2 ^ m * 2 = pow-suc 2 m in
     let first : f (2 * b) ≡ g (2 * b) = same (2 * b) (omega (arith, low, twice)) in
     let second : f (2 * b + 1) ≡ g (2 * b + 1) = same (2 * b + 1) (omega (arith, low, twice)) in cc
-bound_in-same projective order o m r b f g low same =
+folded_in-same projective order o m r b f g low same =
     let twice : 2 ^ suc m ≡ 2 ^ m * 2 = pow-suc 2 m in
     let first : f b ≡ g b = same b (omega (arith, low, twice)) in
     let second : f (2 ^ m + b) ≡ g (2 ^ m + b) = same (2 ^ m + b) (omega (arith, low, twice)) in cc
 
 -- all rounds were played: the one entry that is left is the table's value at the challenges
 pub value-played : (order : Order) (o : Ops) → IsRing o → (f f' : ℕ → ℕ) (rs : List ℕ) →
-    ((b : ℕ) → b < 2 ^ 0 → f' b ≡ bound_by evaluation order o rs 0 f b) → value o f (point_of order rs) ≡ element o (f' 0)
-unfolding placed_entry digits
+    ((b : ℕ) → b < 2 ^ 0 → f' b ≡ folded_by evaluation order o rs 0 f b) → value o f (point_of order rs) ≡ element o (f' 0)
+unfolding partial_value digits
 value-played order o ring f f' rs e =
-    placed_entry-bound_by o ring evaluation order f rs 0 0 (omega arith) ∙ ap (element o) (sym (e 0 (omega arith)))
+    partial_value-folded_by o ring evaluation order f rs 0 0 (omega arith) ∙ ap (element o) (sym (e 0 (omega arith)))

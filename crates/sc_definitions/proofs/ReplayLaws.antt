@@ -8,7 +8,7 @@ use Rattle.sc_definitions.specs.Rounds.{claim_along}
 use Rattle.sc_definitions.specs.Events.{Rules, Extension, words}
 use Rattle.sc_definitions.specs.Transcript.{Round, round_of, messages_of, sent, round_events, rounds_events, challenge, challenges}
 use Rattle.sc_definitions.specs.Replays.{round_passes, AllPass, given_rounds}
-use Rattle.sc_definitions.specs.Channels.{Channel, Footing, IsTaken, IsReplayed}
+use Rattle.sc_definitions.specs.Channels.{Channel, VerifierState, IsTaken, IsReplayed}
 use Rattle.sc_definitions.proofs.BuiltLaws.{challenges-append, length-challenges, length-messages, claim_along-append}
 
 pub AllPass-append : (R : Rules) (E : Extension) (bits : ℕ) (h : List Event) (rs : List Round) (r : Round) →
@@ -42,12 +42,12 @@ AllPass_take R E bits h rs i d lt a p = rw (take_more rs i d lt) (AllPass-append
 -- ---- a replay
 
 -- no round yet
-pub replayed-none : (next : ℕ → List ℕ → ℕ → ℕ) (c : Channel) (before : Footing) → IsReplayed next c before before [] []
+pub replayed-none : (next : ℕ → List ℕ → ℕ → ℕ) (c : Channel) (before : VerifierState) → IsReplayed next c before before [] []
 unfolding claim_along
 replayed-none next c before = record { history = sym (append-nil before.history); drawn = refl; claim = refl; passes = tt }
 
 -- one round more
-pub replayed-more : (next : ℕ → List ℕ → ℕ → ℕ) (c : Channel) (before at after : Footing) (rounds : List Round) (i : ℕ) (r : Round) (rs : List ℕ) (x : ℕ) →
+pub replayed-more : (next : ℕ → List ℕ → ℕ → ℕ) (c : Channel) (before at after : VerifierState) (rounds : List Round) (i : ℕ) (r : Round) (rs : List ℕ) (x : ℕ) →
     i < length rounds → get_or rounds i r ≡ r → IsReplayed next c before at (take i rounds) rs →
     IsTaken c at.history r x after.history → after.claim ≡ next at.claim r.values x → IsReplayed next c before after (take (i + 1) rounds) (rs ++ x ∷ [])
 replayed-more next c before at after rounds i r rs x lt is p q claimed =

@@ -1,15 +1,15 @@
--- The slow round polynomial, its message and the true claims fit together.
+-- The round polynomial, its message and the true claims fit together.
 use Rattle.std.proofs.Common.{◌≡◌, ℕ, suc, ◌^◌, ◌<◌, List, [], ◌∷◌, ◌++◌, sym, ◌∙◌, ap, refl}
 use Rattle.sc_definitions.specs.Ring.{Ops, IsRing, element, times, minus}
-use Rattle.sc_definitions.specs.Tables.{Basis, evaluation, projective, Order, prefix, suffix, IsOffered, sum_below, inner, bound_in, bound_by}
-use Rattle.sc_definitions.specs.Rounds.{true_claim, slow_leading, slow_round, honest_pair, sent_pair, sent_polynomial, next_claim}
+use Rattle.sc_definitions.specs.Tables.{Basis, evaluation, projective, Order, prefix, suffix, IsOffered, sum_below, inner_product, folded_in, folded_by}
+use Rattle.sc_definitions.specs.Rounds.{true_claim, slow_leading, round_polynomial, honest_message, sent_pair, sent_polynomial, next_claim}
 use Rattle.sc_definitions.specs.Messages.{first_term, leading_term, message_first, message_leading, message_of}
 use Rattle.sc_definitions.specs.Polynomials.{poly_at}
 use Rattle.sc_definitions.proofs.Sums.{sum-same}
 use Rattle.sc_definitions.proofs.Identity.{Form, atom, nought, unit, ◌⊕◌, ◌⊗◌, ◌⊖◌, Agree, identity}
 use Rattle.sc_definitions.proofs.TableLaws.{times-elements}
-use Rattle.sc_definitions.proofs.PlacedLaws.{placed_entry-bound_by, bound_by-append}
-use Rattle.sc_definitions.proofs.MessageLaws.{inner-bound_in, line-at_zero, line-both, slope-values, slope-coefficients}
+use Rattle.sc_definitions.proofs.PlacedLaws.{partial_value-folded_by, folded_by-append}
+use Rattle.sc_definitions.proofs.MessageLaws.{inner_product-folded_in, line-at_zero, line-both, slope-values, slope-coefficients}
 
 module _ (o : Ops) (ring : IsRing o) where
   -- sums of products of equal elements
@@ -25,27 +25,27 @@ module _ (o : Ops) (ring : IsRing o) where
 
   -- the true claim is the sum of the bound tables' products
   pub true_claim-inner : (basis : Basis) (order : Order) (f w : ℕ → ℕ) (rs : List ℕ) (m : ℕ) →
-      true_claim basis order o f w rs m ≡ inner o m (bound_by basis order o rs m f) (bound_by basis order o rs m w)
-  unfolding true_claim inner
+      true_claim basis order o f w rs m ≡ inner_product o m (folded_by basis order o rs m f) (folded_by basis order o rs m w)
+  unfolding true_claim inner_product
   true_claim-inner basis order f w rs m =
-      sum-elements (2 ^ m) _ _ _ _ (placed_entry-bound_by o ring basis order f rs m) (placed_entry-bound_by o ring basis order w rs m)
+      sum-elements (2 ^ m) _ _ _ _ (partial_value-folded_by o ring basis order f rs m) (partial_value-folded_by o ring basis order w rs m)
 
   -- what an honest round sends first, from the bound tables: of values, and of coefficients
   value-at_zero : (order : Order) → IsOffered evaluation order → (f w : ℕ → ℕ) (rs : List ℕ) (m : ℕ) →
-      true_claim evaluation order o f w (rs ++ 0 ∷ []) m ≡ message_first evaluation order o (2 ^ m) (bound_by evaluation order o rs (suc m) f) (bound_by evaluation order o rs (suc m) w)
-  unfolding true_claim inner first_term message_first
+      true_claim evaluation order o f w (rs ++ 0 ∷ []) m ≡ message_first evaluation order o (2 ^ m) (folded_by evaluation order o rs (suc m) f) (folded_by evaluation order o rs (suc m) w)
+  unfolding true_claim inner_product first_term message_first
   value-at_zero order offered f w rs m =
       sum-elements (2 ^ m) _ _ _ _ (line-at_zero o ring evaluation order offered f rs m) (line-at_zero o ring evaluation order offered w rs m)
 
   value-at_one : (f w : ℕ → ℕ) (rs : List ℕ) (m : ℕ) →
-      true_claim projective prefix o f w (rs ++ 1 ∷ []) m ≡ message_first projective prefix o (2 ^ m) (bound_by projective prefix o rs (suc m) f) (bound_by projective prefix o rs (suc m) w)
-  unfolding true_claim inner first_term message_first
+      true_claim projective prefix o f w (rs ++ 1 ∷ []) m ≡ message_first projective prefix o (2 ^ m) (folded_by projective prefix o rs (suc m) f) (folded_by projective prefix o rs (suc m) w)
+  unfolding true_claim inner_product first_term message_first
   value-at_one f w rs m = sum-elements (2 ^ m) _ _ _ _ (line-both o ring f rs m) (line-both o ring w rs m)
 
   -- and its leading coefficient
   leading-message : (basis : Basis) (order : Order) → IsOffered basis order → (f w : ℕ → ℕ) (rs : List ℕ) (m : ℕ) →
-      slow_leading basis order o f w rs m ≡ message_leading basis order o (2 ^ m) (bound_by basis order o rs (suc m) f) (bound_by basis order o rs (suc m) w)
-  unfolding slow_leading inner leading_term message_leading
+      slow_leading basis order o f w rs m ≡ message_leading basis order o (2 ^ m) (folded_by basis order o rs (suc m) f) (folded_by basis order o rs (suc m) w)
+  unfolding slow_leading inner_product leading_term message_leading
   leading-message evaluation order offered f w rs m =
       sum-products (2 ^ m) _ _ _ _ (slope-values o ring order offered f rs m) (slope-values o ring order offered w rs m)
   leading-message projective prefix offered f w rs m =
@@ -53,37 +53,37 @@ module _ (o : Ops) (ring : IsRing o) where
   leading-message projective suffix offered f w rs m = absurd offered
 
   -- an honest round sends the message of the bound tables
-  pub honest_pair-message : (basis : Basis) (order : Order) → IsOffered basis order → (f w : ℕ → ℕ) (rs : List ℕ) (m : ℕ) →
-      honest_pair basis order o f w rs m ≡ message_of basis order o (2 ^ m) (bound_by basis order o rs (suc m) f) (bound_by basis order o rs (suc m) w)
-  unfolding honest_pair
-  honest_pair-message evaluation order offered f w rs m =
+  pub honest_message-message : (basis : Basis) (order : Order) → IsOffered basis order → (f w : ℕ → ℕ) (rs : List ℕ) (m : ℕ) →
+      honest_message basis order o f w rs m ≡ message_of basis order o (2 ^ m) (folded_by basis order o rs (suc m) f) (folded_by basis order o rs (suc m) w)
+  unfolding honest_message
+  honest_message-message evaluation order offered f w rs m =
       ap (λ c. c ∷ slow_leading evaluation order o f w rs m ∷ []) (value-at_zero order offered f w rs m)
-      ∙ ap (λ q. message_first evaluation order o (2 ^ m) (bound_by evaluation order o rs (suc m) f) (bound_by evaluation order o rs (suc m) w) ∷ q ∷ [])
+      ∙ ap (λ q. message_first evaluation order o (2 ^ m) (folded_by evaluation order o rs (suc m) f) (folded_by evaluation order o rs (suc m) w) ∷ q ∷ [])
       (leading-message evaluation order offered f w rs m)
-  honest_pair-message projective prefix offered f w rs m =
+  honest_message-message projective prefix offered f w rs m =
       ap (λ c. c ∷ slow_leading projective prefix o f w rs m ∷ []) (value-at_one f w rs m)
-      ∙ ap (λ q. message_first projective prefix o (2 ^ m) (bound_by projective prefix o rs (suc m) f) (bound_by projective prefix o rs (suc m) w) ∷ q ∷ [])
+      ∙ ap (λ q. message_first projective prefix o (2 ^ m) (folded_by projective prefix o rs (suc m) f) (folded_by projective prefix o rs (suc m) w) ∷ q ∷ [])
       (leading-message projective prefix offered f w rs m)
-  honest_pair-message projective suffix offered f w rs m = absurd offered
+  honest_message-message projective suffix offered f w rs m = absurd offered
 
-  -- The honest pair and the true claim determine the slow round polynomial: what they send has its value at each r, the true claim at one challenge more.
+  -- The honest message and the true claim determine the round polynomial: what they send has its value at each r, the true claim at one challenge more.
   pub true_claim-next : (basis : Basis) (order : Order) → IsOffered basis order → (f w : ℕ → ℕ) (rs : List ℕ) (r m : ℕ) →
       true_claim basis order o f w (rs ++ r ∷ []) m
-      ≡ next_claim basis o (true_claim basis order o f w rs (suc m)) (honest_pair basis order o f w rs m) r
+      ≡ next_claim basis o (true_claim basis order o f w rs (suc m)) (honest_message basis order o f w rs m) r
   true_claim-next basis order offered f w rs r m =
-      let F = bound_by basis order o rs (suc m) f in let W = bound_by basis order o rs (suc m) w in
+      let F = folded_by basis order o rs (suc m) f in let W = folded_by basis order o rs (suc m) w in
       true_claim-inner basis order f w (rs ++ r ∷ []) m
-      ∙ ap (λ g. inner o m g (bound_by basis order o (rs ++ r ∷ []) m w)) (bound_by-append basis order o rs r m f)
-      ∙ ap (inner o m (bound_in basis order o m r F)) (bound_by-append basis order o rs r m w)
-      ∙ inner-bound_in o ring basis order offered m F W r
+      ∙ ap (λ g. inner_product o m g (folded_by basis order o (rs ++ r ∷ []) m w)) (folded_by-append basis order o rs r m f)
+      ∙ ap (inner_product o m (folded_in basis order o m r F)) (folded_by-append basis order o rs r m w)
+      ∙ inner_product-folded_in o ring basis order offered m F W r
       ∙ ap (λ c. next_claim basis o c (message_of basis order o (2 ^ m) F W) r) (sym (true_claim-inner basis order f w rs (suc m)))
-      ∙ ap (λ p. next_claim basis o (true_claim basis order o f w rs (suc m)) p r) (sym (honest_pair-message basis order offered f w rs m))
+      ∙ ap (λ p. next_claim basis o (true_claim basis order o f w rs (suc m)) p r) (sym (honest_message-message basis order offered f w rs m))
 
   -- and its three coefficients make it
-  pub slow_round-values : (basis : Basis) (order : Order) → IsOffered basis order → (f w : ℕ → ℕ) (rs : List ℕ) (m x : ℕ) →
-      true_claim basis order o f w (rs ++ x ∷ []) m ≡ poly_at o (slow_round basis order o f w rs m) x
-  unfolding slow_round honest_pair next_claim sent_polynomial sent_pair poly_at Agree
-  slow_round-values evaluation order offered f w rs m x =
+  pub round_polynomial-values : (basis : Basis) (order : Order) → IsOffered basis order → (f w : ℕ → ℕ) (rs : List ℕ) (m x : ℕ) →
+      true_claim basis order o f w (rs ++ x ∷ []) m ≡ poly_at o (round_polynomial basis order o f w rs m) x
+  unfolding round_polynomial honest_message next_claim sent_polynomial sent_pair poly_at Agree
+  round_polynomial-values evaluation order offered f w rs m x =
       let c = true_claim evaluation order o f w (rs ++ 0 ∷ []) m in
       let q = slow_leading evaluation order o f w rs m in
       let K = atom 0 in let C = atom 1 in let Q = atom 2 in let X = atom 3 in
@@ -92,7 +92,7 @@ module _ (o : Ops) (ring : IsRing o) where
       ∙ identity o ring (true_claim evaluation order o f w rs (suc m) ∷ c ∷ q ∷ x ∷ [])
       (sent X) (C ⊕ X ⊗ (((sent unit ⊖ C) ⊖ Q) ⊕ X ⊗ (Q ⊕ X ⊗ nought))) tt tt refl
       ∙ ap (λ v. poly_at o (c ∷ minus o (minus o v c) q ∷ q ∷ []) x) (sym (true_claim-next evaluation order offered f w rs 1 m))
-  slow_round-values projective order offered f w rs m x =
+  round_polynomial-values projective order offered f w rs m x =
       let v = true_claim projective order o f w (rs ++ 1 ∷ []) m in
       let q = slow_leading projective order o f w rs m in
       let K = atom 0 in let V = atom 1 in let Q = atom 2 in let X = atom 3 in

@@ -13,7 +13,7 @@ use Rattle.sc_definitions.specs.Polynomials.{poly_at}
 use Rattle.sc_definitions.specs.Roots.{count_below, root_count}
 use Rattle.sc_definitions.specs.TwoTables.{TwoTables, true_claim_on, end_of}
 use Rattle.sc_definitions.specs.Lucky.{round_excess}
-use Rattle.sc_definitions.specs.Strategies.{Held, answer, messages_against, next_against, accepts, sum_of_counts, accepted, challenges_at, FewAccepted, CountsLists, HasNumber, ListsHaveNumbers}
+use Rattle.sc_definitions.specs.Strategies.{StrategyEntry, strategy_message, messages_against, next_against, accepts, sum_of_counts, accepted, challenges_at, FewAccepted, CountsLists, HasNumber, ListsHaveNumbers}
 use Rattle.sc_definitions.proofs.RingLaws.{size_pos, plus-opposite}
 use Rattle.sc_definitions.proofs.RootCount.{root_count-few}
 use Rattle.sc_definitions.proofs.BuildLaws.{true_claim-end}
@@ -32,7 +32,7 @@ count-most (suc n) k f h =
 
 -- ---- the lists that let a claim through, by the challenges that are still to come
 
-module _ (o : Ops) (t : TwoTables) (s : List Held) where
+module _ (o : Ops) (t : TwoTables) (s : List StrategyEntry) where
   -- no more lists than there are
   accepted-most : (m : ℕ) (rs : List ℕ) (claim : ℕ) → accepted o t s m rs claim ≤ o.size ^ m
   unfolding accepted
@@ -47,11 +47,11 @@ module _ (o : Ops) (t : TwoTables) (s : List Held) where
       (count-most o.size (o.size ^ m) (λ x. accepted o t s m (rs ++ x ∷ []) (next_against o t s rs claim x)) (λ x _. accepted-most m (rs ++ x ∷ []) (next_against o t s rs claim x)))
 
   -- two values are sent
-  answer-pair : (hs : List Held) (rs : List ℕ) → (c : ℕ) × (q : ℕ) × (answer hs rs ≡ c ∷ q ∷ [])
-  unfolding answer
+  answer-pair : (hs : List StrategyEntry) (rs : List ℕ) → (c : ℕ) × (q : ℕ) × (strategy_message hs rs ≡ c ∷ q ∷ [])
+  unfolding strategy_message
   answer-pair [] rs = (0, 0, refl)
   answer-pair (h ∷ hs) rs = held (bytes_eq h.drawn rs) (answer-pair hs rs) where
-    held : (b : Bool) → ((c : ℕ) × (q : ℕ) × (answer hs rs ≡ c ∷ q ∷ [])) → (c : ℕ) × (q : ℕ) × ((if b then h.first ∷ h.second ∷ [] else answer hs rs) ≡ c ∷ q ∷ [])
+    held : (b : Bool) → ((c : ℕ) × (q : ℕ) × (strategy_message hs rs ≡ c ∷ q ∷ [])) → (c : ℕ) × (q : ℕ) × ((if b then h.first ∷ h.second ∷ [] else strategy_message hs rs) ≡ c ∷ q ∷ [])
     held true rest = (h.first, h.second, refl)
     held false rest = rest
 
@@ -73,7 +73,7 @@ count-roots_apart o (suc n) k l t cs f most few =
     subst (λ b. (C + y) * t ≤ ((if b then 1 else 0) + B) * k + suc n * l) (sym (ne_eqb (poly_at o cs n) 0 no)) (omega arith))
     (cases_eq (poly_at o cs n) 0)
 
-module _ (o : Ops) (field : IsField o) (t : TwoTables) (offered : IsOffered t.basis t.order) (s : List Held) where
+module _ (o : Ops) (field : IsField o) (t : TwoTables) (offered : IsOffered t.basis t.order) (s : List StrategyEntry) where
   -- a claim that is false at the end is let through by nothing
   not_at_end : (rs : List ℕ) (claim : ℕ) → element o claim ≢ true_claim_on o t rs 0 → accepted o t s 0 rs claim ≡ 0
   unfolding accepted end_of
@@ -185,7 +185,7 @@ first_challenge q m x k low =
     let rest : (x * b + k) % b ≡ k = mul-add-mod_self_right x b k ∙ mod-eq_of_lt low in
     ap (λ d. d ∷ challenges_at q m ((x * b + k) % b)) high ∙ ap (λ r. x ∷ challenges_at q m r) rest
 
-module _ (o : Ops) (t : TwoTables) (s : List Held) where
+module _ (o : Ops) (t : TwoTables) (s : List StrategyEntry) where
   -- the claim that a list of further challenges leaves
   left_by : List ℕ → ℕ → List ℕ → ℕ
   left_by before claim rs = claim_along (next_claim t.basis o) claim (messages_against s before rs) rs
@@ -201,9 +201,9 @@ module _ (o : Ops) (t : TwoTables) (s : List Held) where
       let q = o.size in
       let test : ℕ → Bool = λ k. left_by rs claim (challenges_at q (suc m) k) == end_of o t (rs ++ challenges_at q (suc m) k) in
       counts-same q _ _ (λ x _.
-      accepted-lists m (rs ++ x ∷ []) (next_claim t.basis o claim (answer s rs) x)
+      accepted-lists m (rs ++ x ∷ []) (next_claim t.basis o claim (strategy_message s rs) x)
       ∙ count-same (q ^ m) _ _ (λ k low.
-      ap (λ l. left_by (rs ++ x ∷ []) (next_claim t.basis o claim (answer s rs) x) (challenges_at q m k) == end_of o t l) (append_assoc rs (x ∷ []) (challenges_at q m k))
+      ap (λ l. left_by (rs ++ x ∷ []) (next_claim t.basis o claim (strategy_message s rs) x) (challenges_at q m k) == end_of o t l) (append_assoc rs (x ∷ []) (challenges_at q m k))
       ∙ sym (ap (λ l. left_by rs claim l == end_of o t (rs ++ l)) (first_challenge q m x k low))))
       ∙ sym (count-blocks q (q ^ m) test)
       ∙ ap (λ n. count_below n test) (sym (pow-succ' q m))

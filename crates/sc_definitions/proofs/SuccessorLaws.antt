@@ -3,12 +3,12 @@ use Rattle.std.proofs.Common.{◌≡◌, ℕ, zero, suc, ◌+◌, ◌-◌, ◌^�
 use Rattle.std.proofs.lemmas.Bool.{cases_lt, cases_eq}
 use Rattle.std.proofs.lemmas.Nat.{pow_pos}
 use Rattle.sc_definitions.specs.Ring.{Ops, IsRing, element, plus, times, minus}
-use Rattle.sc_definitions.specs.Tables.{sum_below, weight, value}
+use Rattle.sc_definitions.specs.Tables.{sum_below, equality_weight, value}
 use Rattle.sc_definitions.specs.Shifts.{shifted, only_at}
 use Rattle.sc_definitions.specs.Statements.{next_row, successor_weight, next_carry, next_done, next_omega}
 use Rattle.sc_definitions.proofs.RingLaws.{element-one, element-element, element-times, plus-zero, plus_comm}
 use Rattle.sc_definitions.proofs.Sums.{sum-same, sum-split, sum-plus, times-sum, sum-next, element-sum}
-use Rattle.sc_definitions.proofs.TableLaws.{weight-low, weight-high, two_halves}
+use Rattle.sc_definitions.proofs.TableLaws.{equality_weight-low, equality_weight-high, two_halves}
 use Rattle.sc_definitions.proofs.Identity.{atom, nought, unit, ◌⊕◌, ◌⊗◌, ◌⊖◌, Agree, identity}
 
 pub shifted-zero : (before : ℕ) (f : ℕ → ℕ) → shifted before f 0 ≡ before
@@ -41,8 +41,8 @@ last_place n c w = ⊎_elim
     (cases_eq n c)
 
 module _ (o : Ops) (ring : IsRing o) where
-  pub element-weight : (zs : List ℕ) (b : ℕ) → element o (weight o zs b) ≡ weight o zs b
-  unfolding weight
+  pub element-weight : (zs : List ℕ) (b : ℕ) → element o (equality_weight o zs b) ≡ equality_weight o zs b
+  unfolding equality_weight
   element-weight [] b = element-one o ring
   element-weight (z ∷ zs) b = element-times o ring _ _
 
@@ -92,13 +92,13 @@ module _ (o : Ops) (ring : IsRing o) where
 
   -- a row's successor weight is the equality weight of the row before, and the last row has its own besides
   pub successor-parts : (zs : List ℕ) (c : ℕ) → c < 2 ^ length zs →
-      successor_weight o zs c ≡ plus o (shifted 0 (weight o zs) c) (only_at (2 ^ length zs - 1) (weight o zs) c)
+      successor_weight o zs c ≡ plus o (shifted 0 (equality_weight o zs) c) (only_at (2 ^ length zs - 1) (equality_weight o zs) c)
   unfolding successor_weight next_row
   successor-parts zs c low =
       let N = 2 ^ length zs in
       let n = N - 1 in
       let whole : n + 1 ≡ N = omega arith in
-      let w = weight o zs in
+      let w = equality_weight o zs in
       let g : ℕ → ℕ = λ b. if (if nat_lt (b + 1) N then b + 1 else b) == c then w b else 0 in
       let last : g n ≡ only_at n w c =
       ap (λ t. if (if t then n + 1 else n) == c then w n else 0) (le-ltb (n + 1) N (omega arith)) ∙ last_place n c w in
@@ -126,7 +126,7 @@ module _ (o : Ops) (ring : IsRing o) where
       let whole : suc n ≡ N = omega (arith, pos) in
       let same : 2 ^ length zs ≡ N = ap (λ k. 2 ^ k) size in
       let last_is : 2 ^ length zs - 1 ≡ n = ap (λ k. k - 1) same in
-      let w = weight o zs in let v = weight o xs in
+      let w = equality_weight o zs in let v = equality_weight o xs in
       let up : ℕ → ℕ = λ b. times o (shifted 0 w b) (v b) in
       let product : ℕ → ℕ = λ b. times o (w b) (v b) in
       let A = atom 0 in let B = atom 1 in let C = atom 2 in
@@ -152,7 +152,7 @@ module _ (o : Ops) (ring : IsRing o) where
   -- ---- one coordinate more
 
   pub next-none : (next_carry o [] [] ≡ 1) × ((next_done o [] [] ≡ 0) × (next_omega o [] [] ≡ 1))
-  unfolding next_carry next_done next_omega weight sum_below Agree
+  unfolding next_carry next_done next_omega equality_weight sum_below Agree
   next-none =
       let one : times o 1 1 ≡ 1 = identity o ring [] (unit ⊗ unit) unit tt tt refl in
       (one, (refl, one))
@@ -164,10 +164,10 @@ module _ (o : Ops) (ring : IsRing o) where
       let pos : 0 < P = pow_pos (length zs) in
       let same : P ≡ 2 ^ length xs = ap (λ k. 2 ^ k) size in
       let top : 2 ^ suc (length zs) - 1 ≡ P + (P - 1) = omega (arith, two_halves (length zs), pos) in
-      let V = weight o zs (P - 1) in let W = weight o xs (P - 1) in
-      ap (λ k. times o (weight o (z ∷ zs) k) (weight o (x ∷ xs) k)) top
-      ∙ ap (λ k. times o k (weight o (x ∷ xs) (P + (P - 1)))) (weight-high o ring z zs (P - 1) (omega (arith, pos)))
-      ∙ ap (times o (times o z V)) (ap (λ k. weight o (x ∷ xs) (k + (P - 1))) same ∙ weight-high o ring x xs (P - 1) (omega (arith, pos, same)))
+      let V = equality_weight o zs (P - 1) in let W = equality_weight o xs (P - 1) in
+      ap (λ k. times o (equality_weight o (z ∷ zs) k) (equality_weight o (x ∷ xs) k)) top
+      ∙ ap (λ k. times o k (equality_weight o (x ∷ xs) (P + (P - 1)))) (equality_weight-high o ring z zs (P - 1) (omega (arith, pos)))
+      ∙ ap (times o (times o z V)) (ap (λ k. equality_weight o (x ∷ xs) (k + (P - 1))) same ∙ equality_weight-high o ring x xs (P - 1) (omega (arith, pos, same)))
       ∙ identity o ring (z ∷ x ∷ V ∷ W ∷ []) ((atom 0 ⊗ atom 2) ⊗ (atom 1 ⊗ atom 3)) ((atom 0 ⊗ atom 1) ⊗ (atom 2 ⊗ atom 3)) tt tt refl
 
   pub next_carry-more : (z x : ℕ) (zs xs : List ℕ) → length zs ≡ length xs → next_carry o (z ∷ zs) (x ∷ xs) ≡ times o (times o z (minus o 1 x)) (next_carry o zs xs)
@@ -176,10 +176,10 @@ module _ (o : Ops) (ring : IsRing o) where
       let P = 2 ^ length zs in
       let pos : 0 < P = pow_pos (length zs) in
       let top : 2 ^ suc (length zs) - 1 ≡ P + (P - 1) = omega (arith, two_halves (length zs), pos) in
-      let V = weight o zs (P - 1) in let W = weight o xs 0 in
-      ap (λ k. times o (weight o (z ∷ zs) k) (weight o (x ∷ xs) 0)) top
-      ∙ ap (λ k. times o k (weight o (x ∷ xs) 0)) (weight-high o ring z zs (P - 1) (omega (arith, pos)))
-      ∙ ap (times o (times o z V)) (weight-low o ring x xs 0 (pow_pos (length xs)))
+      let V = equality_weight o zs (P - 1) in let W = equality_weight o xs 0 in
+      ap (λ k. times o (equality_weight o (z ∷ zs) k) (equality_weight o (x ∷ xs) 0)) top
+      ∙ ap (λ k. times o k (equality_weight o (x ∷ xs) 0)) (equality_weight-high o ring z zs (P - 1) (omega (arith, pos)))
+      ∙ ap (times o (times o z V)) (equality_weight-low o ring x xs 0 (pow_pos (length xs)))
       ∙ identity o ring (z ∷ minus o 1 x ∷ V ∷ W ∷ []) ((atom 0 ⊗ atom 2) ⊗ (atom 1 ⊗ atom 3)) ((atom 0 ⊗ atom 1) ⊗ (atom 2 ⊗ atom 3)) tt tt refl
 
   pub next_done-more : (z x : ℕ) (zs xs : List ℕ) → length zs ≡ length xs →
@@ -191,29 +191,29 @@ module _ (o : Ops) (ring : IsRing o) where
       let pos : 0 < P = pow_pos (length zs) in
       let same : P ≡ 2 ^ length xs = ap (λ k. 2 ^ k) size in
       let rows : 2 ^ suc (length zs) - 1 ≡ n + suc n = omega (arith, two_halves (length zs), pos) in
-      let term : ℕ → ℕ = λ b. times o (weight o (z ∷ zs) b) (weight o (x ∷ xs) (b + 1)) in
-      let one : ℕ → ℕ = λ b. times o (weight o zs b) (weight o xs (b + 1)) in
+      let term : ℕ → ℕ = λ b. times o (equality_weight o (z ∷ zs) b) (equality_weight o (x ∷ xs) (b + 1)) in
+      let one : ℕ → ℕ = λ b. times o (equality_weight o zs b) (equality_weight o xs (b + 1)) in
       let D = sum_below o n one in
-      let V = weight o zs n in let W = weight o xs 0 in
+      let V = equality_weight o zs n in let W = equality_weight o xs 0 in
       let Z = atom 0 in let X = atom 1 in let A = atom 2 in let B = atom 3 in
       let low : (b : ℕ) → b < n → term b ≡ times o (times o (minus o 1 z) (minus o 1 x)) (one b) = λ b below.
-      ap (λ k. times o k (weight o (x ∷ xs) (b + 1))) (weight-low o ring z zs b (omega (arith, below)))
-      ∙ ap (times o (times o (minus o 1 z) (weight o zs b))) (weight-low o ring x xs (b + 1) (omega (arith, below, same)))
-      ∙ identity o ring (minus o 1 z ∷ minus o 1 x ∷ weight o zs b ∷ weight o xs (b + 1) ∷ []) ((Z ⊗ A) ⊗ (X ⊗ B)) ((Z ⊗ X) ⊗ (A ⊗ B)) tt tt refl in
+      ap (λ k. times o k (equality_weight o (x ∷ xs) (b + 1))) (equality_weight-low o ring z zs b (omega (arith, below)))
+      ∙ ap (times o (times o (minus o 1 z) (equality_weight o zs b))) (equality_weight-low o ring x xs (b + 1) (omega (arith, below, same)))
+      ∙ identity o ring (minus o 1 z ∷ minus o 1 x ∷ equality_weight o zs b ∷ equality_weight o xs (b + 1) ∷ []) ((Z ⊗ A) ⊗ (X ⊗ B)) ((Z ⊗ X) ⊗ (A ⊗ B)) tt tt refl in
       let over : P + 0 ≡ n + 1 = omega (arith, pos) in
       let mid_at : n + 0 ≡ n = omega arith in
       let middle : term (n + 0) ≡ times o (times o (minus o 1 z) x) (times o V W) =
       ap term mid_at
-      ∙ ap (λ k. times o k (weight o (x ∷ xs) (n + 1))) (weight-low o ring z zs n (omega (arith, pos)))
-      ∙ ap (times o (times o (minus o 1 z) V)) (ap (weight o (x ∷ xs)) (sym over) ∙ ap (λ k. weight o (x ∷ xs) (k + 0)) same ∙ weight-high o ring x xs 0 (pow_pos (length xs)))
+      ∙ ap (λ k. times o k (equality_weight o (x ∷ xs) (n + 1))) (equality_weight-low o ring z zs n (omega (arith, pos)))
+      ∙ ap (times o (times o (minus o 1 z) V)) (ap (equality_weight o (x ∷ xs)) (sym over) ∙ ap (λ k. equality_weight o (x ∷ xs) (k + 0)) same ∙ equality_weight-high o ring x xs 0 (pow_pos (length xs)))
       ∙ identity o ring (minus o 1 z ∷ x ∷ V ∷ W ∷ []) ((Z ⊗ A) ⊗ (X ⊗ B)) ((Z ⊗ X) ⊗ (A ⊗ B)) tt tt refl in
       let high : (b : ℕ) → b < n → term (n + (b + 1)) ≡ times o (times o z x) (one b) = λ b below.
       let at : n + (b + 1) ≡ P + b = omega (arith, pos) in
       let next : P + b + 1 ≡ P + (b + 1) = omega arith in
       ap term at
-      ∙ ap (λ k. times o k (weight o (x ∷ xs) (P + b + 1))) (weight-high o ring z zs b (omega (arith, below)))
-      ∙ ap (times o (times o z (weight o zs b))) (ap (weight o (x ∷ xs)) next ∙ ap (λ k. weight o (x ∷ xs) (k + (b + 1))) same ∙ weight-high o ring x xs (b + 1) (omega (arith, below, same)))
-      ∙ identity o ring (z ∷ x ∷ weight o zs b ∷ weight o xs (b + 1) ∷ []) ((Z ⊗ A) ⊗ (X ⊗ B)) ((Z ⊗ X) ⊗ (A ⊗ B)) tt tt refl in
+      ∙ ap (λ k. times o k (equality_weight o (x ∷ xs) (P + b + 1))) (equality_weight-high o ring z zs b (omega (arith, below)))
+      ∙ ap (times o (times o z (equality_weight o zs b))) (ap (equality_weight o (x ∷ xs)) next ∙ ap (λ k. equality_weight o (x ∷ xs) (k + (b + 1))) same ∙ equality_weight-high o ring x xs (b + 1) (omega (arith, below, same)))
+      ∙ identity o ring (z ∷ x ∷ equality_weight o zs b ∷ equality_weight o xs (b + 1) ∷ []) ((Z ⊗ A) ⊗ (X ⊗ B)) ((Z ⊗ X) ⊗ (A ⊗ B)) tt tt refl in
       ap (λ k. sum_below o k term) rows
       ∙ sum-split o ring n (suc n) term
       ∙ ap (λ s. plus o s (sum_below o (suc n) (λ k. term (n + k)))) (sum-same o n _ _ low ∙ sym (times-sum o ring (times o (minus o 1 z) (minus o 1 x)) n one))

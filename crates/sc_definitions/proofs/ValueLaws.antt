@@ -1,12 +1,12 @@
 -- The values, at a point, of tables of equality weights, of powers and of products of coordinates.
 use Rattle.std.proofs.Common.{◌≡◌, ℕ, ◌+◌, ◌^◌, ◌<◌, List, [], ◌∷◌, length, sym, ◌∙◌, ap, refl, subst, arith}
 use Rattle.sc_definitions.specs.Ring.{Ops, IsRing, element, plus, times, minus, power}
-use Rattle.sc_definitions.specs.Tables.{weight, eq_product, monomial, value}
+use Rattle.sc_definitions.specs.Tables.{equality_weight, eq_product, monomial, value}
 use Rattle.sc_definitions.proofs.RingLaws.{element-one, times-element_left}
 use Rattle.sc_definitions.proofs.Sums.{sum-same, times-sum, element-sum}
 use Rattle.sc_definitions.proofs.Identity.{atom, unit, ◌⊕◌, ◌⊗◌, ◌⊖◌, Agree, identity}
 use Rattle.sc_definitions.proofs.Power.{power-zero, power-plus}
-use Rattle.sc_definitions.proofs.TableLaws.{weight-low, weight-high, value-line, value-none}
+use Rattle.sc_definitions.proofs.TableLaws.{equality_weight-low, equality_weight-high, value-line, value-none}
 use Rattle.sc_definitions.proofs.PlacedLaws.{monomial-low, monomial-high}
 
 module _ (o : Ops) (ring : IsRing o) where
@@ -15,18 +15,18 @@ module _ (o : Ops) (ring : IsRing o) where
   unfolding value Agree
   value-times c f xs =
       let C = atom 0 in let F = atom 1 in let W = atom 2 in
-      sum-same o (2 ^ length xs) _ _ (λ b _. identity o ring (c ∷ f b ∷ weight o xs b ∷ []) (C ⊗ F ⊗ W) (C ⊗ (F ⊗ W)) tt tt refl)
-      ∙ sym (times-sum o ring c (2 ^ length xs) (λ b. times o (f b) (weight o xs b)))
+      sum-same o (2 ^ length xs) _ _ (λ b _. identity o ring (c ∷ f b ∷ equality_weight o xs b ∷ []) (C ⊗ F ⊗ W) (C ⊗ (F ⊗ W)) tt tt refl)
+      ∙ sym (times-sum o ring c (2 ^ length xs) (λ b. times o (f b) (equality_weight o xs b)))
 
   pub element-value : (f : ℕ → ℕ) (xs : List ℕ) → element o (value o f xs) ≡ value o f xs
   unfolding value
-  element-value f xs = element-sum o ring (2 ^ length xs) (λ b. times o (f b) (weight o xs b))
+  element-value f xs = element-sum o ring (2 ^ length xs) (λ b. times o (f b) (equality_weight o xs b))
 
   -- the elements of a table's entries have its value
   pub value-elements : (f g : ℕ → ℕ) (xs : List ℕ) → ((b : ℕ) → b < 2 ^ length xs → f b ≡ element o (g b)) → value o f xs ≡ value o g xs
   unfolding value
   value-elements f g xs same =
-      sum-same o (2 ^ length xs) _ _ (λ b low. ap (λ k. times o k (weight o xs b)) (same b low) ∙ times-element_left o ring (g b) (weight o xs b))
+      sum-same o (2 ^ length xs) _ _ (λ b low. ap (λ k. times o k (equality_weight o xs b)) (same b low) ∙ times-element_left o ring (g b) (equality_weight o xs b))
 
   -- the line through a value and its multiple
   pub line-multiple : (v z x : ℕ) → plus o v (times o (minus o (times o z v) v) x) ≡ times o (plus o 1 (times o x (minus o z 1))) v
@@ -38,22 +38,22 @@ module _ (o : Ops) (ring : IsRing o) where
   -- ---- equality weights
 
   -- the value at xs of the weights of zs is the equality weight of the two points
-  pub value-weight : (zs xs : List ℕ) → length zs ≡ length xs → value o (weight o zs) xs ≡ eq_product o zs xs
-  unfolding eq_product weight Agree
-  value-weight [] [] e = value-none o ring (weight o []) ∙ element-one o ring
+  pub value-weight : (zs xs : List ℕ) → length zs ≡ length xs → value o (equality_weight o zs) xs ≡ eq_product o zs xs
+  unfolding eq_product equality_weight Agree
+  value-weight [] [] e = value-none o ring (equality_weight o []) ∙ element-one o ring
   value-weight [] (x ∷ xs) e = absurd (omega (arith, e))
   value-weight (z ∷ zs) [] e = absurd (omega (arith, e))
   value-weight (z ∷ zs) (x ∷ xs) e =
       let same : length zs ≡ length xs = omega (arith, e) in
-      let low : ℕ → ℕ = λ b. times o (minus o 1 z) (weight o zs b) in
-      let high : ℕ → ℕ = λ b. times o z (weight o zs b) in
-      let V = value o (weight o zs) xs in
+      let low : ℕ → ℕ = λ b. times o (minus o 1 z) (equality_weight o zs b) in
+      let high : ℕ → ℕ = λ b. times o z (equality_weight o zs b) in
+      let V = value o (equality_weight o zs) xs in
       let Z = atom 0 in let X = atom 1 in let W = atom 2 in
-      value-line o ring (weight o (z ∷ zs)) low high x xs
-      (λ b in_half. sym (weight-low o ring z zs b (subst (λ n. b < 2 ^ n) (sym same) in_half)))
-      (λ b in_half. sym (ap (λ n. weight o (z ∷ zs) (2 ^ n + b)) (sym same) ∙ weight-high o ring z zs b (subst (λ n. b < 2 ^ n) (sym same) in_half)))
-      ∙ ap (λ v. plus o v (times o (minus o (value o high xs) v) x)) (value-times (minus o 1 z) (weight o zs) xs)
-      ∙ ap (λ v. plus o (times o (minus o 1 z) V) (times o (minus o v (times o (minus o 1 z) V)) x)) (value-times z (weight o zs) xs)
+      value-line o ring (equality_weight o (z ∷ zs)) low high x xs
+      (λ b in_half. sym (equality_weight-low o ring z zs b (subst (λ n. b < 2 ^ n) (sym same) in_half)))
+      (λ b in_half. sym (ap (λ n. equality_weight o (z ∷ zs) (2 ^ n + b)) (sym same) ∙ equality_weight-high o ring z zs b (subst (λ n. b < 2 ^ n) (sym same) in_half)))
+      ∙ ap (λ v. plus o v (times o (minus o (value o high xs) v) x)) (value-times (minus o 1 z) (equality_weight o zs) xs)
+      ∙ ap (λ v. plus o (times o (minus o 1 z) V) (times o (minus o v (times o (minus o 1 z) V)) x)) (value-times z (equality_weight o zs) xs)
       ∙ identity o ring (z ∷ x ∷ V ∷ [])
       ((unit ⊖ Z) ⊗ W ⊕ (Z ⊗ W ⊖ (unit ⊖ Z) ⊗ W) ⊗ X)
       ((Z ⊗ X ⊕ (unit ⊖ Z) ⊗ (unit ⊖ X)) ⊗ W) tt tt refl

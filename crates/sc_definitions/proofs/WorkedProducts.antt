@@ -2,7 +2,7 @@
 use Rattle.std.proofs.Common.{◌≡◌, ℕ, List, [], ◌∷◌, refl}
 use Rattle.sc_definitions.specs.Ring.{plus, times, opposite}
 use Rattle.sc_definitions.specs.Residues.{residues}
-use Rattle.sc_definitions.specs.Tables.{sum_below, weight, value, digits, rows_of}
+use Rattle.sc_definitions.specs.Tables.{sum_below, equality_weight, value, digits, rows_of}
 use Rattle.sc_definitions.specs.Polynomials.{poly_at, poly_plus, poly_scaled, poly_times, poly_sum}
 use Rattle.sc_definitions.specs.Interpolation.{first_below, inverse, others, lagrange, through, node_values, sent_through, next_through}
 use Rattle.sc_definitions.specs.Products.{values_product, product_claim, line_of, lines_product, product_round, honest_values}
@@ -20,7 +20,7 @@ two :
     × (honest_values (residues 65537) two_tables [] 0 ≡ 3 ∷ 15 ∷ [])
     × (poly_at (residues 65537) (3 ∷ 4 ∷ 1 ∷ []) 5 ≡ 48)
     × (values_product (residues 65537) two_tables (5 ∷ []) ≡ 48)
-unfolding product_claim values_product product_round poly_sum lines_product line_of honest_values node_values poly_at poly_times poly_plus poly_scaled value digits rows_of sum_below weight plus times opposite
+unfolding product_claim values_product product_round poly_sum lines_product line_of honest_values node_values poly_at poly_times poly_plus poly_scaled value digits rows_of sum_below equality_weight plus times opposite
 two = (refl, refl, refl, refl, refl)
 
 -- with (5 + X) besides
@@ -28,7 +28,7 @@ three :
     (product_claim (residues 65537) three_tables [] 1 ≡ 63)
     × (honest_values (residues 65537) three_tables [] 0 ≡ 15 ∷ 105 ∷ 192 ∷ [])
     × (values_product (residues 65537) three_tables (5 ∷ []) ≡ 480)
-unfolding product_claim values_product product_round poly_sum lines_product line_of honest_values node_values poly_at poly_times poly_plus poly_scaled value digits rows_of sum_below weight plus times opposite
+unfolding product_claim values_product product_round poly_sum lines_product line_of honest_values node_values poly_at poly_times poly_plus poly_scaled value digits rows_of sum_below equality_weight plus times opposite
 three = (refl, refl, refl)
 
 -- modulo 17: the values 3, 8 and 15 are those of 3 + 4 X + X^2, which 3 and 15 send under the claim 11; at 5 it is 48, which is 14

@@ -77,32 +77,32 @@ with_rounds bits w rounds = record { messages = w.messages ++ messages_of rounds
 -- ---- rounds that are replayed
 
 -- Where a replay stands: at a history, under a claim.
-pub record Footing : Type 0 where
+pub record VerifierState : Type 0 where
   pub history : List Event
   pub claim : ℕ
 
--- the footing of these
-abbrev pub footing : List Event → ℕ → Footing
-footing h claim = record { history = h; claim = claim }
+-- the verifier state of these
+abbrev pub verifier_state : List Event → ℕ → VerifierState
+verifier_state h claim = record { history = h; claim = claim }
 
--- The rounds take it from one footing to the next, with the challenges rs: each witness passes at its place, and `next` is the claim after one round.
-pub record IsReplayed (next : ℕ → List ℕ → ℕ → ℕ) (c : Channel) (before after : Footing) (rounds : List Round) (rs : List ℕ) : Type 0 where
+-- The rounds take it from one verifier state to the next, with the challenges rs: each witness passes at its place, and `next` is the claim after one round.
+pub record IsReplayed (next : ℕ → List ℕ → ℕ → ℕ) (c : Channel) (before after : VerifierState) (rounds : List Round) (rs : List ℕ) : Type 0 where
   pub history : after.history ≡ before.history ++ rounds_events c.extension c.bits rounds
   pub drawn : rs ≡ challenges c.rules c.extension c.bits before.history rounds
   pub claim : after.claim ≡ claim_along next before.claim (messages_of rounds) (challenges c.rules c.extension c.bits before.history rounds)
   pub passes : AllPass c.rules c.extension c.bits before.history rounds
 
 -- Some of the rounds do, from the first on.
-pub record IsReplayedInPart (next : ℕ → List ℕ → ℕ → ℕ) (c : Channel) (before after : Footing) (rounds : List Round) : Type 0 where
+pub record IsReplayedInPart (next : ℕ → List ℕ → ℕ → ℕ) (c : Channel) (before after : VerifierState) (rounds : List Round) : Type 0 where
   pub count : ℕ
   pub rs : List ℕ
   pub replays : IsReplayed next c before after (take count rounds) rs
 
 -- The rounds before round i do, and lead to the history `last`; then the test of that round's witness, which is the first that fails, ends the history.
-pub record FailsAt (next : ℕ → List ℕ → ℕ → ℕ) (c : Channel) (before after : Footing) (rounds : List Round) (i : ℕ) : Type 0 where
+pub record FailsAt (next : ℕ → List ℕ → ℕ → ℕ) (c : Channel) (before after : VerifierState) (rounds : List Round) (i : ℕ) : Type 0 where
   pub rs : List ℕ
   pub last : List Event
-  pub replays : IsReplayed next c before (footing last after.claim) (take i rounds) rs
+  pub replays : IsReplayed next c before (verifier_state last after.claim) (take i rounds) rs
   pub round : Round
   pub is : slice_get rounds i ≡ Some round
   pub test : WitnessFails c last round after.history

@@ -2,18 +2,18 @@
 use Rattle.std.specs.Prelude.{ℕ, zero, suc, ◌+◌, ◌-◌, ◌*◌, ◌/◌, ◌%◌, ◌^◌, List, [], ◌∷◌, ◌++◌, length, map}
 use Rattle.std.specs.List.{range_with_len}
 use Rattle.sc_definitions.specs.Ring.{Ops, ◌-⟨◌⟩◌, ◌*⟨◌⟩◌}
-use Rattle.sc_definitions.specs.Tables.{Order, prefix, suffix, sum_below, rows_of, inner}
+use Rattle.sc_definitions.specs.Tables.{Order, prefix, suffix, sum_below, rows_of, inner_product}
 use Rattle.sc_definitions.specs.Messages.{low_entry, high_entry}
 
 -- where a variable is read: at 0, at 1, or at infinity, which is its value at 1 less that at 0
 pub data Digit : Type 0 where
-  nought : Digit
+  digit_zero : Digit
   one : Digit
   infinity : Digit
 
 -- the digit that a number below 3 stands for
 abbrev pub digit_of : ℕ → Digit
-digit_of zero = nought
+digit_of zero = digit_zero
 digit_of (suc zero) = one
 digit_of (suc (suc d)) = infinity
 
@@ -34,14 +34,14 @@ high_row suffix m b = 2 * b + 1
 -- The value of a table at digits for the variables that are bound first, one after the other, and at row b of the m others.
 unfoldable pub grid_value : Order → Ops → (ℕ → ℕ) → List Digit → ℕ → ℕ → ℕ
 grid_value order o f [] m b = f b
-grid_value order o f (nought ∷ ds) m b = grid_value order o (low_entry order f) ds m b
+grid_value order o f (digit_zero ∷ ds) m b = grid_value order o (low_entry order f) ds m b
 grid_value order o f (one ∷ ds) m b = grid_value order o (high_entry order (2 ^ (length ds + m)) f) ds m b
 grid_value order o f (infinity ∷ ds) m b =
     grid_value order o (high_entry order (2 ^ (length ds + m)) f) ds m b -⟨ o ⟩ grid_value order o (low_entry order f) ds m b
 
 -- the sum over the m variables that are left of the product of two tables' values at the digits
 unfoldable pub grid_entry : Order → Ops → (ℕ → ℕ) → (ℕ → ℕ) → List Digit → ℕ → ℕ
-grid_entry order o f w ds m = inner o m (grid_value order o f ds m) (grid_value order o w ds m)
+grid_entry order o f w ds m = inner_product o m (grid_value order o f ds m) (grid_value order o w ds m)
 
 -- A round's list with its own variable at a digit, j variables before it and m after it: place k belongs to the digits of k to the base 3,
 -- of which the first variable has the lowest.
@@ -50,7 +50,7 @@ grid_list order o f w d j m = map (λ k. grid_entry order o f w (ternary j k ++ 
 
 -- a round's grid: its variable at 0, and at infinity
 abbrev pub grid_of : Order → Ops → (ℕ → ℕ) → (ℕ → ℕ) → ℕ → ℕ → List ℕ × List ℕ
-grid_of order o f w j m = (grid_list order o f w nought j m, grid_list order o f w infinity j m)
+grid_of order o f w j m = (grid_list order o f w digit_zero j m, grid_list order o f w infinity j m)
 
 -- the grids of the first l of n rounds
 unfoldable pub grids_of : Order → Ops → ℕ → (ℕ → ℕ) → (ℕ → ℕ) → ℕ → List (List ℕ × List ℕ)
@@ -61,7 +61,7 @@ grids_of order o n f w l = map (λ j. grid_of order o f w j (n - suc j)) (range_
 -- The weight of a digit at r: of a quadratic, its value at 0, its value at 1 and its leading coefficient, each times its digit's weight,
 -- make its value at r.
 unfoldable pub digit_weight : Ops → Digit → ℕ → ℕ
-digit_weight o nought r = 1 -⟨ o ⟩ r
+digit_weight o digit_zero r = 1 -⟨ o ⟩ r
 digit_weight o one r = r
 digit_weight o infinity r = r *⟨ o ⟩ (r -⟨ o ⟩ 1)
 

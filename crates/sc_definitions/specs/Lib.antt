@@ -23,10 +23,10 @@ pub mod Replays
 pub mod Channels
 pub mod Least
 pub mod Witnesses
-pub mod Standings
+pub mod ProverStates
 pub mod Grids
 pub mod Partials
 pub mod Parts
 pub mod Combined
 pub mod Products
-pub mod Shown
+pub mod ProverViews

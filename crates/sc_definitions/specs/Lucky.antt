@@ -2,7 +2,7 @@
 use Rattle.std.specs.Prelude.{◌≡◌, ℕ, zero, suc, ◌+◌, ◌≤◌, ◌==◌, List, [], ◌∷◌, ◌++◌, length, map, if◌then◌else◌, Option, Some, None, option_map}
 use Rattle.std.specs.List.{slice_get}
 use Rattle.sc_definitions.specs.Ring.{Ops, ◌-⟨◌⟩◌}
-use Rattle.sc_definitions.specs.Rounds.{slow_round, sent_polynomial, next_claim}
+use Rattle.sc_definitions.specs.Rounds.{round_polynomial, sent_polynomial, next_claim}
 use Rattle.sc_definitions.specs.Polynomials.{poly_at, poly_minus, AllZero}
 use Rattle.sc_definitions.specs.Roots.{root_count, IsLastPlace}
 use Rattle.sc_definitions.specs.Interpolation.{sent_through, next_through}
@@ -45,7 +45,7 @@ true_claim_of o p = true_claim_on o (tables_in o p)
 -- what a message sends under a claim, after the challenges rs and with m variables after the round's, less the true polynomial
 unfoldable pub round_excess : Ops → TwoTables → ℕ → List ℕ → List ℕ → ℕ → List ℕ
 round_excess o t claim message rs m =
-    poly_minus o (sent_polynomial t.basis o claim message) (slow_round t.basis t.order o t.table t.weights rs m)
+    poly_minus o (sent_polynomial t.basis o claim message) (round_polynomial t.basis t.order o t.table t.weights rs m)
 
 -- what values send under a claim of the product of tables, after the challenges rs and with m variables after the round's, less the true polynomial
 unfoldable pub product_excess : Ops → List (ℕ → ℕ) → ℕ → List ℕ → List ℕ → ℕ → List ℕ
@@ -94,16 +94,16 @@ pub record IsTurn (o : Ops) (width i : ℕ) (rs : List ℕ) (t : Turn) : Type 0 
 -- ---- which challenge let a false statement through
 
 -- the batching challenge, or the challenge of a round: with the polynomial that certifies it, and the number of its roots
-pub data Luck : Type 0 where
-  in_batch : (polynomial : List ℕ) → (roots : ℕ) → Luck
-  in_round : (round : ℕ) → (polynomial : List ℕ) → (roots : ℕ) → Luck
+pub data LuckyChallenge : Type 0 where
+  in_batch : (polynomial : List ℕ) → (roots : ℕ) → LuckyChallenge
+  in_round : (round : ℕ) → (polynomial : List ℕ) → (roots : ℕ) → LuckyChallenge
 
 -- a round's
-abbrev pub luck_in : Ops → Turn → Luck
+abbrev pub luck_in : Ops → Turn → LuckyChallenge
 luck_in o t = in_round t.round t.polynomial (root_count o t.polynomial)
 
 -- The first one in the transcript's order: the batching challenge where the batched claim is the true one, or else that of the first turn.
-unfoldable pub luck_of : Ops → Problem → List (List ℕ) → List ℕ → Option Luck
+unfoldable pub luck_of : Ops → Problem → List (List ℕ) → List ℕ → Option LuckyChallenge
 luck_of o p messages rs =
     if claim_of o p == true_claim_of o p [] p.variables
     then Some (in_batch (batch_polynomial o p) (root_count o (batch_polynomial o p)))
@@ -117,6 +117,6 @@ pub record IsRoundLuck (o : Ops) (rs : List ℕ) (round : ℕ) (polynomial : Lis
   pub three : length polynomial ≡ 3
 
 -- It is certified: by a polynomial of one coefficient for each statement after as many as the initial power says, or by that of a round.
-abbrev pub IsCertified : Ops → Problem → List ℕ → Luck → Type 0
+abbrev pub IsCertified : Ops → Problem → List ℕ → LuckyChallenge → Type 0
 IsCertified o p rs (in_batch polynomial roots) = IsCertificate o p.batching polynomial roots × (length polynomial ≡ p.initial + length p.statements)
 IsCertified o p rs (in_round round polynomial roots) = IsRoundLuck o rs round polynomial roots

@@ -2,8 +2,8 @@
 use Rattle.std.specs.Prelude.{ℕ, suc, ◌+◌, ◌-◌, ◌*◌, ◌^◌, List, length, map, take, drop}
 use Rattle.std.specs.List.{range_with_len}
 use Rattle.sc_definitions.specs.Ring.{Ops, ◌*⟨◌⟩◌}
-use Rattle.sc_definitions.specs.Tables.{Order, prefix, suffix, sum_below, weight}
-use Rattle.sc_definitions.specs.Standings.{entries_of}
+use Rattle.sc_definitions.specs.Tables.{Order, prefix, suffix, sum_below, equality_weight}
+use Rattle.sc_definitions.specs.ProverStates.{entries_of}
 
 -- a table summed over its first k variables, m being left: row a of the k has the weight w a
 unfoldable pub summed_first : Ops → ℕ → ℕ → (ℕ → ℕ) → (ℕ → ℕ) → ℕ → ℕ
@@ -34,7 +34,7 @@ behind_of suffix l zs = take (length zs - l) zs
 
 -- The partial table of a round that keeps l variables: the table summed over the others under the equality weights of the point there.
 unfoldable pub partial : Order → Ops → (ℕ → ℕ) → List ℕ → ℕ → ℕ → ℕ
-partial order o f zs l a = summed_behind order o l (length zs - l) (weight o (behind_of order l zs)) f a
+partial order o f zs l a = summed_behind order o l (length zs - l) (equality_weight o (behind_of order l zs)) f a
 
 -- the partial tables of the first l rounds: round number j, from 0 on, keeps j + 1 variables
 unfoldable pub partials_of : Order → Ops → (ℕ → ℕ) → List ℕ → ℕ → List (List ℕ)

@@ -2,10 +2,10 @@
 use Rattle.std.specs.Prelude.{ℕ, suc, ◌-◌, ◌^◌, List, map, length}
 use Rattle.std.specs.List.{range_with_len}
 use Rattle.sc_definitions.specs.Ring.{Ops}
-use Rattle.sc_definitions.specs.Tables.{Order, prefix, suffix, weight, value}
+use Rattle.sc_definitions.specs.Tables.{Order, prefix, suffix, equality_weight, value}
 use Rattle.sc_definitions.specs.Shifts.{shifted, only_at}
 use Rattle.sc_definitions.specs.Partials.{summed_behind, behind_of}
-use Rattle.sc_definitions.specs.Standings.{entries_of}
+use Rattle.sc_definitions.specs.ProverStates.{entries_of}
 
 -- a part of a point's weights
 pub data Part : Type 0 where
@@ -17,10 +17,10 @@ pub data Part : Type 0 where
 -- The weight of a part at a row. Equal is the equality weight; Done is that of the row before; Carry is, at row 0, that of the last row; Omega is, at the
 -- last row, its own. Where nothing is said, it is zero.
 unfoldable pub part_weight : Ops → Part → List ℕ → ℕ → ℕ
-part_weight o Equal zs b = weight o zs b
-part_weight o Carry zs b = only_at 0 (λ k. weight o zs (2 ^ length zs - 1)) b
-part_weight o Done zs b = shifted 0 (weight o zs) b
-part_weight o Omega zs b = only_at (2 ^ length zs - 1) (weight o zs) b
+part_weight o Equal zs b = equality_weight o zs b
+part_weight o Carry zs b = only_at 0 (λ k. equality_weight o zs (2 ^ length zs - 1)) b
+part_weight o Done zs b = shifted 0 (equality_weight o zs) b
+part_weight o Omega zs b = only_at (2 ^ length zs - 1) (equality_weight o zs) b
 
 -- what a part's weights are at a second point
 unfoldable pub part_at : Ops → Part → List ℕ → List ℕ → ℕ

@@ -2,7 +2,7 @@
 use Rattle.std.specs.Prelude.{ℕ, List}
 use Rattle.sc_definitions.specs.Ring.{Ops}
 use Rattle.sc_definitions.specs.Tables.{Basis, Order, value_in, point_of}
-use Rattle.sc_definitions.specs.Rounds.{honest_pair, next_claim, claim_along}
+use Rattle.sc_definitions.specs.Rounds.{honest_message, next_claim, claim_along}
 use Rattle.sc_definitions.specs.Statements.{Statement, batched_weight, batched_claim}
 
 -- a table of so many variables, statements on it, and how they are batched
@@ -25,7 +25,7 @@ claim_of o p = batched_claim o p.batching p.initial p.statements
 
 -- what an honest round sends after the challenges rs, with m variables after it
 unfoldable pub honest_of : Ops → Problem → List ℕ → ℕ → List ℕ
-honest_of o p rs m = honest_pair p.basis p.order o p.table (weights_of o p) rs m
+honest_of o p rs m = honest_message p.basis p.order o p.table (weights_of o p) rs m
 
 -- the claim that all rounds leave
 unfoldable pub residual_of : Ops → Problem → List (List ℕ) → List ℕ → ℕ

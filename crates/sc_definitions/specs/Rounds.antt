@@ -1,41 +1,41 @@
 -- The polynomials of rounds, by sums over all rows of the original tables.
 use Rattle.std.specs.Prelude.{ℕ, ◌+◌, ◌*◌, ◌^◌, List, [], ◌∷◌, ◌++◌, length}
 use Rattle.sc_definitions.specs.Ring.{Ops, ◌+⟨◌⟩◌, ◌-⟨◌⟩◌, ◌*⟨◌⟩◌}
-use Rattle.sc_definitions.specs.Tables.{Basis, evaluation, projective, Order, sum_below, inner, digits, monomial, value, placed}
+use Rattle.sc_definitions.specs.Tables.{Basis, evaluation, projective, Order, sum_below, inner_product, digits, monomial, value, placed}
 use Rattle.sc_definitions.specs.Polynomials.{poly_at}
 
 -- The table with the challenges placed, at row b of the m variables that are left: its value there,
 -- or the sum of the coefficients of the rows that end in b, each times the challenges whose digit is 1.
-unfoldable pub placed_entry : Basis → Order → Ops → (ℕ → ℕ) → List ℕ → ℕ → ℕ → ℕ
-placed_entry evaluation order o f rs m b = value o f (placed order rs (digits m b))
-placed_entry projective order o f rs m b = sum_below o (2 ^ length rs) (λ a. f (a * 2 ^ m + b) *⟨ o ⟩ monomial o rs a)
+unfoldable pub partial_value : Basis → Order → Ops → (ℕ → ℕ) → List ℕ → ℕ → ℕ → ℕ
+partial_value evaluation order o f rs m b = value o f (placed order rs (digits m b))
+partial_value projective order o f rs m b = sum_below o (2 ^ length rs) (λ a. f (a * 2 ^ m + b) *⟨ o ⟩ monomial o rs a)
 
 -- the sum of table times weight over all rows of the m variables that are left, with the challenges placed
 unfoldable pub true_claim : Basis → Order → Ops → (ℕ → ℕ) → (ℕ → ℕ) → List ℕ → ℕ → ℕ
-true_claim basis order o f w rs m = inner o m (placed_entry basis order o f rs m) (placed_entry basis order o w rs m)
+true_claim basis order o f w rs m = inner_product o m (partial_value basis order o f rs m) (partial_value basis order o w rs m)
 
--- ---- The slow round polynomial after the challenges rs, with m variables after the round's. Its value at x is the
+-- ---- The round polynomial after the challenges rs, with m variables after the round's. Its value at x is the
 -- true claim at one challenge more, `true_claim basis order o f w (rs ++ x ∷ []) m`.
 
 -- a table's line at row b of the m variables: how much more it is at 1 than at 0
 unfoldable pub slope : Basis → Order → Ops → (ℕ → ℕ) → List ℕ → ℕ → ℕ → ℕ
-slope basis order o f rs m b = placed_entry basis order o f (rs ++ 1 ∷ []) m b -⟨ o ⟩ placed_entry basis order o f (rs ++ 0 ∷ []) m b
+slope basis order o f rs m b = partial_value basis order o f (rs ++ 1 ∷ []) m b -⟨ o ⟩ partial_value basis order o f (rs ++ 0 ∷ []) m b
 
 -- its leading coefficient: the sum over the rows of the product of the two slopes
 unfoldable pub slow_leading : Basis → Order → Ops → (ℕ → ℕ) → (ℕ → ℕ) → List ℕ → ℕ → ℕ
-slow_leading basis order o f w rs m = inner o m (slope basis order o f rs m) (slope basis order o w rs m)
+slow_leading basis order o f w rs m = inner_product o m (slope basis order o f rs m) (slope basis order o w rs m)
 
 -- its three coefficients: the value at 0, the value at 1 less the other two, and the leading one
-unfoldable pub slow_round : Basis → Order → Ops → (ℕ → ℕ) → (ℕ → ℕ) → List ℕ → ℕ → List ℕ
-slow_round basis order o f w rs m =
+unfoldable pub round_polynomial : Basis → Order → Ops → (ℕ → ℕ) → (ℕ → ℕ) → List ℕ → ℕ → List ℕ
+round_polynomial basis order o f w rs m =
     true_claim basis order o f w (rs ++ 0 ∷ []) m
     ∷ true_claim basis order o f w (rs ++ 1 ∷ []) m -⟨ o ⟩ true_claim basis order o f w (rs ++ 0 ∷ []) m -⟨ o ⟩ slow_leading basis order o f w rs m
     ∷ slow_leading basis order o f w rs m ∷ []
 
 -- what an honest round sends: its polynomial at 0, or in the projective basis at 1, and its leading coefficient
-unfoldable pub honest_pair : Basis → Order → Ops → (ℕ → ℕ) → (ℕ → ℕ) → List ℕ → ℕ → List ℕ
-honest_pair evaluation order o f w rs m = true_claim evaluation order o f w (rs ++ 0 ∷ []) m ∷ slow_leading evaluation order o f w rs m ∷ []
-honest_pair projective order o f w rs m = true_claim projective order o f w (rs ++ 1 ∷ []) m ∷ slow_leading projective order o f w rs m ∷ []
+unfoldable pub honest_message : Basis → Order → Ops → (ℕ → ℕ) → (ℕ → ℕ) → List ℕ → ℕ → List ℕ
+honest_message evaluation order o f w rs m = true_claim evaluation order o f w (rs ++ 0 ∷ []) m ∷ slow_leading evaluation order o f w rs m ∷ []
+honest_message projective order o f w rs m = true_claim projective order o f w (rs ++ 1 ∷ []) m ∷ slow_leading projective order o f w rs m ∷ []
 
 -- the coefficients of the polynomial that the pair (c, q) sends under a claim
 unfoldable pub sent_pair : Basis → Ops → ℕ → ℕ → ℕ → List ℕ

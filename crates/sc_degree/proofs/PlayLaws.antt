@@ -10,7 +10,7 @@ use Rattle.sc_definitions.specs.Transcript.{round_events, rounds_events, challen
 use Rattle.sc_definitions.specs.Interpolation.{node_values}
 use Rattle.sc_definitions.specs.Channels.{Channel, Wire, empty_wire, with_rounds, NoWitnessFound, IsBuilt}
 use Rattle.sc_definitions.proofs.BuiltLaws.{challenges-append, length-challenges, IsBuilt-append}
-use Rattle.sc_definitions.proofs.StandingLaws.{with_none, with_more}
+use Rattle.sc_definitions.proofs.ProverStateLaws.{with_none, with_more}
 use Rattle.sc_transcript.specs.Drivers.{Driver, IsRefused}
 use Rattle.sc_degree.specs.declared.error.GenericDegreeError.{GenericDegreeError}
 use Rattle.sc_degree.specs.declared.error.GenericDegreeError.TheVariants.{NoWitness, NoMemory}

@@ -6,7 +6,7 @@ use Rattle.std.proofs.lemmas.List.{length-map}
 use Rattle.std.proofs.lemmas.Option.{slice_get-get_or}
 use Rattle.sc_definitions.specs.declared.events.Event.{Event}
 use Rattle.sc_definitions.specs.Transcript.{Round, round_of}
-use Rattle.sc_definitions.specs.Channels.{footing}
+use Rattle.sc_definitions.specs.Channels.{verifier_state}
 use Rattle.sc_definitions.proofs.ReplayLaws.{length-given_rounds, get_or-given_rounds}
 use Rattle.sc_transcript.specs.declared.error.RoundError.{RoundError}
 use Rattle.sc_transcript.specs.declared.error.RoundError.TheVariants as rounds
@@ -50,9 +50,9 @@ came_counted base number proof shape are = record {
 module _ {X : Type 0} (number : X → ℕ) (p : Replay) (h : List Event) (some : 0 < p.shape.width) where
   -- a round is rejected
   pub walk_left : {w : Walk} (e : RoundError) (result : Result (List X × X) GenericDegreeError) (h' : List Event) (claim : ℕ) → w ≡ p.walk →
-      p.walk.channel.bits ≡ p.shape.pow_bits → IsCounted p → result ≡ Err (generic_told e) → LeavesWalk w (Err (Some e)) (footing h' claim) → LeavesVerify number p h result h'
-  walk_left e result h' claim same bits counts is left = told e is (subst (λ (w : Walk). LeavesWalk w (Err (Some e)) (footing h' claim)) same left) where
-    told : (e : RoundError) → result ≡ Err (generic_told e) → LeavesWalk p.walk (Err (Some e)) (footing h' claim) → LeavesVerify number p h result h'
+      p.walk.channel.bits ≡ p.shape.pow_bits → IsCounted p → result ≡ Err (generic_told e) → LeavesWalk w (Err (Some e)) (verifier_state h' claim) → LeavesVerify number p h result h'
+  walk_left e result h' claim same bits counts is left = told e is (subst (λ (w : Walk). LeavesWalk w (Err (Some e)) (verifier_state h' claim)) same left) where
+    told : (e : RoundError) → result ≡ Err (generic_told e) → LeavesWalk p.walk (Err (Some e)) (verifier_state h' claim) → LeavesVerify number p h result h'
     told rounds.NoMemory is left = rw is (some, (claim, (counts, inr left)))
     told (rounds.WrongWidth i expected actual) is left = rw is (some, (claim, (counts, left)))
     told (rounds.InvalidWitness i difficulty) is left = rw is (some, (claim, (counts, (sym bits, left.1))))

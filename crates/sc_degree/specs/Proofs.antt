@@ -3,7 +3,7 @@ use Rattle.std.specs.Prelude.{◌≡◌, ℕ, ◌<◌, List, ◌++◌, map, Resu
 use Rattle.sc_definitions.specs.declared.events.Event.{Event}
 use Rattle.sc_definitions.specs.Ring.{Ops}
 use Rattle.sc_definitions.specs.Interpolation.{next_through}
-use Rattle.sc_definitions.specs.Channels.{Channel, Wire, footing}
+use Rattle.sc_definitions.specs.Channels.{Channel, Wire, verifier_state}
 use Rattle.sc_transcript.specs.Replayed.{Replay, replay_of, LeavesReplay}
 use Rattle.sc_degree.specs.declared.error.GenericDegreeError.{GenericDegreeError}
 use Rattle.sc_degree.specs.declared.error.GenericDegreeError.TheVariants.{InvalidDegree}
@@ -23,11 +23,11 @@ proof_wire base number p = record {
 -- claimed sum, and each round leaves the value of its polynomial at the challenge
 abbrev pub generic_replay : Ops → Channel → GenericDegreeShape → ℕ → Wire → List Event → Replay
 generic_replay o c shape claimed came h =
-    replay_of (next_through o) c (generic_batch shape) (footing (h ++ prelude_of c.extension shape claimed) claimed) came
+    replay_of (next_through o) c (generic_batch shape) (verifier_state (h ++ prelude_of c.extension shape claimed) claimed) came
 
 -- What `verify` leaves of a history, by its result: the challenges and what the rounds leave of the claim; or why there is none.
 abbrev pub LeavesVerify : {X : Type 0} → (X → ℕ) → Replay → List Event → Result (List X × X) GenericDegreeError → List Event → Type 0
-LeavesVerify number p h (Ok x) h' = (0 < p.shape.width) × LeavesReplay (h' ≡ h) p (Ok (map number x.0)) (footing h' (number x.1))
+LeavesVerify number p h (Ok x) h' = (0 < p.shape.width) × LeavesReplay (h' ≡ h) p (Ok (map number x.0)) (verifier_state h' (number x.1))
 LeavesVerify number p h (Err (InvalidDegree d)) h' = (d ≡ 0) × (p.shape.width ≡ 0) × (h' ≡ h)
 LeavesVerify number p h (Err e) h' =
-    (0 < p.shape.width) × ((claim : ℕ) × LeavesReplay (h' ≡ h) p (Err (generic_cause p.shape.pow_bits e)) (footing h' claim))
+    (0 < p.shape.width) × ((claim : ℕ) × LeavesReplay (h' ≡ h) p (Err (generic_cause p.shape.pow_bits e)) (verifier_state h' claim))

@@ -5,7 +5,7 @@ use Rattle.sc_definitions.specs.Ring.{Ops, ◌+⟨◌⟩◌, ◌*⟨◌⟩◌, p
 use Rattle.sc_definitions.specs.Tables.{sum_below}
 use Rattle.sc_definitions.specs.Polynomials.{poly_at, IsNoneOf, AreRoots}
 use Rattle.sc_definitions.specs.Roots.{IsLastPlace}
-use Rattle.sc_definitions.specs.Statements.{powers_sum}
+use Rattle.sc_definitions.specs.Statements.{batched_by_powers}
 use Rattle.sc_field.specs.declared.powers.Powers.{Powers}
 use Rattle.sc_field.specs.Powers.{base_of, start_of, GivesPower, ArePowers}
 
@@ -49,7 +49,7 @@ ItemsArePowers {F} o number =
 
 -- the value of a polynomial is the sum of its coefficients times powers, the power 0 first
 abbrev pub ValuesAreSums : Ops → Type 0
-ValuesAreSums o = (cs : List ℕ) (x : ℕ) → poly_at o cs x ≡ powers_sum o x 0 cs
+ValuesAreSums o = (cs : List ℕ) (x : ℕ) → poly_at o cs x ≡ batched_by_powers o x 0 cs
 
 -- different elements
 abbrev pub AreNodes : Ops → List ℕ → Type 0

@@ -3,20 +3,20 @@ use Rattle.std.proofs.Common.{◌≡◌, ℕ, suc, ◌+◌, ◌-◌, ◌^◌, �
 use Rattle.std.proofs.lemmas.Bool.{eq-eqb}
 use Rattle.sc_definitions.specs.declared.events.Event.{Event}
 use Rattle.sc_definitions.specs.Ring.{IsRing, element}
-use Rattle.sc_definitions.specs.Tables.{IsOffered, entries, rows_of, value_in, point_of, bound_by}
+use Rattle.sc_definitions.specs.Tables.{IsOffered, entries, rows_of, value_in, point_of, folded_by}
 use Rattle.sc_definitions.specs.Rounds.{next_claim}
 use Rattle.sc_definitions.specs.Transcript.{Round, messages_of, challenges}
 use Rattle.sc_definitions.specs.Replays.{given_rounds}
-use Rattle.sc_definitions.specs.Channels.{Wire, empty_wire, witnesses_of, Footing, NoWitnessFound, IsReplayed, IsReplayedInPart, FailsAt, IsBuilt, channel}
-use Rattle.sc_definitions.specs.Standings.{Setting, Standing, entries_of, message_in, honest_in, IsPlayed, IsPlayedWithoutWitness}
+use Rattle.sc_definitions.specs.Channels.{Wire, empty_wire, witnesses_of, VerifierState, NoWitnessFound, IsReplayed, IsReplayedInPart, FailsAt, IsBuilt, channel}
+use Rattle.sc_definitions.specs.ProverStates.{Setting, ProverState, entries_of, message_in, honest_in, IsPlayed, IsPlayedWithoutWitness}
 use Rattle.sc_definitions.specs.Problem.{weights_of, claim_of, honest_of, residual_of, eval_of, weight_value_of}
 use Rattle.sc_definitions.specs.Lucky.{luck_of}
 use Rattle.sc_definitions.proofs.RingLaws.{element-small}
-use Rattle.sc_definitions.proofs.PlacedLaws.{placed_entry-bound_by}
+use Rattle.sc_definitions.proofs.PlacedLaws.{partial_value-folded_by}
 use Rattle.sc_definitions.proofs.BuildLaws.{first_false_claim-all, built-residual, placed-end}
 use Rattle.sc_definitions.proofs.BuiltLaws.{length-messages, length-challenges}
-use Rattle.sc_definitions.proofs.SameTables.{bound_by-same, built-same, honest-same}
-use Rattle.sc_definitions.proofs.StandingLaws.{entries-is, with_none, rows-entries_of, message_honest}
+use Rattle.sc_definitions.proofs.SameTables.{folded_by-same, built-same, honest-same}
+use Rattle.sc_definitions.proofs.ProverStateLaws.{entries-is, with_none, rows-entries_of, message_honest}
 use Rattle.std.proofs.lemmas.Nat.{pow_pos}
 use Rattle.sc_transcript.specs.declared.error.SumcheckError.{SumcheckError}
 use Rattle.sc_transcript.specs.declared.error.SumcheckError.TheVariants.{RoundCountMismatch, InvalidPowWitness, PowWitnessCountMismatch, NoWitness, NoMemory}
@@ -25,13 +25,13 @@ use Rattle.sc_transcript.specs.declared.rounds.BatchShape.{BatchShape}
 use Rattle.sc_transcript.specs.Causes.{cause_of}
 use Rattle.sc_transcript.specs.Replayed.{replay_of, LeavesReplay}
 use Rattle.sc_definitions.specs.Events.{Rules}
-use Rattle.sc_definitions.specs.Shown.{Shown, setting_at, standing_at}
+use Rattle.sc_definitions.specs.ProverViews.{ProverView, setting_at, prover_state_at}
 use Rattle.sc_transcript.specs.Batches.{Batch, batch_at, PlaysWhole, BreaksOff}
 use Rattle.sc_transcript.proofs.GivenRounds.{given_played, count_witnesses}
 use Rattle.sc_transcript.proofs.InStep.{none_failing}
 use Rattle.sc_table.specs.declared.strategy.Strategy.{Strategy}
 use Rattle.sc_jobs.specs.Cases.{build, Asked, with_task, start_of}
-use Rattle.sc_verdicts.specs.Findings.{holds}
+use Rattle.sc_audit_errors.specs.Findings.{holds}
 use Rattle.sc_jobs.specs.Figures.{finding_by, false_claim_of, is_matched}
 use Rattle.sc_jobs.specs.Audits.{IsAudited, BuildStops, IsCaused, grids_for, refusal_by}
 use Rattle.sc_jobs.specs.BuiltCases.{as_build, prover_for, Kept, IsBuiltCase}
@@ -49,8 +49,8 @@ module _ (q : Asked) (ring : IsRing q.ops) (offered : IsOffered q.case.problem.b
   abbrev pub setting_for : Setting
   setting_for = setting_at q.channel q.ops (prover_for q.ops q.case.problem)
 
-  abbrev pub start_for : Standing
-  start_for = standing_at (prover_for q.ops q.case.problem) (start_of q).history empty_wire
+  abbrev pub start_for : ProverState
+  start_for = prover_state_at (prover_for q.ops q.case.problem) (start_of q).history empty_wire
 
   -- what the prover's tables tell is what an honest prover sends
   told_honest : (rs : List ℕ) (m : ℕ) → length rs + suc m ≡ q.case.problem.variables → honest_in setting_for start_for rs m ≡ honest_of q.ops q.case.problem rs m
@@ -69,28 +69,28 @@ module _ (q : Asked) (ring : IsRing q.ops) (offered : IsOffered q.case.problem.b
 
   -- the one entry that is left is the table's value at the challenges
   value_left : (f : ℕ → ℕ) (rs xs : List ℕ) (x : ℕ) → length rs ≡ q.case.problem.variables →
-      xs ≡ entries_of 0 (bound_by q.case.problem.basis q.case.problem.order q.ops rs 0 (rows_of (entries_of q.case.problem.variables f))) → xs ≡ x ∷ [] → x < q.ops.size →
+      xs ≡ entries_of 0 (folded_by q.case.problem.basis q.case.problem.order q.ops rs 0 (rows_of (entries_of q.case.problem.variables f))) → xs ≡ x ∷ [] → x < q.ops.size →
       x ≡ value_in q.case.problem.basis q.ops f (point_of q.case.problem.order rs)
   unfolding rows_of
   value_left f rs xs x count bound one low =
       let p = q.case.problem in
       let n = p.variables in
       let whole : length rs + 0 ≡ n = omega (arith, count) in
-      let at : (b : ℕ) → b < 2 ^ 0 → x ≡ bound_by p.basis p.order q.ops rs 0 f b = λ b below.
+      let at : (b : ℕ) → b < 2 ^ 0 → x ≡ folded_by p.basis p.order q.ops rs 0 f b = λ b below.
       let first : 0 ≡ b = omega (arith, below) in
-      let entry : x ≡ bound_by p.basis p.order q.ops rs 0 (rows_of (entries_of n f)) 0 =
-      ap (λ t. rows_of t 0) (sym one ∙ bound) ∙ rows-entries_of 0 (bound_by p.basis p.order q.ops rs 0 (rows_of (entries_of n f))) 0 (omega arith) in
-      entry ∙ bound_by-same p.basis p.order q.ops rs 0 (rows_of (entries_of n f)) f (λ k under. rows-entries_of n f k (subst (λ v. k < 2 ^ v) whole under)) 0 (omega arith)
-      ∙ ap (bound_by p.basis p.order q.ops rs 0 f) first in
+      let entry : x ≡ folded_by p.basis p.order q.ops rs 0 (rows_of (entries_of n f)) 0 =
+      ap (λ t. rows_of t 0) (sym one ∙ bound) ∙ rows-entries_of 0 (folded_by p.basis p.order q.ops rs 0 (rows_of (entries_of n f))) 0 (omega arith) in
+      entry ∙ folded_by-same p.basis p.order q.ops rs 0 (rows_of (entries_of n f)) f (λ k under. rows-entries_of n f k (subst (λ v. k < 2 ^ v) whole under)) 0 (omega arith)
+      ∙ ap (folded_by p.basis p.order q.ops rs 0 f) first in
       sym (element-small q.ops ring x low) ∙ ap (element q.ops) (at 0 (omega arith))
-      ∙ sym (placed_entry-bound_by q.ops ring p.basis p.order f rs 0 0 (omega arith)) ∙ placed-end q.ops ring p.basis p.order offered f rs
+      ∙ sym (partial_value-folded_by q.ops ring p.basis p.order f rs 0 0 (omega arith)) ∙ placed-end q.ops ring p.basis p.order offered f rs
 
   -- ---- no round
 
   -- the one entry of a table of no variable
   one_left : (f : ℕ → ℕ) (x : ℕ) → x ≡ f 0 →
-      entries_of 0 (bound_by q.case.problem.basis q.case.problem.order q.ops [] 0 (rows_of (entries_of q.case.problem.variables f))) ≡ x ∷ []
-  unfolding bound_by rows_of
+      entries_of 0 (folded_by q.case.problem.basis q.case.problem.order q.ops [] 0 (rows_of (entries_of q.case.problem.variables f))) ≡ x ∷ []
+  unfolding folded_by rows_of
   one_left f x is =
       let n = q.case.problem.variables in
       sym (entries-is 0 (x ∷ []) _ refl (λ b low.
@@ -119,7 +119,7 @@ module _ (q : Asked) (ring : IsRing q.ops) (offered : IsOffered q.case.problem.b
 
   -- ---- a batch of a prover
 
-  module _ (b : Batch) (setting : b.setting ≡ setting_for) (start : b.start ≡ start_for) (rounds_are : b.rounds ≡ q.case.problem.variables) (after : Standing) where
+  module _ (b : Batch) (setting : b.setting ≡ setting_for) (start : b.start ≡ start_for) (rounds_are : b.rounds ≡ q.case.problem.variables) (after : ProverState) where
     -- that was played whole
     pub built_case : {rs : List ℕ} {claim x y : ℕ} {grids : List (List ℕ × List ℕ)} → PlaysWhole b after rs → claim ≡ claim_of q.ops q.case.problem →
         after.evals ≡ x ∷ [] → after.weights ≡ y ∷ [] → x < q.ops.size → y < q.ops.size → grids ≡ grids_for q →
@@ -129,7 +129,7 @@ module _ (q : Asked) (ring : IsRing q.ops) (offered : IsOffered q.case.problem.b
         let p = q.case.problem in
         let played : IsPlayed setting_for start_for after rs =
         subst (λ t. IsPlayed setting_for t after rs) start (subst (λ s. IsPlayed s b.start after rs) setting whole.played) in
-        let none_left : after.variables ≡ 0 = omega (arith, whole.whole, rounds_are, ap (λ (t : Standing). t.variables) start) in
+        let none_left : after.variables ≡ 0 = omega (arith, whole.whole, rounds_are, ap (λ (t : ProverState). t.variables) start) in
         let count : length played.rounds ≡ p.variables = omega (arith, played.count, none_left) in
         let drawn : length rs ≡ p.variables = ap length played.drawn ∙ length-challenges _ _ _ _ played.rounds ∙ count in
         record {
@@ -140,9 +140,9 @@ module _ (q : Asked) (ring : IsRing q.ops) (offered : IsOffered q.case.problem.b
           drawn = played.drawn;
           claim = claimed;
           eval = value_left p.table rs after.evals x drawn
-              (subst (λ m. after.evals ≡ entries_of m (bound_by p.basis p.order q.ops rs m (rows_of (entries_of p.variables p.table)))) none_left played.evals) ex low;
+              (subst (λ m. after.evals ≡ entries_of m (folded_by p.basis p.order q.ops rs m (rows_of (entries_of p.variables p.table)))) none_left played.evals) ex low;
           weight = value_left (weights_of q.ops p) rs after.weights y drawn
-              (subst (λ m. after.weights ≡ entries_of m (bound_by p.basis p.order q.ops rs m (rows_of (entries_of p.variables (weights_of q.ops p))))) none_left played.weights) ey high;
+              (subst (λ m. after.weights ≡ entries_of m (folded_by p.basis p.order q.ops rs m (rows_of (entries_of p.variables (weights_of q.ops p))))) none_left played.weights) ey high;
           grids = grids_are;
         }
 
@@ -154,16 +154,16 @@ module _ (q : Asked) (ring : IsRing q.ops) (offered : IsOffered q.case.problem.b
         subst (λ t. IsPlayedWithoutWitness setting_for t after) start (subst (λ s. IsPlayedWithoutWitness s b.start after) setting why.2) in
         let last = stopped.last in
         let played = stopped.played in
-        let size : after.variables + i ≡ p.variables = why.1 ∙ ap (λ (t : Standing). t.variables) start in
+        let size : after.variables + i ≡ p.variables = why.1 ∙ ap (λ (t : ProverState). t.variables) start in
         let m = p.variables - suc i in
         let some : i + suc m ≡ p.variables = omega (arith, why.0, rounds_are) in
-        let variables : last.variables ≡ suc m = sym (ap (λ (t : Standing). t.variables) stopped.ends.kept) ∙ omega (arith, size, some) in
+        let variables : last.variables ≡ suc m = sym (ap (λ (t : ProverState). t.variables) stopped.ends.kept) ∙ omega (arith, size, some) in
         let count : length played.rounds ≡ i = omega (arith, played.count, variables, some) in
         let drawn = challenges q.channel.rules q.channel.extension q.channel.bits (start_of q).history played.rounds in
         let full : length drawn + suc m ≡ p.variables = omega (arith, length-challenges q.channel.rules q.channel.extension q.channel.bits (start_of q).history played.rounds, count, some) in
         let message : message_in setting_for last ≡ honest_of q.ops p drawn m =
         message_honest setting_for ring offered start_for last stopped.rs m played variables ∙ ap (λ t. honest_in setting_for start_for t m) played.drawn ∙ told_honest drawn m full in
-        let wire : after.wire.witnesses ≡ witnesses_of q.channel.bits played.rounds = ap (λ (t : Standing). t.wire.witnesses) stopped.ends.kept ∙ ap (λ (w : Wire). w.witnesses) played.wire in
+        let wire : after.wire.witnesses ≡ witnesses_of q.channel.bits played.rounds = ap (λ (t : ProverState). t.wire.witnesses) stopped.ends.kept ∙ ap (λ (w : Wire). w.witnesses) played.wire in
         record {
           rounds = played.rounds;
           built = built_honest played.rounds played.built;
@@ -178,11 +178,11 @@ module _ (q : Asked) (ring : IsRing q.ops) (offered : IsOffered q.case.problem.b
 
   -- ---- the batch that a prover of it plays
 
-  module _ {shown : Shown} {R : Rules} {h : List Event} {on : Wire} {degree k : ℕ} (rules : R ≡ q.channel.rules) (history : h ≡ q.history) (shows : shown ≡ prover_for q.ops q.case.problem)
+  module _ {shown : ProverView} {R : Rules} {h : List Event} {on : Wire} {degree k : ℕ} (rules : R ≡ q.channel.rules) (history : h ≡ q.history) (shows : shown ≡ prover_for q.ops q.case.problem)
       (none_sent : on ≡ empty_wire) (degree_is : degree ≡ q.channel.extension.degree) (count : k ≡ q.case.problem.variables) where
     abbrev pub batch_here : Batch
     batch_here =
-        batch_at (setting_at (channel R q.channel.extension q.channel.base_size q.channel.bits) q.ops shown) (standing_at shown h on) degree k
+        batch_at (setting_at (channel R q.channel.extension q.channel.base_size q.channel.bits) q.ops shown) (prover_state_at shown h on) degree k
 
     pub same_setting : batch_here.setting ≡ setting_for
     same_setting = rw (rules, shows) refl
@@ -207,7 +207,7 @@ module _ (q : Asked) (ring : IsRing q.ops) (offered : IsOffered q.case.problem.b
     witnesses_built = ap (λ (w : Wire). length w.witnesses) b.wire ∙ count_witnesses q.channel.bits b.rounds ∙ ap (witness_count q.channel.bits) b.count
 
     -- the report on it, where the statements are true
-    pub report_built : (strategy : Strategy) (end : Footing) (out : List ℕ) → k.grids ≡ grids_for (with_task q (build strategy)) → false_claim_of q.ops q.case.problem ≡ None →
+    pub report_built : (strategy : Strategy) (end : VerifierState) (out : List ℕ) → k.grids ≡ grids_for (with_task q (build strategy)) → false_claim_of q.ops q.case.problem ≡ None →
         IsReplayed (next_claim q.case.problem.basis q.ops) q.channel (start_of q) end (given_rounds k.wire.messages k.wire.witnesses) out →
         IsAudited (with_task q (build strategy))
         (record {
@@ -250,7 +250,7 @@ module _ (q : Asked) (ring : IsRing q.ops) (offered : IsOffered q.case.problem.b
         }
 
     -- a replay of it is broken off for want of memory alone
-    pub replay_broken : (strategy : Strategy) (history claim : Type 0) (start end : Footing) (batch : BatchShape) (e : SumcheckError) →
+    pub replay_broken : (strategy : Strategy) (history claim : Type 0) (start end : VerifierState) (batch : BatchShape) (e : SumcheckError) →
         batch.num_rounds ≡ q.case.problem.variables → batch.pow_bits ≡ q.channel.bits → start ≡ start_of q → (history → end.history ≡ q.history) →
         LeavesReplay (history × claim) (replay_of (next_claim q.case.problem.basis q.ops) q.channel batch start k.wire) (Err (cause_of e)) end →
         IsCaused None (with_task q (build strategy)) end.history (refusal_by e)

@@ -13,13 +13,13 @@ use Rattle.sc_definitions.specs.Transcript.{Round, round_events, rounds_events}
 use Rattle.sc_definitions.specs.Replays.{round_passes, AllPass, given_rounds}
 use Rattle.sc_svo.specs.Grids.{most_rounds}
 use Rattle.sc_jobs.specs.declared.report.Report.{Report}
-use Rattle.sc_verdicts.specs.declared.error.AuditError.{AuditError}
-use Rattle.sc_verdicts.specs.declared.error.AuditError.TheVariants.{StrategyUnfit, NoWitness, InvalidPowWitness, NoMemory}
-use Rattle.sc_verdicts.specs.declared.error.FitFault.TheVariants.{Variables}
+use Rattle.sc_audit_errors.specs.declared.error.AuditError.{AuditError}
+use Rattle.sc_audit_errors.specs.declared.error.AuditError.TheVariants.{StrategyUnfit, NoWitness, InvalidPowWitness, NoMemory}
+use Rattle.sc_audit_errors.specs.declared.error.FitFault.TheVariants.{Variables}
 use Rattle.sc_jobs.specs.Cases.{Task, build, check, Asked, start_of}
-use Rattle.sc_verdicts.specs.Arities.{arity_of}
+use Rattle.sc_audit_errors.specs.Arities.{arity_of}
 use Rattle.sc_jobs.specs.Refusals.{shape_by, or_later, basis_refusal, small_refusal, variables_refusal, unfit, first_unfit, strategy_refusal, shape_refusal, task_refusal, refusal_of}
-use Rattle.sc_jobs.specs.Audits.{WitnessFails, IsCaused, Answers, IsRefusedBy, PassesAll, IsValid, MayMeet}
+use Rattle.sc_jobs.specs.Audits.{WitnessFails, IsCaused, Answers, IsRefusedBy, PassesAll, IsValid, MayStopValid}
 
 -- nothing is no error
 pub no_error : (e : AuditError) → ◌≡◌ {A = Option AuditError} None (Some e) → ⊥
@@ -144,13 +144,13 @@ not_failing q i h (check (Some given)) all fails =
     let clash : true ≡ false = sym passes ∙ at.test.fails in cc
 
 -- what a valid case may meet
-may_meet : (q : Asked) (h : List Event) (e : AuditError) → IsValid q → IsCaused (refusal_of q) q h e → MayMeet e
+may_meet : (q : Asked) (h : List Event) (e : AuditError) → IsValid q → IsCaused (refusal_of q) q h e → MayStopValid e
 may_meet q h (InvalidPowWitness i bits) valid found = absurd (not_failing q i h q.case.task valid.passes found.1)
 may_meet q h (NoWitness i) valid found = tt
 may_meet q h NoMemory valid found = tt
 may_meet q h e valid found = absurd (no_error _ (sym valid.fits ∙ found.0))
 
 pub valid_answered : {F EF : Type 0} (base : F → ℕ) (number : EF → ℕ) (q : Asked) (r : Result (Report F EF) AuditError) (h : List Event) →
-    Answers base number (refusal_of q) q r h → IsValid q → IfErr r MayMeet
+    Answers base number (refusal_of q) q r h → IsValid q → IfErr r MayStopValid
 valid_answered base number q (Ok r) h p valid = tt
 valid_answered base number q (Err e) h p valid = may_meet q h e valid p

@@ -11,7 +11,7 @@ use Rattle.sc_definitions.specs.Tables.{IsOffered}
 use Rattle.sc_definitions.specs.Statements.{Kind, Statement, IsTrueOf, AllTrueOf, first_false_claim, claimed_values}
 use Rattle.sc_definitions.specs.Transcript.{messages_of}
 use Rattle.sc_definitions.specs.Problem.{Problem}
-use Rattle.sc_definitions.specs.Lucky.{Luck, luck_of, IsCertified}
+use Rattle.sc_definitions.specs.Lucky.{LuckyChallenge, luck_of, IsCertified}
 use Rattle.sc_definitions.proofs.StatementLaws.{first_false_claim-true, first_false_claim-none}
 use Rattle.sc_definitions.proofs.BuildLaws.{first_false_claim-all}
 use Rattle.sc_definitions.proofs.BuiltLaws.{length-messages, length-challenges}
@@ -19,21 +19,21 @@ use Rattle.sc_definitions.proofs.ReplayLaws.{messages-given_rounds}
 use Rattle.sc_definitions.proofs.LuckyLaws.{AllSend, IsPair, luck-certified}
 use Rattle.sc_table.specs.declared.strategy.RoundMessage.{RoundMessage}
 use Rattle.sc_table.specs.declared.strategy.Strategy.{Strategy}
-use Rattle.sc_claims.specs.declared.evaluated.EvaluatedConstraint.{EvaluatedConstraint}
-use Rattle.sc_statements.specs.declared.statement.Statements.{Statements}
-use Rattle.sc_statements.specs.declared.statement.Statements.TheVariants.{Eq, Next, Select}
-use Rattle.sc_claims.specs.Lists.{evaluated_all}
-use Rattle.sc_claims.specs.EqStatements.{point_kind}
-use Rattle.sc_claims.specs.NextStatements.{next_kind}
-use Rattle.sc_claims.specs.SelectStatements.{claims_of, select_kinds}
-use Rattle.sc_statements.specs.Groups.{group_statements, all_statements}
+use Rattle.sc_statements.specs.declared.evaluated.EvaluatedConstraint.{EvaluatedConstraint}
+use Rattle.sc_constraints.specs.declared.statement.Statements.{Statements}
+use Rattle.sc_constraints.specs.declared.statement.Statements.TheVariants.{Eq, Next, Select}
+use Rattle.sc_statements.specs.Lists.{evaluated_all}
+use Rattle.sc_statements.specs.EqStatements.{point_kind}
+use Rattle.sc_statements.specs.NextStatements.{next_kind}
+use Rattle.sc_statements.specs.SelectStatements.{claims_of, select_kinds}
+use Rattle.sc_constraints.specs.Groups.{group_statements, all_statements}
 use Rattle.sc_transcript.specs.declared.data.SumcheckData.{SumcheckData}
 use Rattle.sc_transcript.specs.Data.{pair_of}
 use Rattle.sc_jobs.specs.declared.report.Report.{Report}
 use Rattle.sc_jobs.specs.declared.report.Verdict.TheVariants.{Holds}
-use Rattle.sc_verdicts.specs.declared.error.AuditError.{AuditError}
+use Rattle.sc_audit_errors.specs.declared.error.AuditError.{AuditError}
 use Rattle.sc_jobs.specs.Cases.{Given, Task, build, check, Asked, given_in}
-use Rattle.sc_verdicts.specs.Findings.{holds, lucky, named}
+use Rattle.sc_audit_errors.specs.Findings.{holds, lucky, named}
 use Rattle.sc_jobs.specs.Figures.{Figures, finding_by, false_claim_of, is_matched, figures_of, finding_in, report_in}
 use Rattle.sc_jobs.specs.Audits.{AreRounds, IsPlayed, Answers, HoldsIfBuilt}
 use Rattle.sc_jobs.specs.Certified.{CertifiesLuck}
@@ -84,19 +84,19 @@ proof_pairs base number (Some d) = pairs_sent number d.polynomial_evaluations.it
 -- ---- what is found
 
 -- where a challenge is named lucky the residual is right, a statement is false, and it is the first one
-lucky_by : (b : Bool) (fault : Option FalseClaim) (luck : Option Luck) (l : Luck) → finding_by b fault luck ≡ lucky l → (b ≡ true) × (fault ≡ None → ⊥) × (luck ≡ Some l)
+lucky_by : (b : Bool) (fault : Option FalseClaim) (luck : Option LuckyChallenge) (l : LuckyChallenge) → finding_by b fault luck ≡ lucky l → (b ≡ true) × (fault ≡ None → ⊥) × (luck ≡ Some l)
 lucky_by false fault luck l e = cc
 lucky_by true None luck l e = cc
 lucky_by true (Some c) None l e = cc
 lucky_by true (Some c) (Some k) l e = let same : k ≡ l = cc in (refl, (λ n. cc), ap Some same)
 
-named_by : (b : Bool) (fault : Option FalseClaim) (luck : Option Luck) (l : Luck) → b ≡ true → (fault ≡ None → ⊥) → luck ≡ Some l → finding_by b fault luck ≡ lucky l
+named_by : (b : Bool) (fault : Option FalseClaim) (luck : Option LuckyChallenge) (l : LuckyChallenge) → b ≡ true → (fault ≡ None → ⊥) → luck ≡ Some l → finding_by b fault luck ≡ lucky l
 named_by false fault luck l right some is = cc
 named_by true None luck l right some is = absurd (some refl)
 named_by true (Some c) luck l right some is = ap named is
 
 -- where it holds no statement is false
-held_by : (fault : Option FalseClaim) (luck : Option Luck) → finding_by true fault luck ≡ holds → fault ≡ None
+held_by : (fault : Option FalseClaim) (luck : Option LuckyChallenge) → finding_by true fault luck ≡ holds → fault ≡ None
 held_by None luck e = refl
 held_by (Some c) None e = cc
 held_by (Some c) (Some l) e = cc

@@ -5,7 +5,7 @@ use Rattle.std.proofs.Math.Seq.{take-length}
 use Rattle.sc_definitions.specs.Rounds.{next_claim}
 use Rattle.sc_definitions.specs.Transcript.{Round, messages_of}
 use Rattle.sc_definitions.specs.Replays.{given_rounds}
-use Rattle.sc_definitions.specs.Channels.{Footing, witnesses_of, IsReplayed, IsReplayedInPart, FailsAt}
+use Rattle.sc_definitions.specs.Channels.{VerifierState, witnesses_of, IsReplayed, IsReplayedInPart, FailsAt}
 use Rattle.sc_definitions.specs.Problem.{residual_of}
 use Rattle.sc_definitions.proofs.BuiltLaws.{length-challenges}
 use Rattle.sc_definitions.proofs.ReplayLaws.{length-given_rounds, messages-given_rounds}
@@ -15,8 +15,8 @@ use Rattle.sc_transcript.specs.Replayed.{Replay, replay_of, LeavesReplay}
 use Rattle.sc_transcript.specs.declared.error.SumcheckError.{SumcheckError}
 use Rattle.sc_transcript.specs.declared.error.SumcheckError.TheVariants as replay
 use Rattle.sc_jobs.specs.declared.report.Report.{Report}
-use Rattle.sc_verdicts.specs.declared.error.AuditError.{AuditError}
-use Rattle.sc_verdicts.specs.declared.error.AuditError.TheVariants.{RoundCountMismatch, PowWitnessCountMismatch, NoMemory}
+use Rattle.sc_audit_errors.specs.declared.error.AuditError.{AuditError}
+use Rattle.sc_audit_errors.specs.declared.error.AuditError.TheVariants.{RoundCountMismatch, PowWitnessCountMismatch, NoMemory}
 use Rattle.sc_jobs.specs.Cases.{Given, check, Asked, with_task, start_of}
 use Rattle.sc_jobs.specs.Refusals.{count_refusal}
 use Rattle.sc_jobs.specs.Figures.{figures_of}
@@ -45,7 +45,7 @@ witnesses-given (suc bits) n ms ws em ew =
     ]
 
 -- A proof was replayed whole from where its rounds begin, and has as many rounds and witnesses as are due.
-pub record IsChecked (q : Asked) (given : Given) (end : Footing) (out : List ℕ) : Type 0 where
+pub record IsChecked (q : Asked) (given : Given) (end : VerifierState) (out : List ℕ) : Type 0 where
   pub replays : IsReplayed (next_claim q.case.problem.basis q.ops) q.channel (start_of q) end (given_rounds given.messages given.witnesses) out
   pub count : length given.messages ≡ q.case.problem.variables
   pub found : length given.witnesses ≡ witness_count q.channel.bits q.case.problem.variables
@@ -60,15 +60,15 @@ module _ (q : Asked) (given : Given) where
   abbrev next : ℕ → List ℕ → ℕ → ℕ
   next = next_claim q.case.problem.basis q.ops
 
-  -- a replay of it from a footing on, where so many rounds are expected
-  abbrev replay_from : Footing → ℕ → Replay
+  -- a replay of it from a verifier state on, where so many rounds are expected
+  abbrev replay_from : VerifierState → ℕ → Replay
   replay_from start expected = replay_of next q.channel (record { num_rounds = expected; width = 2; pow_bits = q.channel.bits }) start
       (record { messages = given.messages; witnesses = given.witnesses })
 
   -- ---- a proof that was replayed whole
 
-  -- by what its replay leaves, from a footing on, where so many rounds are expected
-  pub checked_whole : (end : Footing) (out : List ℕ) (start : Footing) (expected : ℕ) → expected ≡ q.case.problem.variables → start ≡ start_of q →
+  -- by what its replay leaves, from a verifier state on, where so many rounds are expected
+  pub checked_whole : (end : VerifierState) (out : List ℕ) (start : VerifierState) (expected : ℕ) → expected ≡ q.case.problem.variables → start ≡ start_of q →
       LeavesReplay ⊥ (replay_from start expected) (Ok out) end → IsChecked q given end out
   checked_whole end out start expected size begun left = record {
     replays = subst (λ f. IsReplayed next q.channel f end rounds_of out) begun left.1.replays;
@@ -76,7 +76,7 @@ module _ (q : Asked) (given : Given) where
     found = left.0.as_witnesses ∙ ap (witness_count q.channel.bits) size;
   }
 
-  module _ (end : Footing) (out : List ℕ) (is : IsChecked q given end out) where
+  module _ (end : VerifierState) (out : List ℕ) (is : IsChecked q given end out) where
     pub residual_checked : end.claim ≡ residual_of q.ops q.case.problem given.messages out
     unfolding residual_of
     residual_checked = rw (← is.replays.drawn, messages-given_rounds) at is.replays.claim
@@ -122,7 +122,7 @@ module _ (q : Asked) (given : Given) where
 
   -- ---- a proof that was refused
 
-  pub proof_refused : (history claim : Type 0) (start end : Footing) (expected : ℕ) (e : SumcheckError) →
+  pub proof_refused : (history claim : Type 0) (start end : VerifierState) (expected : ℕ) (e : SumcheckError) →
       expected ≡ q.case.problem.variables → start ≡ start_of q → (history → end.history ≡ q.history) →
       LeavesReplay (history × claim) (replay_from start expected) (Err (cause_of e)) end →
       IsCaused (count_refusal q.case.problem.variables q.channel.bits given) checked end.history (refusal_by e)
@@ -154,7 +154,7 @@ module _ (q : Asked) (given : Given) where
   proof_refused history claim start end expected e size begun kept left = absurd left.1
 
   -- the counts are refused
-  pub counts_refused : (T untouched : Type 0) (start end : Footing) (expected : ℕ) (e : SumcheckError) → expected ≡ q.case.problem.variables →
+  pub counts_refused : (T untouched : Type 0) (start end : VerifierState) (expected : ℕ) (e : SumcheckError) → expected ≡ q.case.problem.variables →
       LeavesReplay untouched (replay_from start expected) (Err (cause_of e)) end →
       IsRefusedBy {T = T} (count_refusal q.case.problem.variables q.channel.bits given) (Err (refusal_by e))
   counts_refused T untouched start end expected replay.NoMemory size left =

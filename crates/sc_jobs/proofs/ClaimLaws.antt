@@ -4,29 +4,29 @@ use Rattle.std.proofs.lemmas.Bool.Decides.{eqb_tells, leb_tells}
 use Rattle.std.proofs.lemmas.List.{append-nil, length-append, length-map, map-append, take_all}
 use Rattle.std.proofs.lemmas.List.Elements.{All-cons, All-head, All-tail, All-nil, All-push, All-same}
 use Rattle.sc_definitions.specs.Ring.{Ops, IsRing, plus, times, power}
-use Rattle.sc_definitions.specs.Tables.{Order, prefix, inner}
-use Rattle.sc_definitions.specs.Statements.{Kind, equality, successor, powers, products, Statement, claims, arity_of, weight_of, true_value, true_values, powers_sum, weights_at, claimed_values, batched_weight}
+use Rattle.sc_definitions.specs.Tables.{Order, prefix, inner_product}
+use Rattle.sc_definitions.specs.Statements.{Kind, equality, successor, powers, products, Statement, claims, arity_of, weight_of, true_value, true_values, batched_by_powers, weights_at, claimed_values, batched_weight}
 use Rattle.sc_definitions.specs.Combined.{Scaled, combined_weight, scaled_from}
 use Rattle.sc_definitions.specs.Problem.{Problem, weights_of}
 use Rattle.sc_definitions.proofs.Power.{power-suc}
 use Rattle.sc_definitions.proofs.RingLaws.{times_comm}
-use Rattle.sc_definitions.proofs.SameTables.{inner-same}
+use Rattle.sc_definitions.proofs.SameTables.{inner_product-same}
 use Rattle.sc_definitions.proofs.PartLaws.{successor-kind}
 use Rattle.sc_table.specs.Strategy.{order_of}
 use Rattle.sc_weights.specs.declared.next.NextConstraint.{NextConstraint}
-use Rattle.sc_claims.specs.declared.evaluated.EvaluatedConstraint.{EvaluatedConstraint}
-use Rattle.sc_statements.specs.declared.statement.Statements.{Statements}
-use Rattle.sc_claims.specs.Lists.{evaluated, evaluated_all}
-use Rattle.sc_claims.specs.NextStatements.{next_kind, selector_at, point_at}
-use Rattle.sc_claims.specs.SelectStatements.{claims_of}
-use Rattle.sc_statements.specs.Groups.{group_statements, all_statements}
-use Rattle.sc_statements.proofs.GroupSteps.{groups-more, groups-split}
+use Rattle.sc_statements.specs.declared.evaluated.EvaluatedConstraint.{EvaluatedConstraint}
+use Rattle.sc_constraints.specs.declared.statement.Statements.{Statements}
+use Rattle.sc_statements.specs.Lists.{evaluated, evaluated_all}
+use Rattle.sc_statements.specs.NextStatements.{next_kind, selector_at, point_at}
+use Rattle.sc_statements.specs.SelectStatements.{claims_of}
+use Rattle.sc_constraints.specs.Groups.{group_statements, all_statements}
+use Rattle.sc_constraints.proofs.GroupSteps.{groups-more, groups-split}
 use Rattle.sc_svo.specs.declared.claims.SvoClaim.{SvoClaim}
 use Rattle.sc_svo.specs.Claims.{AreOn, kind_by, scaled_in, claims_in, true_values_of}
 use Rattle.sc_svo.specs.Grids.{most_rounds}
-use Rattle.sc_verdicts.specs.declared.error.AuditError.{AuditError}
-use Rattle.sc_verdicts.specs.declared.error.AuditError.TheVariants.{StrategyUnfit}
-use Rattle.sc_verdicts.specs.declared.error.FitFault.TheVariants.{Variables}
+use Rattle.sc_audit_errors.specs.declared.error.AuditError.{AuditError}
+use Rattle.sc_audit_errors.specs.declared.error.AuditError.TheVariants.{StrategyUnfit}
+use Rattle.sc_audit_errors.specs.declared.error.FitFault.TheVariants.{Variables}
 use Rattle.sc_jobs.specs.declared.claims.Claimed.{Claimed}
 use Rattle.sc_jobs.specs.Refusals.{or_later, variables_refusal, unfit, first_unfit, small_refusal}
 use Rattle.sc_jobs.specs.Taken.{IsTaken, AreTaken, kind_taken, claims_from, listed_in, Appends}
@@ -65,8 +65,8 @@ claim_from o challenge p s = record { kind = kind_taken s.kind; coefficient = po
 
 module _ (o : Ops) (ring : IsRing o) (challenge n : ℕ) where
   taken_weights : (p : ℕ) (ss : List Statement) → AreTaken ss → All (OnScaled n) (claims_from o challenge p ss) → (b : ℕ) → b < 2 ^ n →
-      combined_weight o (claims_from o challenge p ss) b ≡ powers_sum o challenge p (weights_at o ss b)
-  unfolding combined_weight scaled_from powers_sum
+      combined_weight o (claims_from o challenge p ss) b ≡ batched_by_powers o challenge p (weights_at o ss b)
+  unfolding combined_weight scaled_from batched_by_powers
   taken_weights p [] taken on b low = refl
   taken_weights p (s ∷ ss) taken on b low =
       let here = taken_weight o ring n s.kind (All-head (λ (t : Statement). IsTaken t.kind) s ss taken) (All-head (OnScaled n) _ (claims_from o challenge (suc p) ss) on) b low in
@@ -82,8 +82,8 @@ module _ (o : Ops) (ring : IsRing o) (challenge n : ℕ) where
       let is_taken = All-head (λ (t : Statement). IsTaken t.kind) s ss taken in
       let is_on = All-head (OnScaled n) _ (claims_from o challenge (suc p) ss) on in
       ap (λ v. v ∷ true_values_of o n f (claims_from o challenge (suc p) ss))
-      (inner-same o n f f (weight_of o (kind_taken s.kind)) (weight_of o s.kind) (λ b low. refl) (taken_weight o ring n s.kind is_taken is_on))
-      ∙ ap (λ vs. inner o n f (weight_of o s.kind) ∷ vs)
+      (inner_product-same o n f f (weight_of o (kind_taken s.kind)) (weight_of o s.kind) (λ b low. refl) (taken_weight o ring n s.kind is_taken is_on))
+      ∙ ap (λ vs. inner_product o n f (weight_of o s.kind) ∷ vs)
       (taken_values f (suc p) ss (All-tail (λ (t : Statement). IsTaken t.kind) s ss taken) (All-tail (OnScaled n) _ (claims_from o challenge (suc p) ss) on))
 
 module _ {EF : Type 0} (o : Ops) (ring : IsRing o) (p : Problem) (number : EF → ℕ) (cs : List (SvoClaim EF)) (is : claims_in number cs ≡ claims_from o p.batching p.initial p.statements) (on : AreOn p.variables cs)

@@ -4,9 +4,9 @@ use Rattle.sc_definitions.specs.declared.false_claim.FalseClaim.{FalseClaim as F
 use Rattle.sc_definitions.specs.declared.events.Event.{Event}
 use Rattle.sc_definitions.specs.Ring.{Ops}
 use Rattle.sc_definitions.specs.Problem.{Problem}
-use Rattle.sc_statements.specs.FalseClaims.{capped}
-use Rattle.sc_verdicts.specs.declared.error.AuditError.{AuditError}
-use Rattle.sc_verdicts.specs.declared.error.AuditError.TheVariants.{FalseClaim, NoMemory}
+use Rattle.sc_constraints.specs.FalseClaims.{capped}
+use Rattle.sc_audit_errors.specs.declared.error.AuditError.{AuditError}
+use Rattle.sc_audit_errors.specs.declared.error.AuditError.TheVariants.{FalseClaim, NoMemory}
 use Rattle.sc_jobs.specs.Cases.{Asked}
 use Rattle.sc_jobs.specs.Refusals.{false_refusal, refusal_in}
 use Rattle.sc_jobs.specs.Figures.{false_claim_of}

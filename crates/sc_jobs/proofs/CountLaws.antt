@@ -3,8 +3,8 @@ use Rattle.std.proofs.Common.{◌≡◌, ℕ, length, if◌then◌else◌, ◌==
 use Rattle.std.proofs.lemmas.Bool.Decides.{eqb_tells}
 use Rattle.std.specs.Prelude.{Option}
 use Rattle.sc_transcript.specs.Data.{witness_count}
-use Rattle.sc_verdicts.specs.declared.error.AuditError.{AuditError}
-use Rattle.sc_verdicts.specs.declared.error.AuditError.TheVariants.{RoundCountMismatch, PowWitnessCountMismatch}
+use Rattle.sc_audit_errors.specs.declared.error.AuditError.{AuditError}
+use Rattle.sc_audit_errors.specs.declared.error.AuditError.TheVariants.{RoundCountMismatch, PowWitnessCountMismatch}
 use Rattle.sc_jobs.specs.Cases.{Given}
 use Rattle.sc_jobs.specs.Refusals.{count_refusal}
 

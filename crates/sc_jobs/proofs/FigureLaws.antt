@@ -2,7 +2,7 @@
 use Rattle.std.proofs.Common.{◌≡◌, ℕ, ◌==◌, List, ◌++◌, Bool, refl, ap, ◌∙◌}
 use Rattle.sc_definitions.specs.Events.{words}
 use Rattle.sc_definitions.specs.Seeds.{quadratic_seed}
-use Rattle.sc_definitions.specs.Channels.{footing}
+use Rattle.sc_definitions.specs.Channels.{verifier_state}
 use Rattle.sc_jobs.specs.Cases.{Asked, start_of}
 use Rattle.sc_definitions.specs.Ring.{Ops, times}
 use Rattle.sc_definitions.specs.Tables.{Basis, Order, entries, value_in, point_of}
@@ -11,7 +11,7 @@ use Rattle.sc_definitions.specs.Problem.{Problem, weights_of, claim_of, residual
 use Rattle.sc_definitions.specs.Lucky.{luck_of}
 use Rattle.sc_definitions.proofs.HonestRounds.{value_in-same}
 use Rattle.sc_table.proofs.EntryLaws.{entry-embedded}
-use Rattle.sc_verdicts.specs.Findings.{Finding}
+use Rattle.sc_audit_errors.specs.Findings.{Finding}
 use Rattle.sc_jobs.specs.Figures.{Figures, finding_by, false_claim_of, is_matched, figures_of}
 
 module _ (o : Ops) (p : Problem) where
@@ -58,5 +58,5 @@ module _ (o : Ops) (basis : Basis) (order : Order) (n : ℕ) (f : ℕ → ℕ) (
 
 -- where the first round stands, by other names
 pub start_is : (q : Asked) (degree k claim : ℕ) → degree ≡ q.channel.extension.degree → k ≡ q.case.problem.variables → claim ≡ claim_of q.ops q.case.problem →
-    footing (q.history ++ words (quadratic_seed degree q.case.problem.basis q.channel.bits k)) claim ≡ start_of q
+    verifier_state (q.history ++ words (quadratic_seed degree q.case.problem.basis q.channel.bits k)) claim ≡ start_of q
 start_is q degree k claim ed ek ec = rw (ed, ek, ec) refl

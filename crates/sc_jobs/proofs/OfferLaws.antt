@@ -1,9 +1,9 @@
 -- Whether a basis is offered with an order.
 use Rattle.std.proofs.Common.{◌≡◌, Option, Some, None, refl}
 use Rattle.sc_definitions.specs.Tables.{Basis, evaluation, projective, Order, prefix, suffix, IsOffered}
-use Rattle.sc_verdicts.specs.declared.error.AuditError.TheVariants.{JobShape}
-use Rattle.sc_verdicts.specs.declared.error.ShapeFault.TheVariants.{ProjectiveSuffix}
-use Rattle.sc_verdicts.specs.declared.error.AuditError.{AuditError}
+use Rattle.sc_audit_errors.specs.declared.error.AuditError.TheVariants.{JobShape}
+use Rattle.sc_audit_errors.specs.declared.error.ShapeFault.TheVariants.{ProjectiveSuffix}
+use Rattle.sc_audit_errors.specs.declared.error.AuditError.{AuditError}
 use Rattle.sc_jobs.specs.Refusals.{offer_refusal, basis_refusal, or_later}
 
 -- it is not refused where it is

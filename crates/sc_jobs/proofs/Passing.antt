@@ -7,14 +7,14 @@ use Rattle.sc_definitions.specs.Channels.{witnesses_of}
 use Rattle.sc_definitions.specs.Rounds.{next_claim, claim_along}
 use Rattle.sc_definitions.specs.Problem.{claim_of, residual_of, eval_of, weight_value_of}
 use Rattle.sc_definitions.specs.TwoTables.{tables_in, end_of}
-use Rattle.sc_definitions.specs.Lucky.{Luck, luck_of}
+use Rattle.sc_definitions.specs.Lucky.{LuckyChallenge, luck_of}
 use Rattle.sc_definitions.specs.Strategies.{messages_against, accepts}
-use Rattle.sc_verdicts.specs.Findings.{refuted}
+use Rattle.sc_audit_errors.specs.Findings.{refuted}
 use Rattle.sc_jobs.specs.Cases.{start_of}
 use Rattle.sc_jobs.specs.Figures.{Figures, finding_by, false_claim_of, is_matched, figures_of}
 use Rattle.sc_jobs.specs.Laws.{PassingIsAccepted, ReportsAreAccepted}
 
-unrefuted : (b : Bool) (fault : Option FalseClaim) (luck : Option Luck) → (finding_by b fault luck ≡ refuted → ⊥) → b ≡ true
+unrefuted : (b : Bool) (fault : Option FalseClaim) (luck : Option LuckyChallenge) → (finding_by b fault luck ≡ refuted → ⊥) → b ≡ true
 unrefuted false fault luck passed = absurd (passed refl)
 unrefuted true fault luck passed = refl
 

@@ -8,8 +8,8 @@ use Rattle.sc_definitions.specs.Transcript.{Round, rounds_events}
 use Rattle.sc_definitions.specs.Replays.{round_passes, AllPass, given_rounds}
 use Rattle.sc_definitions.specs.Problem.{honest_of}
 use Rattle.sc_definitions.proofs.WitnessLaws.{AreLow, honest_rounds-whole, honest_rounds-none, none_passes, first_failing-at, first_failing-none}
-use Rattle.sc_verdicts.specs.declared.error.AuditError.{AuditError}
-use Rattle.sc_verdicts.specs.declared.error.AuditError.TheVariants.{InvalidPowWitness, NoWitness, NoMemory}
+use Rattle.sc_audit_errors.specs.declared.error.AuditError.{AuditError}
+use Rattle.sc_audit_errors.specs.declared.error.AuditError.TheVariants.{InvalidPowWitness, NoWitness, NoMemory}
 use Rattle.sc_jobs.specs.declared.report.Report.{Report}
 use Rattle.sc_jobs.specs.Cases.{Task, build, check, Asked, start_of}
 use Rattle.sc_jobs.specs.Refusals.{or_later, shape_refusal, task_refusal, refusal_of}

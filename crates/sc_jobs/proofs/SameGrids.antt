@@ -3,7 +3,7 @@ use Rattle.std.proofs.Common.{◌≡◌, ℕ, zero, suc, ◌+◌, ◌-◌, ◌^�
 use Rattle.std.proofs.lemmas.List.{length-append}
 use Rattle.sc_definitions.specs.Ring.{Ops}
 use Rattle.sc_definitions.specs.Tables.{Order}
-use Rattle.sc_definitions.specs.Grids.{Digit, nought, infinity, ternary, grid_list, grid_of, grids_of}
+use Rattle.sc_definitions.specs.Grids.{Digit, digit_zero, infinity, ternary, grid_list, grid_of, grids_of}
 use Rattle.sc_definitions.proofs.GridLaws.{grid_entry-same, length-ternary, length-grid_list, rows-grid_list, grid_list-is, grids_of-none, grids_of-more}
 
 module _ (order : Order) (o : Ops) (f w v : ℕ → ℕ) where
@@ -16,8 +16,8 @@ module _ (order : Order) (o : Ops) (f w v : ℕ → ℕ) where
 
   grid_same : (j m : ℕ) → ((b : ℕ) → b < 2 ^ (j + suc m) → w b ≡ v b) → grid_of order o f w j m ≡ grid_of order o f v j m
   grid_same j m same =
-      ap (λ xs. (xs, grid_list order o f w infinity j m)) (list_same nought j m same)
-      ∙ ap (λ xs. (grid_list order o f v nought j m, xs)) (list_same infinity j m same)
+      ap (λ xs. (xs, grid_list order o f w infinity j m)) (list_same digit_zero j m same)
+      ∙ ap (λ xs. (grid_list order o f v digit_zero j m, xs)) (list_same infinity j m same)
 
   -- weights that agree at each row of n variables have the same grids of rounds
   pub grids_of-same : (n l : ℕ) → l ≤ n → ((b : ℕ) → b < 2 ^ n → w b ≡ v b) → grids_of order o n f w l ≡ grids_of order o n f v l

@@ -7,7 +7,7 @@ use Rattle.sc_definitions.specs.Ring.{Ops}
 use Rattle.sc_definitions.specs.Tables.{entries}
 use Rattle.sc_definitions.specs.Events.{Rules}
 use Rattle.sc_definitions.specs.Channels.{channel}
-use Rattle.sc_definitions.specs.Statements.{Statement, AllTrueOf, IsTrueOf, weights_at, powers_sum, batched_weight, weight_of}
+use Rattle.sc_definitions.specs.Statements.{Statement, AllTrueOf, IsTrueOf, weights_at, batched_by_powers, batched_weight, weight_of}
 use Rattle.sc_definitions.specs.Problem.{Problem, weights_of}
 use Rattle.sc_field.specs.declared.field.Field.{Ghosts as FieldOf}
 use Rattle.sc_field.specs.declared.algebra.Algebra.{Ghosts as AlgebraOf}
@@ -15,14 +15,14 @@ use Rattle.sc_field.specs.declared.algebra.ExtensionField.{Ghosts as ExtensionOf
 use Rattle.sc_table.specs.Strategy.{basis_of, order_of}
 use Rattle.sc_table.specs.declared.strategy.Strategy.{Strategy}
 use Rattle.sc_table.specs.declared.strategy.Strategy.TheVariants.{Plain, Represented, SmallValue}
-use Rattle.sc_statements.specs.Constraints.{constraint_arity, constraint_challenge, constraint_power}
-use Rattle.sc_claims.specs.Claimed.{all_stated_truly}
-use Rattle.sc_claims.proofs.FalseSteps.{first_false-none}
+use Rattle.sc_constraints.specs.Constraints.{constraint_arity, constraint_challenge, constraint_power}
+use Rattle.sc_statements.specs.Claimed.{all_stated_truly}
+use Rattle.sc_statements.proofs.FalseSteps.{first_false-none}
 use Rattle.sc_svo.specs.Batches.{GridBatch}
 use Rattle.sc_svo.specs.Grids.{most_rounds}
-use Rattle.sc_verdicts.specs.Arities.{arity_of}
-use Rattle.sc_verdicts.specs.declared.error.AuditError.{AuditError}
-use Rattle.sc_verdicts.specs.declared.error.AuditError.TheVariants.{NoMemory}
+use Rattle.sc_audit_errors.specs.Arities.{arity_of}
+use Rattle.sc_audit_errors.specs.declared.error.AuditError.{AuditError}
+use Rattle.sc_audit_errors.specs.declared.error.AuditError.TheVariants.{NoMemory}
 use Rattle.sc_jobs.specs.declared.job.Job.{Job}
 use Rattle.sc_jobs.specs.Cases.{problem_in, task_in, asked_of}
 use Rattle.sc_jobs.specs.Figures.{false_claim_of}
@@ -71,7 +71,7 @@ module _ (o : Ops) (p : Problem) where
     basis = is.basis;
     order = is.order;
     variables = is.variables;
-    weights = λ row low. is.weights row low ∙ ap (powers_sum o p.batching p.initial) (sym (weights-stated o p.variables p.table p.statements row));
+    weights = λ row low. is.weights row low ∙ ap (batched_by_powers o p.batching p.initial) (sym (weights-stated o p.variables p.table p.statements row));
     within = is.within;
     grids = is.grids;
   }

@@ -5,15 +5,15 @@ use Rattle.std.proofs.lemmas.List.{length-append, drop_all}
 use Rattle.sc_definitions.specs.Statements.{Kind, equality, successor, powers, products, Statement}
 use Rattle.sc_table.specs.Strategy.{order_of}
 use Rattle.sc_weights.specs.declared.next.NextConstraint.{NextConstraint}
-use Rattle.sc_claims.specs.declared.evaluated.EvaluatedConstraint.{EvaluatedConstraint}
-use Rattle.sc_claims.specs.Lists.{evaluated_all}
-use Rattle.sc_claims.specs.EqStatements.{point_kind}
-use Rattle.sc_claims.specs.NextStatements.{next_kind, selector_at}
-use Rattle.sc_claims.specs.SelectStatements.{claims_of}
-use Rattle.sc_statements.proofs.GroupSteps.{groups-more, groups-split}
-use Rattle.sc_verdicts.specs.declared.error.AuditError.{AuditError}
-use Rattle.sc_verdicts.specs.declared.error.AuditError.TheVariants.{StrategyUnfit}
-use Rattle.sc_verdicts.specs.declared.error.FitFault.TheVariants.{Select, Selector}
+use Rattle.sc_statements.specs.declared.evaluated.EvaluatedConstraint.{EvaluatedConstraint}
+use Rattle.sc_statements.specs.Lists.{evaluated_all}
+use Rattle.sc_statements.specs.EqStatements.{point_kind}
+use Rattle.sc_statements.specs.NextStatements.{next_kind, selector_at}
+use Rattle.sc_statements.specs.SelectStatements.{claims_of}
+use Rattle.sc_constraints.proofs.GroupSteps.{groups-more, groups-split}
+use Rattle.sc_audit_errors.specs.declared.error.AuditError.{AuditError}
+use Rattle.sc_audit_errors.specs.declared.error.AuditError.TheVariants.{StrategyUnfit}
+use Rattle.sc_audit_errors.specs.declared.error.FitFault.TheVariants.{Select, Selector}
 use Rattle.sc_jobs.specs.Refusals.{or_later, told_number, unfit, first_unfit}
 
 later-assoc : (a b c : Option AuditError) → or_later (or_later a b) c ≡ or_later a (or_later b c)

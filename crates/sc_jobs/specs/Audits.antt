@@ -4,18 +4,18 @@ use Rattle.sc_definitions.specs.declared.events.Event.{Event}
 use Rattle.sc_definitions.specs.Rounds.{next_claim}
 use Rattle.sc_definitions.specs.Transcript.{Round, messages_of, rounds_events, challenges}
 use Rattle.sc_definitions.specs.Replays.{AllPass, given_rounds}
-use Rattle.sc_definitions.specs.Channels.{footing, FailsAt, NoWitnessFound, witnesses_of, IsBuilt}
+use Rattle.sc_definitions.specs.Channels.{verifier_state, FailsAt, NoWitnessFound, witnesses_of, IsBuilt}
 use Rattle.sc_definitions.specs.Problem.{honest_of, weights_of}
 use Rattle.sc_definitions.specs.Grids.{grids_of}
 use Rattle.sc_table.specs.declared.strategy.Strategy.TheVariants.{SmallValue}
 use Rattle.sc_transcript.specs.declared.error.SumcheckError.{SumcheckError}
 use Rattle.sc_transcript.specs.declared.error.SumcheckError.TheVariants as replay
 use Rattle.sc_jobs.specs.declared.report.Report.{Report}
-use Rattle.sc_verdicts.specs.declared.error.AuditError.{AuditError}
-use Rattle.sc_verdicts.specs.declared.error.AuditError.TheVariants.{RoundCountMismatch, PowWitnessCountMismatch, InvalidPowWitness, NoWitness, NoMemory}
+use Rattle.sc_audit_errors.specs.declared.error.AuditError.{AuditError}
+use Rattle.sc_audit_errors.specs.declared.error.AuditError.TheVariants.{RoundCountMismatch, PowWitnessCountMismatch, InvalidPowWitness, NoWitness, NoMemory}
 use Rattle.sc_jobs.specs.Cases.{Given, Task, build, check, Asked, start_of}
 use Rattle.sc_jobs.specs.Refusals.{refusal_of, task_refusal}
-use Rattle.sc_verdicts.specs.Findings.{holds}
+use Rattle.sc_audit_errors.specs.Findings.{holds}
 use Rattle.sc_jobs.specs.Figures.{Figures, Reported, figures_of, report_in}
 use Rattle.sc_jobs.specs.Certified.{CertifiesLuck}
 
@@ -60,7 +60,7 @@ pub record IsAudited (q : Asked) (report : Reported) (h' : List Event) : Type 0 
 -- round i is the first of a proof whose witness fails, and the history ends with its test
 pub record ProofFails (q : Asked) (given : Given) (i : ℕ) (h' : List Event) : Type 0 where
   pub claim : ℕ
-  pub at : FailsAt (next_claim q.case.problem.basis q.ops) q.channel (start_of q) (footing h' claim) (given_rounds given.messages given.witnesses) i
+  pub at : FailsAt (next_claim q.case.problem.basis q.ops) q.channel (start_of q) (verifier_state h' claim) (given_rounds given.messages given.witnesses) i
 
 -- the same, of what is done
 abbrev pub WitnessFails : Asked → Task → ℕ → List Event → Type 0
@@ -135,10 +135,10 @@ pub record IsValid (q : Asked) : Type 0 where
   pub passes : PassesAll q q.case.task
 
 -- what can keep a valid case from its report: want of memory; a round of a build without a witness
-abbrev pub MayMeet : AuditError → Type 0
-MayMeet (NoWitness i) = Unit {0}
-MayMeet NoMemory = Unit {0}
-MayMeet e = ⊥
+abbrev pub MayStopValid : AuditError → Type 0
+MayStopValid (NoWitness i) = Unit {0}
+MayStopValid NoMemory = Unit {0}
+MayStopValid e = ⊥
 
 -- all that is said of what an audit answers
 pub record IsAnswer {F EF : Type 0} (base : F → ℕ) (number : EF → ℕ) (q : Asked) (result : Result (Report F EF) AuditError) (h' : List Event) : Type 0 where
@@ -146,7 +146,7 @@ pub record IsAnswer {F EF : Type 0} (base : F → ℕ) (number : EF → ℕ) (q 
   pub holds : IfOk result (λ r. HoldsIfBuilt q.case.task (report_in base number r).figures)
   pub certified : IfOk result (λ r. CertifiesLuck q.ops q.case.problem (report_in base number r).figures)
   pub refused : IsRefusedBy (refusal_of q) result
-  pub answered : IsValid q → IfErr result MayMeet
+  pub answered : IsValid q → IfErr result MayStopValid
 
 -- what the replay's or the prover's refusal is answered as; neither refuses more than these, want of memory aside
 abbrev pub refusal_by : SumcheckError → AuditError

@@ -3,9 +3,9 @@ use Rattle.std.specs.Prelude.{◌≡◌, ℕ, List, length}
 use Rattle.sc_definitions.specs.Ring.{Ops}
 use Rattle.sc_definitions.specs.Transcript.{Round, challenges}
 use Rattle.sc_definitions.specs.Channels.{Wire, empty_wire, with_rounds}
-use Rattle.sc_definitions.specs.Standings.{entries_of}
+use Rattle.sc_definitions.specs.ProverStates.{entries_of}
 use Rattle.sc_definitions.specs.Problem.{Problem, weights_of, claim_of, eval_of, weight_value_of}
-use Rattle.sc_definitions.specs.Shown.{Shown}
+use Rattle.sc_definitions.specs.ProverViews.{ProverView}
 use Rattle.sc_jobs.specs.Cases.{build, Asked, with_task, start_of}
 use Rattle.sc_jobs.specs.Audits.{AreRounds, grids_for}
 use Rattle.sc_table.specs.declared.strategy.Strategy.TheVariants.{Plain}
@@ -15,7 +15,7 @@ abbrev pub as_build : Asked → Asked
 as_build q = with_task q (build Plain)
 
 -- what a prover shows of a problem before its first round
-abbrev pub prover_for : Ops → Problem → Shown
+abbrev pub prover_for : Ops → Problem → ProverView
 prover_for o p = record {
   basis = p.basis;
   order = p.order;

@@ -7,13 +7,13 @@ use Rattle.sc_definitions.specs.Ring.{Ops}
 use Rattle.sc_definitions.specs.Tables.{entries}
 use Rattle.sc_definitions.specs.Events.{Rules, words}
 use Rattle.sc_definitions.specs.Seeds.{quadratic_seed}
-use Rattle.sc_definitions.specs.Channels.{Channel, channel, Footing, footing}
+use Rattle.sc_definitions.specs.Channels.{Channel, channel, VerifierState, verifier_state}
 use Rattle.sc_definitions.specs.Problem.{Problem, claim_of}
 use Rattle.sc_field.specs.declared.field.Field.{Ghosts as FieldOf}
 use Rattle.sc_field.specs.declared.algebra.Algebra.{Ghosts as AlgebraOf}
 use Rattle.sc_field.specs.declared.algebra.ExtensionField.{Ghosts as ExtensionOf}
 use Rattle.sc_table.specs.Strategy.{basis_of, order_of}
-use Rattle.sc_statements.specs.Constraints.{constraint_arity, constraint_challenge, constraint_power, constraint_statements}
+use Rattle.sc_constraints.specs.Constraints.{constraint_arity, constraint_challenge, constraint_power, constraint_statements}
 use Rattle.sc_transcript.specs.declared.data.SumcheckData.{SumcheckData}
 use Rattle.sc_transcript.specs.Data.{messages_in, witnesses_in}
 use Rattle.sc_table.specs.declared.strategy.Strategy.{Strategy}
@@ -49,9 +49,9 @@ abbrev pub with_task : Asked → Task → Asked
 with_task q task = record q { case = record q.case { task = task } }
 
 -- where the first round stands: after the seed, which is empty for no rounds, and under the batched claim
-abbrev pub start_of : Asked → Footing
+abbrev pub start_of : Asked → VerifierState
 start_of q =
-    footing (q.history ++ words (quadratic_seed q.channel.extension.degree q.case.problem.basis q.channel.bits q.case.problem.variables)) (claim_of q.ops q.case.problem)
+    verifier_state (q.history ++ words (quadratic_seed q.channel.extension.degree q.case.problem.basis q.channel.bits q.case.problem.variables)) (claim_of q.ops q.case.problem)
 
 -- ---- views
 

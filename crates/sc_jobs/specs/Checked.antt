@@ -1,8 +1,8 @@
 -- What the report on rounds that were replayed says, by its result.
 use Rattle.std.specs.Prelude.{◌≡◌, ℕ, [], Result, Ok, Err}
 use Rattle.sc_jobs.specs.declared.report.Report.{Report}
-use Rattle.sc_verdicts.specs.declared.error.AuditError.{AuditError}
-use Rattle.sc_verdicts.specs.declared.error.AuditError.TheVariants.{NoMemory}
+use Rattle.sc_audit_errors.specs.declared.error.AuditError.{AuditError}
+use Rattle.sc_audit_errors.specs.declared.error.AuditError.TheVariants.{NoMemory}
 use Rattle.sc_jobs.specs.Figures.{Figures, Reported, report_in}
 
 -- a report shows these figures, and no grids

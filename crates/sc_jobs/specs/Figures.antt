@@ -4,9 +4,9 @@ use Rattle.sc_definitions.specs.declared.false_claim.FalseClaim.{FalseClaim}
 use Rattle.sc_definitions.specs.Ring.{Ops, ◌*⟨◌⟩◌}
 use Rattle.sc_definitions.specs.Statements.{first_false_claim}
 use Rattle.sc_definitions.specs.Problem.{Problem, claim_of, residual_of, eval_of, weight_value_of}
-use Rattle.sc_definitions.specs.Lucky.{Luck, in_batch, in_round, luck_of}
+use Rattle.sc_definitions.specs.Lucky.{LuckyChallenge, in_batch, in_round, luck_of}
 use Rattle.sc_transcript.specs.Data.{messages_in, witnesses_in}
-use Rattle.sc_verdicts.specs.Findings.{Finding, holds, refuted, lucky, named}
+use Rattle.sc_audit_errors.specs.Findings.{Finding, holds, refuted, lucky, named}
 use Rattle.sc_svo.specs.Grids.{grids_shown}
 use Rattle.sc_jobs.specs.declared.report.Report.{Report}
 use Rattle.sc_jobs.specs.declared.report.Verdict.{Verdict}
@@ -24,7 +24,7 @@ pub record Figures : Type 0 where
   pub finding : Finding
 
 -- what is found where the residual is right or not, and this is the first false statement, if one is, and the first lucky challenge, if one is
-abbrev pub finding_by : Bool → Option FalseClaim → Option Luck → Finding
+abbrev pub finding_by : Bool → Option FalseClaim → Option LuckyChallenge → Finding
 finding_by false fault luck = refuted
 finding_by true None luck = holds
 finding_by true (Some c) luck = named luck

@@ -4,10 +4,10 @@ use Rattle.sc_definitions.specs.declared.events.Event.{Event}
 use Rattle.sc_definitions.specs.Ring.{Ops}
 use Rattle.sc_definitions.specs.Problem.{Problem, claim_of}
 use Rattle.sc_definitions.specs.TwoTables.{tables_in}
-use Rattle.sc_definitions.specs.Strategies.{Held, messages_against, accepts}
+use Rattle.sc_definitions.specs.Strategies.{StrategyEntry, messages_against, accepts}
 use Rattle.sc_table.specs.declared.strategy.Strategy.{Strategy}
 use Rattle.sc_jobs.specs.Cases.{build, Asked, with_task}
-use Rattle.sc_verdicts.specs.Findings.{refuted}
+use Rattle.sc_audit_errors.specs.Findings.{refuted}
 use Rattle.sc_jobs.specs.Figures.{Reported, figures_of}
 use Rattle.sc_jobs.specs.Audits.{IsAudited}
 
@@ -22,12 +22,12 @@ BuildsAgree =
 -- claim on.
 abbrev pub PassingIsAccepted : Ops → Type 0
 PassingIsAccepted o =
-    (p : Problem) (s : List Held) (messages : List (List ℕ)) (witnesses rs : List ℕ) → messages_against s [] rs ≡ messages →
+    (p : Problem) (s : List StrategyEntry) (messages : List (List ℕ)) (witnesses rs : List ℕ) → messages_against s [] rs ≡ messages →
     ((figures_of o p messages witnesses rs).finding ≡ refuted → ⊥) → accepts o (tables_in o p) s (claim_of o p) rs ≡ true
 
 -- So a strategy that sends the rounds of a report against its challenges accepts these from the report's claim on, unless they are refuted.
 abbrev pub ReportsAreAccepted : Type 0
 ReportsAreAccepted =
-    (q : Asked) (report : Reported) (h : List Event) (s : List Held) → IsAudited q report h →
+    (q : Asked) (report : Reported) (h : List Event) (s : List StrategyEntry) → IsAudited q report h →
     messages_against s [] report.figures.challenges ≡ report.figures.messages → (report.figures.finding ≡ refuted → ⊥) →
     accepts q.ops (tables_in q.ops q.case.problem) s report.figures.claim report.figures.challenges ≡ true

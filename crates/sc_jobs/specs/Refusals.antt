@@ -4,16 +4,16 @@ use Rattle.sc_definitions.specs.declared.false_claim.FalseClaim.{FalseClaim as F
 use Rattle.sc_definitions.specs.Statements.{Kind, equality, successor, powers, products, Statement, first_false_claim}
 use Rattle.sc_definitions.specs.Tables.{Basis, evaluation, projective, Order, prefix, suffix}
 use Rattle.sc_definitions.specs.Problem.{Problem}
-use Rattle.sc_statements.specs.FalseClaims.{capped}
+use Rattle.sc_constraints.specs.FalseClaims.{capped}
 use Rattle.sc_transcript.specs.Data.{witness_count}
 use Rattle.sc_table.specs.declared.strategy.Strategy.{Strategy}
 use Rattle.sc_table.specs.declared.strategy.Strategy.TheVariants.{Plain, Represented, SmallValue}
 use Rattle.sc_svo.specs.Grids.{most_rounds}
-use Rattle.sc_verdicts.specs.declared.error.AuditError.{AuditError}
-use Rattle.sc_verdicts.specs.declared.error.AuditError.TheVariants.{JobShape, StrategyUnfit, FalseClaim, MissingSumcheckData, RoundCountMismatch, PowWitnessCountMismatch}
-use Rattle.sc_verdicts.specs.declared.error.FitFault.TheVariants.{Projective, Variables, Select, Selector}
-use Rattle.sc_verdicts.specs.declared.error.ShapeFault.TheVariants.{TableLength, Difficulty, Arity, ProjectiveSuffix}
-use Rattle.sc_verdicts.specs.Arities.{arity_of}
+use Rattle.sc_audit_errors.specs.declared.error.AuditError.{AuditError}
+use Rattle.sc_audit_errors.specs.declared.error.AuditError.TheVariants.{JobShape, StrategyUnfit, FalseClaim, MissingSumcheckData, RoundCountMismatch, PowWitnessCountMismatch}
+use Rattle.sc_audit_errors.specs.declared.error.FitFault.TheVariants.{Projective, Variables, Select, Selector}
+use Rattle.sc_audit_errors.specs.declared.error.ShapeFault.TheVariants.{TableLength, Difficulty, Arity, ProjectiveSuffix}
+use Rattle.sc_audit_errors.specs.Arities.{arity_of}
 use Rattle.sc_jobs.specs.Cases.{Given, Task, build, check, Asked}
 
 -- the first refusal, or else the later one

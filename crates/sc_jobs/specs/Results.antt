@@ -6,8 +6,8 @@ use Rattle.sc_definitions.specs.Transcript.{Round}
 use Rattle.sc_definitions.specs.Replays.{given_rounds}
 use Rattle.sc_definitions.specs.Problem.{honest_of}
 use Rattle.sc_definitions.specs.Witnesses.{honest_rounds, first_failing}
-use Rattle.sc_verdicts.specs.declared.error.AuditError.{AuditError}
-use Rattle.sc_verdicts.specs.declared.error.AuditError.TheVariants.{InvalidPowWitness, NoWitness, NoMemory}
+use Rattle.sc_audit_errors.specs.declared.error.AuditError.{AuditError}
+use Rattle.sc_audit_errors.specs.declared.error.AuditError.TheVariants.{InvalidPowWitness, NoWitness, NoMemory}
 use Rattle.sc_jobs.specs.declared.report.Report.{Report}
 use Rattle.sc_jobs.specs.Cases.{Task, build, check, Asked, start_of}
 use Rattle.sc_jobs.specs.Refusals.{refusal_of}

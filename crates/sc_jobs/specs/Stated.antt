@@ -7,14 +7,14 @@ use Rattle.sc_definitions.specs.Problem.{Problem}
 use Rattle.sc_field.specs.declared.field.Field.{Ghosts as FieldOf}
 use Rattle.sc_field.specs.declared.algebra.Algebra.{Ghosts as AlgebraOf}
 use Rattle.sc_field.specs.declared.algebra.ExtensionField.{Ghosts as ExtensionOf}
-use Rattle.sc_statements.specs.Constraints.{constraint_arity, constraint_challenge, constraint_power}
-use Rattle.sc_claims.specs.Claimed.{all_stated_truly}
-use Rattle.sc_verdicts.specs.declared.error.AuditError.{AuditError}
-use Rattle.sc_verdicts.specs.declared.error.AuditError.TheVariants.{NoMemory}
+use Rattle.sc_constraints.specs.Constraints.{constraint_arity, constraint_challenge, constraint_power}
+use Rattle.sc_statements.specs.Claimed.{all_stated_truly}
+use Rattle.sc_audit_errors.specs.declared.error.AuditError.{AuditError}
+use Rattle.sc_audit_errors.specs.declared.error.AuditError.TheVariants.{NoMemory}
 use Rattle.sc_table.specs.Strategy.{basis_of, order_of}
 use Rattle.sc_jobs.specs.declared.job.Job.{Job}
 use Rattle.sc_jobs.specs.Cases.{Asked, problem_in}
-use Rattle.sc_verdicts.specs.Arities.{arity_of}
+use Rattle.sc_audit_errors.specs.Arities.{arity_of}
 use Rattle.sc_jobs.specs.Refusals.{shape_by}
 
 -- the problem whose statements claim their true values, and that is the same otherwise

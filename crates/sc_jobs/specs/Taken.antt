@@ -5,11 +5,11 @@ use Rattle.sc_definitions.specs.Tables.{evaluation, prefix}
 use Rattle.sc_definitions.specs.Statements.{Kind, equality, successor, Statement, claims, claimed_values}
 use Rattle.sc_definitions.specs.Combined.{Scaled, combined_weight, scaled_from}
 use Rattle.sc_definitions.specs.Problem.{Problem, weights_of}
-use Rattle.sc_statements.specs.FalseClaims.{capped}
+use Rattle.sc_constraints.specs.FalseClaims.{capped}
 use Rattle.sc_svo.specs.Claims.{claims_in}
 use Rattle.sc_svo.specs.Batches.{GridBatch, IsTableOf}
-use Rattle.sc_verdicts.specs.declared.error.AuditError.{AuditError}
-use Rattle.sc_verdicts.specs.declared.error.AuditError.TheVariants.{NoMemory}
+use Rattle.sc_audit_errors.specs.declared.error.AuditError.{AuditError}
+use Rattle.sc_audit_errors.specs.declared.error.AuditError.TheVariants.{NoMemory}
 use Rattle.sc_jobs.specs.declared.claims.Claimed.{Claimed}
 use Rattle.sc_jobs.specs.Refusals.{false_refusal}
 use Rattle.sc_jobs.specs.Figures.{false_claim_of}

@@ -6,21 +6,21 @@ ghost use Rattle.sc_definitions.specs.Statements.{
   true_values,
   first_false_claim,
 };
-ghost use Rattle.sc_statements.specs.Constraints.{
+ghost use Rattle.sc_constraints.specs.Constraints.{
   constraint_arity,
   constraint_statements,
   constraint_challenge,
   constraint_power,
 };
-ghost use Rattle.sc_claims.specs.EqStatements.{eq_arity, eq_statements};
-ghost use Rattle.sc_claims.specs.NextStatements.{next_arity, next_statements};
-ghost use Rattle.sc_statements.specs.Groups.{group_arity, group_statements};
+ghost use Rattle.sc_statements.specs.EqStatements.{eq_arity, eq_statements};
+ghost use Rattle.sc_statements.specs.NextStatements.{next_arity, next_statements};
+ghost use Rattle.sc_constraints.specs.Groups.{group_arity, group_statements};
 ghost use Rattle.sc_svo.specs.Claims.{AreOn, claims_in};
 ghost use Rattle.sc_jobs.specs.Taken.{AreTaken, AppendsBy, IsNextFactor, claims_from, listed_in};
 
+use sc_constraints::{Constraint, EqStatement, NextStatement, Statements};
 use sc_definitions::FalseClaim;
 use sc_field::{ExtensionField, Field, NoMemory};
-use sc_statements::{Constraint, EqStatement, NextStatement, Statements};
 use sc_svo::SvoClaim;
 use std::alloc::Global;
 

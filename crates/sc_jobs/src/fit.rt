@@ -1,18 +1,18 @@
 //! Which strategies fit the statements of a job.
 ghost use Rattle.std.specs.Prelude.{◌≡◌};
 ghost use Rattle.sc_table.specs.Strategy.{basis_of};
-ghost use Rattle.sc_statements.specs.Constraints.{constraint_arity, constraint_statements};
-ghost use Rattle.sc_statements.specs.Groups.{group_statements};
-ghost use Rattle.sc_claims.specs.NextStatements.{next_statements};
+ghost use Rattle.sc_constraints.specs.Constraints.{constraint_arity, constraint_statements};
+ghost use Rattle.sc_constraints.specs.Groups.{group_statements};
+ghost use Rattle.sc_statements.specs.NextStatements.{next_statements};
 ghost use Rattle.sc_jobs.specs.Fitting.{stated_in};
 ghost use Rattle.sc_jobs.specs.Refusals.{first_unfit, basis_refusal, small_refusal, strategy_refusal, refusal_in};
 
 use crate::shape::FittingJob;
+use sc_audit_errors::{AuditError, FitFault};
+use sc_constraints::{Constraint, NextStatement, Statements};
 use sc_field::{ExtensionField, Field};
-use sc_statements::{Constraint, NextStatement, Statements};
 use sc_svo::MOST_ROUNDS;
 use sc_table::{Basis, Strategy};
-use sc_verdicts::{AuditError, FitFault};
 
 /// Refuses a strategy that does not fit a job: another one than the plain one of coefficients; or
 /// small-value rounds for no variable, for more than the job has or than the greatest number, or of

@@ -15,5 +15,5 @@ pub use job::{Job, Mode};
 pub use report::{Report, Verdict};
 pub use sc_svo::{Grid, Grids};
 pub use sc_table::Strategy;
-pub use sc_verdicts::{AuditError, FitFault, ShapeFault};
+pub use sc_audit_errors::{AuditError, FitFault, ShapeFault};
 pub use shape::FittingJob;

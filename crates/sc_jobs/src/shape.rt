@@ -3,13 +3,13 @@ ghost use Rattle.std.specs.Prelude.{◌≡◌, ◌≤◌, ◌^◌, Some, None, I
 ghost use Rattle.sc_definitions.specs.Tables.{IsOffered};
 ghost use Rattle.sc_definitions.specs.Offers.{IsOffered-prop};
 ghost use Rattle.sc_table.specs.Strategy.{basis_of, order_of};
-ghost use Rattle.sc_statements.specs.Constraints.{constraint_arity};
-ghost use Rattle.sc_verdicts.specs.Arities.{most_variables, arity_of};
+ghost use Rattle.sc_constraints.specs.Constraints.{constraint_arity};
+ghost use Rattle.sc_audit_errors.specs.Arities.{most_variables, arity_of};
 ghost use Rattle.sc_jobs.specs.Refusals.{shape_by, refusal_in};
 
 use crate::job::Job;
+use sc_audit_errors::{AuditError, ShapeFault, arity};
 use sc_field::{ExtensionField, Field};
-use sc_verdicts::{AuditError, ShapeFault, arity};
 
 /// A job of the right shape: its table has a row for each choice of its statements' variables, of
 /// which there are at most the greatest number, and its basis is offered with its order.

@@ -4,8 +4,8 @@ use Rattle.std.proofs.lemmas.List.{take_more, map-append, append_assoc}
 use Rattle.std.proofs.lemmas.Grind.{flat_map-append}
 use Rattle.std.proofs.lemmas.List.Elements.{All-nil, All-cons, All-head, All-tail, All-append}
 use Rattle.sc_definitions.specs.Ring.{Ops}
-use Rattle.sc_definitions.specs.Statements.{Kind, Statement, claims, claimed_values, powers_sum, batched_claim}
-use Rattle.sc_claims.specs.declared.claim.Claim.{Claim}
+use Rattle.sc_definitions.specs.Statements.{Kind, Statement, claims, claimed_values, batched_by_powers, batched_claim}
+use Rattle.sc_statements.specs.declared.claim.Claim.{Claim}
 use Rattle.sc_layout.specs.declared.book.Book.{Book}
 use Rattle.sc_layout.specs.Books.{recorded_by, virtual_statements}
 use Rattle.sc_layout.specs.Openings.{Opened, opened_statements, current_at, next_at, statements_of}
@@ -47,11 +47,11 @@ flat-more f ms i m low is =
 
 -- a batch of all values is that of the book's statements
 pub batched-book : {M EF : Type 0} (o : Ops) (number : EF → ℕ) (a : ℕ) (of : M → Opened) (b : Book M EF) →
-    powers_sum o a 0 (flat_map (λ m. opened_values (of m)) b.concrete.items ++ map (λ c. number c.eval) b.virtual_claims.items)
+    batched_by_powers o a 0 (flat_map (λ m. opened_values (of m)) b.concrete.items ++ map (λ c. number c.eval) b.virtual_claims.items)
     ≡ batched_claim o a 0 (statements_of (recorded_by of number b))
 unfolding batched_claim
 batched-book o number a of b =
-    ap (powers_sum o a 0) (sym (map-append (λ (t : Statement). t.claimed) (flat_map opened_statements (map of b.concrete.items)) (virtual_statements number b.virtual_claims.items)
+    ap (batched_by_powers o a 0) (sym (map-append (λ (t : Statement). t.claimed) (flat_map opened_statements (map of b.concrete.items)) (virtual_statements number b.virtual_claims.items)
     ∙ ap (λ l. l ++ claimed_values (virtual_statements number b.virtual_claims.items)) (claimed-concrete of b.concrete.items)
     ∙ ap (λ l. flat_map (λ m. opened_values (of m)) b.concrete.items ++ l) (claimed-virtual number b.virtual_claims.items)))
 

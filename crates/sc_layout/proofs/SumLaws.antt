@@ -2,16 +2,16 @@
 use Rattle.std.proofs.Common.{◌≡◌, ℕ, suc, ◌+◌, ◌<◌, List, [], ◌∷◌, ◌++◌, length, map, take, get_or, sym, ◌∙◌, ap, arith, length-append}
 use Rattle.std.proofs.lemmas.List.{take_more, map-append, append_assoc}
 use Rattle.sc_definitions.specs.Ring.{Ops, IsRing, plus, times, power}
-use Rattle.sc_definitions.specs.Statements.{powers_sum}
+use Rattle.sc_definitions.specs.Statements.{batched_by_powers}
 use Rattle.sc_definitions.proofs.RingLaws.{times_comm}
-use Rattle.sc_definitions.proofs.StatementLaws.{powers_sum-append}
+use Rattle.sc_definitions.proofs.StatementLaws.{batched_by_powers-append}
 use Rattle.sc_layout.specs.declared.sums.BatchedSum.{BatchedSum}
 use Rattle.sc_layout.specs.Sums.{IsBatchOf}
 
 module _ {EF : Type 0} (o : Ops) (ring : IsRing o) (number : EF → ℕ) where
   -- no value
   pub batch-none : (c : EF) (s : BatchedSum EF) → s.challenge ≡ c → number s.power ≡ 1 → number s.sum ≡ 0 → IsBatchOf o number (number c) [] s
-  unfolding power powers_sum
+  unfolding power batched_by_powers
   batch-none c s same one none = record { challenge_is = ap number same; power_is = one; sum_is = none }
 
   -- one value more
@@ -25,8 +25,8 @@ module _ {EF : Type 0} (o : Ops) (ring : IsRing o) (number : EF → ℕ) where
         challenge_is = ap number same ∙ before.challenge_is;
         power_is = power_more ∙ ap (λ p. times o p (number s.challenge)) before.power_is ∙ ap (times o (power o a (length xs))) before.challenge_is
             ∙ times_comm o ring (power o a (length xs)) a ∙ ap (power o a) (sym more);
-        sum_is = sum_more ∙ ap (λ v. plus o v (times o (number s.power) x)) before.sum_is ∙ ap (λ p. plus o (powers_sum o a 0 xs) (times o p x)) before.power_is
-            ∙ ap (λ k. plus o (powers_sum o a 0 xs) (times o (power o a k) x)) none ∙ sym (powers_sum-append o ring a 0 xs x);
+        sum_is = sum_more ∙ ap (λ v. plus o v (times o (number s.power) x)) before.sum_is ∙ ap (λ p. plus o (batched_by_powers o a 0 xs) (times o p x)) before.power_is
+            ∙ ap (λ k. plus o (batched_by_powers o a 0 xs) (times o (power o a k) x)) none ∙ sym (batched_by_powers-append o ring a 0 xs x);
       }
 
 -- ---- values that are read off a list

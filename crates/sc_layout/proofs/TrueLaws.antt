@@ -7,11 +7,11 @@ use Rattle.std.proofs.lemmas.List.Elements.{All-nil, All-cons, All-append}
 use Rattle.sc_definitions.specs.Ring.{Ops, IsRing}
 use Rattle.sc_definitions.specs.Tables.{Order, prefix, entries}
 use Rattle.sc_definitions.specs.Statements.{Kind, true_value, weight_of, successor_weight}
-use Rattle.sc_definitions.proofs.SameTables.{inner-same}
+use Rattle.sc_definitions.proofs.SameTables.{inner_product-same}
 use Rattle.sc_definitions.proofs.PartLaws.{successor-kind}
 use Rattle.sc_definitions.proofs.StatementLaws.{true_value-equality}
 use Rattle.sc_table.proofs.EntryLaws.{entry-embedded}
-use Rattle.sc_claims.specs.declared.claim.Claim.{Claim}
+use Rattle.sc_statements.specs.declared.claim.Claim.{Claim}
 use Rattle.sc_partials.specs.Partials.{partial_sums_of}
 use Rattle.sc_partials.specs.NextPartials.{next_sums_of}
 use Rattle.sc_layout.specs.Openings.{current_at, next_at}
@@ -25,7 +25,7 @@ module _ (o : Ops) (ring : IsRing o) (order : Order) (f : ℕ → ℕ) (zs : Lis
   -- and with those of a successor
   pub next-value : (v : ℕ) → v ≡ (next_sums_of order o f zs l).value → v ≡ true_value o (length zs) f (next_at zs)
   unfolding next_sums_of true_value
-  next-value v is = is ∙ inner-same o (length zs) f f (successor_weight o zs) (weight_of o (next_at zs)) (λ b _. refl) (λ b low. sym (successor-kind o ring prefix zs b low))
+  next-value v is = is ∙ inner_product-same o (length zs) f f (successor_weight o zs) (weight_of o (next_at zs)) (λ b _. refl) (λ b low. sym (successor-kind o ring prefix zs b low))
 
 -- one value more
 pub claims-more : {EF P D : Type 0} (number : EF → ℕ) (v i : ℕ) (cs ds : List (Claim EF P D)) (c : Claim EF P D) → number c.eval ≡ v →

@@ -5,7 +5,7 @@ use Rattle.std.specs.declared.cmp.PartialEq.{Ghosts as PartialEqOf}
 use Rattle.sc_field.specs.declared.field.Field.{Ghosts as FieldOf}
 use Rattle.sc_field.specs.declared.algebra.Algebra.{Ghosts as AlgebraOf}
 use Rattle.sc_field.specs.declared.algebra.ExtensionField.{Ghosts as ExtensionOf}
-use Rattle.sc_claims.specs.declared.claim.Claim.{Claim}
+use Rattle.sc_statements.specs.declared.claim.Claim.{Claim}
 use Rattle.sc_layout.specs.declared.multi_claim.ProverMultiClaim.{ProverMultiClaim}
 use Rattle.sc_layout.specs.declared.book.Book.{Book}
 use Rattle.sc_layout.specs.Claimed.{prover_opened}

@@ -6,7 +6,7 @@ use Rattle.sc_definitions.specs.Tables.{Order}
 use Rattle.sc_field.specs.declared.field.Field.{Ghosts as FieldOf}
 use Rattle.sc_field.specs.declared.algebra.Algebra.{Ghosts as AlgebraOf}
 use Rattle.sc_field.specs.declared.algebra.ExtensionField.{Ghosts as ExtensionOf}
-use Rattle.sc_claims.specs.declared.claim.Claim.{Claim}
+use Rattle.sc_statements.specs.declared.claim.Claim.{Claim}
 use Rattle.sc_partials.specs.declared.partials.EqSvoPartials.{EqSvoPartials}
 use Rattle.sc_partials.specs.declared.next_partials.NextSvoPartials.{NextSvoPartials}
 use Rattle.sc_partials.specs.Partials.{partial_sums_in, partial_sums_of}

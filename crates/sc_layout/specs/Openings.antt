@@ -92,13 +92,13 @@ abbrev pub point_at : Taking → List Event → List ℕ
 point_at t h = drawn_point t.rules t.extension h t.variables
 
 -- Where openings stand: the history, and what is recorded.
-pub record Place : Type 0 where
+pub record OpeningState : Type 0 where
   pub history : List Event
   pub recorded : Recorded
 
 -- the record of these
-abbrev pub place : List Event → Recorded → Place
-place h b = record { history = h; recorded = b }
+abbrev pub opening_state : List Event → Recorded → OpeningState
+opening_state h b = record { history = h; recorded = b }
 
 -- A concrete claim was added: its point was drawn, its values were observed, and it stands after the others.
 pub record AddsConcrete (t : Taking) (x : Opened) (before after : Place) : Type 0 where
@@ -157,8 +157,8 @@ abbrev pub taking_of : Extension → LaidAt → Taking
 taking_of E s = taking s.rules E s.laid.variables
 
 -- where they stand
-abbrev pub place_of : LaidAt → Place
-place_of s = place s.history s.laid.recorded
+abbrev pub opening_state_of : LaidAt → OpeningState
+opening_state_of s = opening_state s.history s.laid.recorded
 
 -- the point that is drawn next
 abbrev pub next_point : Extension → LaidAt → List ℕ
@@ -167,13 +167,13 @@ next_point E s = point_at (taking_of E s) s.history
 -- The table was opened at a drawn point: so many values were asked for, and the true ones are answered and recorded.
 pub record Opens (o : Ops) (E : Extension) (asked : Counts) (v : Values) (before after : LaidAt) : Type 0 where
   pub truth : v ≡ true_values_at o before.laid.variables before.laid.rows asked (next_point E before)
-  pub adds : AddsConcrete (taking_of E before) (opened (next_point E before) v.current v.next) (place_of before) (place_of after)
+  pub adds : AddsConcrete (taking_of E before) (opened (next_point E before) v.current v.next) (opening_state_of before) (opening_state_of after)
 
 -- The table's value at a drawn point was answered and recorded.
 pub record OpensVirtual (o : Ops) (E : Extension) (value : ℕ) (before after : LaidAt) : Type 0 where
   pub truth : value ≡ true_value o before.laid.variables before.laid.rows (current_at (next_point E before))
-  pub adds : AddsVirtual (taking_of E before) value (place_of before) (place_of after)
+  pub adds : AddsVirtual (taking_of E before) value (opening_state_of before) (opening_state_of after)
 
 -- Nothing was opened.
 abbrev pub OpensNothing : Extension → LaidAt → LaidAt → Type 0
-OpensNothing E before after = AddsNothing (taking_of E before) (place_of before) (place_of after)
+OpensNothing E before after = AddsNothing (taking_of E before) (opening_state_of before) (opening_state_of after)

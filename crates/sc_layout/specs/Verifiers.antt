@@ -11,7 +11,7 @@ use Rattle.sc_layout.specs.declared.verifier.Verifier.{Verifier}
 use Rattle.sc_layout.specs.Claimed.{verifier_opened}
 use Rattle.sc_layout.specs.Requests.{Counts, Values, counts_of}
 use Rattle.sc_layout.specs.Counted.{IsMisshapen}
-use Rattle.sc_layout.specs.Openings.{Recorded, Taking, taking, Place, place, opened, point_at, AddsConcrete, AddsNothing}
+use Rattle.sc_layout.specs.Openings.{Recorded, Taking, taking, OpeningState, opening_state, opened, point_at, AddsConcrete, AddsNothing}
 use Rattle.sc_layout.specs.Books.{recorded_by}
 
 -- What a verifier tells: its strategy, how many variables its table has, and what is recorded.
@@ -34,12 +34,12 @@ abbrev pub taking_by : Party → Extension → Told → Taking
 taking_by p E v = taking p.rules E v.variables
 
 -- where they stand
-abbrev pub place_at : Party → Told → Place
-place_at p v = place p.history v.recorded
+abbrev pub opening_state_at : Party → Told → OpeningState
+opening_state_at p v = opening_state p.history v.recorded
 
 -- What a claim of these values leaves, by the answer: it is added; or it has other numbers of values than were asked for, and nothing is changed; or
 -- memory ran out.
-abbrev pub LeavesClaim : {X : Type 0} → Taking → Counts → Values → Place → Place → Result X SumcheckError → Type 0
+abbrev pub LeavesClaim : {X : Type 0} → Taking → Counts → Values → OpeningState → OpeningState → Result X SumcheckError → Type 0
 LeavesClaim t asked v before after (Ok x) = (counts_of v ≡ asked) × AddsConcrete t (opened (point_at t before.history) v.current v.next) before after
 LeavesClaim t asked v before after (Err NoMemory) = (counts_of v ≡ asked) × AddsNothing t before after
 LeavesClaim t asked v before after (Err e) = IsMisshapen 0 asked (counts_of v) e × (after ≡ before)

@@ -1,10 +1,10 @@
 //! The batch of values: each times the next power of a challenge, in sum.
 ghost use Rattle.std.specs.Prelude.{◌≡◌, ℕ, List, [], ◌∷◌, ◌++◌, map};
-ghost use Rattle.sc_definitions.specs.Statements.{powers_sum};
+ghost use Rattle.sc_definitions.specs.Statements.{batched_by_powers};
 ghost use Rattle.sc_layout.specs.Sums.{IsBatchOf};
 
-use sc_claims::Claim;
 use sc_field::Field;
+use sc_statements::Claim;
 
 /// Values that are batched, one after the other: value number i is multiplied by the challenge to
 /// the power i.
@@ -66,7 +66,7 @@ impl<EF: Field> BatchedSum<EF> {
     /// The sum.
     pub fn sum(self) -> EF
         ensures { (a : ℕ) (xs : List ℕ) → IsBatchOf EF.ops EF.number a xs self
-            → EF.number result ≡ powers_sum EF.ops a 0 xs }
+            → EF.number result ≡ batched_by_powers EF.ops a 0 xs }
     {
         self.sum
     }

@@ -32,7 +32,7 @@ pub struct Verifier<F, EF: Field> {
 
 impl<F: Field, EF: ExtensionField<F>> Verifier<F, EF> {
     ghost use Rattle.sc_layout.specs.Verifiers.{told_in, LeavesClaim, KeepsShape};
-    ghost use Rattle.sc_layout.specs.Verifiers.{taking_by, place_at};
+    ghost use Rattle.sc_layout.specs.Verifiers.{taking_by, opening_state_at};
 
     /// The verifier of one table of this shape, of at most 40 variables, under this strategy: it
     /// has no claims yet.
@@ -81,8 +81,8 @@ impl<F: Field, EF: ExtensionField<F>> Verifier<F, EF> {
         ensures left { LeavesClaim
             (taking_by (C.party challenger.old) EF.extension (told_in self.old))
             (asked_in batch.now) (values_in EF.number evals.now)
-            (place_at (C.party challenger.old) (told_in self.old))
-            (place_at (C.party challenger.new) (told_in self.new)) result }
+            (opening_state_at (C.party challenger.old) (told_in self.old))
+            (opening_state_at (C.party challenger.new) (told_in self.new)) result }
     {
         check_counts(table_idx, batch, evals)?;
         let kept = evals.copy(self.alloc)?;
@@ -108,12 +108,12 @@ impl<F: Field, EF: ExtensionField<F>> Verifier<F, EF> {
         ensures kept { KeepsShape (told_in self.old) (told_in self.new) }
         ensures adds { OnOk result (AddsVirtual
             (taking_by (C.party challenger.old) EF.extension (told_in self.old)) (EF.number eval)
-            (place_at (C.party challenger.old) (told_in self.old))
-            (place_at (C.party challenger.new) (told_in self.new))) }
+            (opening_state_at (C.party challenger.old) (told_in self.old))
+            (opening_state_at (C.party challenger.new) (told_in self.new))) }
         ensures refused { OnErr result (AddsNothing
             (taking_by (C.party challenger.old) EF.extension (told_in self.old))
-            (place_at (C.party challenger.old) (told_in self.old))
-            (place_at (C.party challenger.new) (told_in self.new))) }
+            (opening_state_at (C.party challenger.old) (told_in self.old))
+            (opening_state_at (C.party challenger.new) (told_in self.new))) }
     {
         let point = draw_point::<F, EF, C>(self.alloc, challenger, self.variables)?;
         self.claims.add_virtual::<F, C>(challenger, point, eval)

@@ -6,14 +6,14 @@ use Rattle.std.proofs.lemmas.List.Elements.{All-map}
 use Rattle.sc_definitions.specs.declared.events.Event.{Event}
 use Rattle.sc_definitions.specs.Ring.{Ops, IsField, IsRingMap}
 use Rattle.sc_definitions.specs.Tables.{evaluation, prefix}
-use Rattle.sc_definitions.specs.Rounds.{honest_pair}
+use Rattle.sc_definitions.specs.Rounds.{honest_message}
 use Rattle.sc_definitions.specs.Transcript.{Round}
 use Rattle.sc_definitions.specs.Channels.{Wire}
 use Rattle.sc_definitions.proofs.WitnessLaws.{IsBuiltOr, honest_rounds-built}
 use Rattle.sc_definitions.proofs.ReplayLaws.{length-given_rounds, messages-given_rounds}
 use Rattle.sc_challenger.specs.Parties.{Party}
 use Rattle.sc_transcript.specs.Data.{witness_count}
-use Rattle.sc_verdicts.specs.Findings.{holds, lucky}
+use Rattle.sc_audit_errors.specs.Findings.{holds, lucky}
 use Rattle.sc_soundness.specs.Differences.{Difference}
 use Rattle.sc_soundness.proofs.ImageLaws.{same-lists}
 use Rattle.sc_merge_definitions.specs.Matrices.{most_side_variables, side_variables, Matrix, MatmulCase, IsMatmulCase, MatmulFigures, matmul_figures, left_table, right_table, inner_variables, product_values, false_entry, CertifiesMatmul}
@@ -186,11 +186,11 @@ answered-so bits due (Err e) given so =
 module _ (q : MatmulCase) (case : early_fault q ≡ None → IsMatmulCase q) where
   abbrev IsBuiltHere : Result (List Round) ℕ → Type 0
   IsBuiltHere built =
-      IsBuiltOr q.channel.rules q.channel.extension q.channel.base_size (honest_pair evaluation prefix q.ops (left_table q) (right_table q)) q.channel.bits (rounds_start q) [] (inner_variables q) built
+      IsBuiltOr q.channel.rules q.channel.extension q.channel.base_size (honest_message evaluation prefix q.ops (left_table q) (right_table q)) q.channel.bits (rounds_start q) [] (inner_variables q) built
 
   is-built : IsBuiltHere (matmul_built q)
   is-built =
-      honest_rounds-built q.channel.rules q.channel.extension q.channel.base_size (honest_pair evaluation prefix q.ops (left_table q) (right_table q)) q.channel.bits (rounds_start q) [] (inner_variables q)
+      honest_rounds-built q.channel.rules q.channel.extension q.channel.base_size (honest_message evaluation prefix q.ops (left_table q) (right_table q)) q.channel.bits (rounds_start q) [] (inner_variables q)
 
   -- its entries are the true ones
   true-entries : IsMatmulCase q → false_entry q ≡ None → q.claimed.values ≡ product_values q.base q.left q.right

@@ -3,20 +3,20 @@ use Rattle.std.proofs.Common.{◌≡◌, inl, inr, ⊎_elim, ℕ, suc, ◌+◌, 
 use Rattle.std.proofs.lemmas.List.{length-map}
 use Rattle.sc_definitions.specs.declared.events.Event.{Event}
 use Rattle.sc_definitions.specs.Ring.{IsRing}
-use Rattle.sc_definitions.specs.Tables.{evaluation, prefix, rows_of, entries, inner, bound_by}
+use Rattle.sc_definitions.specs.Tables.{evaluation, prefix, rows_of, entries, inner_product, folded_by}
 use Rattle.sc_definitions.specs.TwoTables.{true_claim_on}
-use Rattle.sc_definitions.specs.Rounds.{honest_pair}
-use Rattle.sc_definitions.specs.Statements.{powers_sum}
+use Rattle.sc_definitions.specs.Rounds.{honest_message}
+use Rattle.sc_definitions.specs.Statements.{batched_by_powers}
 use Rattle.sc_definitions.specs.Transcript.{Round, rounds_events, challenges, sent}
 use Rattle.sc_definitions.specs.Replays.{AllPass}
 use Rattle.sc_definitions.specs.Events.{Rules, NonePasses}
 use Rattle.sc_definitions.specs.Channels.{Wire, empty_wire, witnesses_of, channel, IsBuilt, NoWitnessFound}
-use Rattle.sc_definitions.specs.Standings.{Setting, Standing, entries_of, message_in, honest_in, IsPlayedWithoutWitness}
-use Rattle.sc_definitions.specs.Shown.{Shown, setting_at, standing_at}
+use Rattle.sc_definitions.specs.ProverStates.{Setting, ProverState, entries_of, message_in, honest_in, IsPlayedWithoutWitness}
+use Rattle.sc_definitions.specs.ProverViews.{ProverView, setting_at, prover_state_at}
 use Rattle.sc_definitions.proofs.BuiltLaws.{length-messages, length-challenges}
 use Rattle.sc_definitions.proofs.RoundLaws.{true_claim-inner}
-use Rattle.sc_definitions.proofs.SameTables.{inner-same, built-same, honest-same}
-use Rattle.sc_definitions.proofs.StandingLaws.{entries-is, rows-entries_of, message_honest}
+use Rattle.sc_definitions.proofs.SameTables.{inner_product-same, built-same, honest-same}
+use Rattle.sc_definitions.proofs.ProverStateLaws.{entries-is, rows-entries_of, message_honest}
 use Rattle.sc_definitions.proofs.WitnessLaws.{honest_rounds-whole, honest_rounds-none, none_passes}
 use Rattle.sc_rounds.specs.declared.product_polynomial.ProductPolynomial.{ProductPolynomial}
 use Rattle.sc_challenger.specs.Parties.{Party, IsCopyOf}
@@ -51,7 +51,7 @@ same-entries number n xs f size same = entries-is n (map number xs) f (length-ma
 
 module _ (q : MatmulCase) (ring : IsRing q.ops) where
   -- what a prover of the claim shows before its first round
-  abbrev pub prover_for : Shown
+  abbrev pub prover_for : ProverView
   prover_for = record {
     basis = evaluation;
     order = prefix;
@@ -78,11 +78,11 @@ module _ (q : MatmulCase) (ring : IsRing q.ops) where
   -- the sum over the pair is the true claim
   pub sum-pair : {F EF : Type 0} (number : EF → ℕ) (pair : ProductPolynomial F EF) → IsPairOf number (matmul_tables q) (inner_variables q) pair →
       sum_in q.ops number pair ≡ true_claim_on q.ops (matmul_tables q) [] (inner_variables q)
-  unfolding bound_by
+  unfolding folded_by
   sum-pair number pair is =
       let n = variables_in pair in
-      inner-same q.ops n (evals_in number pair) (left_table q) (weights_in number pair) (right_table q) is.evals is.weights
-      ∙ ap (λ k. inner q.ops k (left_table q) (right_table q)) (sym is.variables)
+      inner_product-same q.ops n (evals_in number pair) (left_table q) (weights_in number pair) (right_table q) is.evals is.weights
+      ∙ ap (λ k. inner_product q.ops k (left_table q) (right_table q)) (sym is.variables)
       ∙ sym (true_claim-inner q.ops ring evaluation prefix (left_table q) (right_table q) [] (inner_variables q))
 
   -- ---- the batch
@@ -91,28 +91,28 @@ module _ (q : MatmulCase) (ring : IsRing q.ops) where
   setting_for = setting_at q.channel q.ops prover_for
 
   abbrev pub batch_for : Batch
-  batch_for = batch_at setting_for (standing_at prover_for (after_point q) empty_wire) q.channel.extension.degree (inner_variables q)
+  batch_for = batch_at setting_for (prover_state_at prover_for (after_point q) empty_wire) q.channel.extension.degree (inner_variables q)
 
-  pub batch-is : {shown : Shown} {R : Rules} {h : List Event} {on : Wire} {degree k : ℕ} → R ≡ q.channel.rules → h ≡ after_point q → shown ≡ prover_for → on ≡ empty_wire →
+  pub batch-is : {shown : ProverView} {R : Rules} {h : List Event} {on : Wire} {degree k : ℕ} → R ≡ q.channel.rules → h ≡ after_point q → shown ≡ prover_for → on ≡ empty_wire →
       degree ≡ q.channel.extension.degree → k ≡ inner_variables q →
-      batch_at (setting_at (channel R q.channel.extension q.channel.base_size q.channel.bits) q.ops shown) (standing_at shown h on) degree k ≡ batch_for
+      batch_at (setting_at (channel R q.channel.extension q.channel.base_size q.channel.bits) q.ops shown) (prover_state_at shown h on) degree k ≡ batch_for
   batch-is rules history shows none_sent degree_is count = rw (rules, history, shows, none_sent, degree_is, count) refl
 
   -- what its tables tell is what an honest prover sends
-  told_honest : (rs : List ℕ) (m : ℕ) → length rs + suc m ≡ inner_variables q → honest_in setting_for batch_for.start rs m ≡ honest_pair evaluation prefix q.ops (left_table q) (right_table q) rs m
+  told_honest : (rs : List ℕ) (m : ℕ) → length rs + suc m ≡ inner_variables q → honest_in setting_for batch_for.start rs m ≡ honest_message evaluation prefix q.ops (left_table q) (right_table q) rs m
   told_honest rs m whole =
       let n = inner_variables q in
       honest-same evaluation prefix q.ops ring tt n _ (left_table q) _ (right_table q) (rows-entries_of n (left_table q)) (rows-entries_of n (right_table q)) rs m whole
 
   built_honest : (rs : List Round) → IsBuilt (honest_in setting_for batch_for.start) q.channel (rounds_start q) [] (inner_variables q) rs →
-      IsBuilt (honest_pair evaluation prefix q.ops (left_table q) (right_table q)) q.channel (rounds_start q) [] (inner_variables q) rs
+      IsBuilt (honest_message evaluation prefix q.ops (left_table q) (right_table q)) q.channel (rounds_start q) [] (inner_variables q) rs
   built_honest rs b =
       let n = inner_variables q in
       built-same evaluation prefix q.ops ring tt n _ (left_table q) _ (right_table q) (rows-entries_of n (left_table q)) (rows-entries_of n (right_table q))
       q.channel (rounds_start q) [] n rs (omega arith) b
 
   -- it was played whole
-  pub built-played : (after : Standing) (rs : List ℕ) → All (λ w. w < q.channel.base_size) after.wire.witnesses → PlaysWhole batch_for after rs → AreBuilt q after.wire
+  pub built-played : (after : ProverState) (rs : List ℕ) → All (λ w. w < q.channel.base_size) after.wire.witnesses → PlaysWhole batch_for after rs → AreBuilt q after.wire
   built-played after rs low whole =
       let played = whole.played in
       let n = inner_variables q in
@@ -120,7 +120,7 @@ module _ (q : MatmulCase) (ring : IsRing q.ops) where
       let honest = built_honest played.rounds played.built in
       record {
         rounds = played.rounds;
-        are = honest_rounds-whole q.channel.rules q.channel.extension q.channel.base_size (honest_pair evaluation prefix q.ops (left_table q) (right_table q)) q.channel.bits (rounds_start q) [] n played.rounds
+        are = honest_rounds-whole q.channel.rules q.channel.extension q.channel.base_size (honest_message evaluation prefix q.ops (left_table q) (right_table q)) q.channel.bits (rounds_start q) [] n played.rounds
             count (subst (All (λ w. w < q.channel.base_size)) (ap (λ (w : Wire). w.witnesses) played.wire) low) honest;
         honest = honest;
         count = count;
@@ -128,7 +128,7 @@ module _ (q : MatmulCase) (ring : IsRing q.ops) where
       }
 
   -- it stopped for want of a witness
-  built-stopped : (after : Standing) (i : ℕ) → All (λ w. w < q.channel.base_size) after.wire.witnesses → BreaksOff batch_for after (rounds.NoWitness i) → matmul_built q ≡ Err i
+  built-stopped : (after : ProverState) (i : ℕ) → All (λ w. w < q.channel.base_size) after.wire.witnesses → BreaksOff batch_for after (rounds.NoWitness i) → matmul_built q ≡ Err i
   built-stopped after i low why =
       let R = q.channel.rules in
       let E = q.channel.extension in
@@ -136,20 +136,20 @@ module _ (q : MatmulCase) (ring : IsRing q.ops) where
       let size = q.channel.base_size in
       let n = inner_variables q in
       let start = rounds_start q in
-      let honest = honest_pair evaluation prefix q.ops (left_table q) (right_table q) in
+      let honest = honest_message evaluation prefix q.ops (left_table q) (right_table q) in
       let stopped : IsPlayedWithoutWitness setting_for batch_for.start after = why.2 in
       let last = stopped.last in
       let played = stopped.played in
       let m = n - suc i in
       let some : i + suc m ≡ n = omega (arith, why.0) in
-      let variables : last.variables ≡ suc m = sym (ap (λ (t : Standing). t.variables) stopped.ends.kept) ∙ omega (arith, why.1, some) in
+      let variables : last.variables ≡ suc m = sym (ap (λ (t : ProverState). t.variables) stopped.ends.kept) ∙ omega (arith, why.1, some) in
       let count : length played.rounds ≡ i = omega (arith, played.count, variables, some) in
       let left : length played.rounds + suc m ≡ n = omega (arith, count, some) in
       let drawn = challenges R E bits start played.rounds in
       let full : length drawn + suc m ≡ n = omega (arith, length-challenges R E bits start played.rounds, count, some) in
       let message : message_in setting_for last ≡ honest drawn m =
       message_honest setting_for ring tt batch_for.start last stopped.rs m played variables ∙ ap (λ t. honest_in setting_for batch_for.start t m) played.drawn ∙ told_honest drawn m full in
-      let wire : after.wire.witnesses ≡ witnesses_of bits played.rounds = ap (λ (t : Standing). t.wire.witnesses) stopped.ends.kept ∙ ap (λ (w : Wire). w.witnesses) played.wire in
+      let wire : after.wire.witnesses ≡ witnesses_of bits played.rounds = ap (λ (t : ProverState). t.wire.witnesses) stopped.ends.kept ∙ ap (λ (w : Wire). w.witnesses) played.wire in
       let none : NoWitnessFound q.channel (start ++ rounds_events E bits played.rounds) (honest drawn m) after.history =
       subst (λ h. NoWitnessFound q.channel h (honest drawn m) after.history) played.history
       (subst (λ vs. NoWitnessFound q.channel last.history vs after.history) message stopped.ends.none) in
@@ -160,7 +160,7 @@ module _ (q : MatmulCase) (ring : IsRing q.ops) where
       ∙ ap (λ k. Err k) count
 
   -- a play that was refused
-  pub built-refused : {F EF C : Type 0} (base : F → ℕ) (number : EF → ℕ) (party : C → Party) (after : Standing) (e : SumcheckError) → All (λ w. w < q.channel.base_size) after.wire.witnesses →
+  pub built-refused : {F EF C : Type 0} (base : F → ℕ) (number : EF → ℕ) (party : C → Party) (after : ProverState) (e : SumcheckError) → All (λ w. w < q.channel.base_size) after.wire.witnesses →
       BreaksOff batch_for after e → LeavesBuilt {F = F} {EF = EF} base number party q (Err (refusal_by e))
   built-refused base number party after (rounds.NoWitness i) low why = built-stopped after i low why
   built-refused base number party after rounds.NoMemory low why = tt
@@ -171,7 +171,7 @@ module _ (q : MatmulCase) (ring : IsRing q.ops) where
   module _ (w : Wire) (b : AreBuilt q w) where
     built-rounds : rounds_given w ≡ b.rounds
     built-rounds =
-        ap rounds_given b.wire ∙ given_played (honest_pair evaluation prefix q.ops (left_table q) (right_table q)) q.channel (rounds_start q) [] (inner_variables q) b.rounds b.honest
+        ap rounds_given b.wire ∙ given_played (honest_message evaluation prefix q.ops (left_table q) (right_table q)) q.channel (rounds_start q) [] (inner_variables q) b.rounds b.honest
 
     pub built-counted : counts_fault (inner_variables q) q.channel.bits w ≡ None
     built-counted =
@@ -181,7 +181,7 @@ module _ (q : MatmulCase) (ring : IsRing q.ops) where
     built-given : matmul_given q w ≡ Ok b.rounds
     built-given =
         given-whole q w built-counted
-        (subst (AllPass q.channel.rules q.channel.extension q.channel.bits (rounds_start q)) (sym built-rounds) (all_pass (honest_pair evaluation prefix q.ops (left_table q) (right_table q)) q.channel (rounds_start q) [] (inner_variables q) b.rounds b.honest))
+        (subst (AllPass q.channel.rules q.channel.extension q.channel.bits (rounds_start q)) (sym built-rounds) (all_pass (honest_message evaluation prefix q.ops (left_table q) (right_table q)) q.channel (rounds_start q) [] (inner_variables q) b.rounds b.honest))
         ∙ ap (λ rs. Ok rs) built-rounds
 
     -- it is answered as a build is
@@ -229,7 +229,7 @@ module _ (q : MatmulCase) (ring : IsRing q.ops) where
 pub claim-true : (q : MatmulCase) → IsMatmulCase q → false_entry q ≡ None → entries_claim q ≡ true_claim_on q.ops (matmul_tables q) [] (inner_variables q)
 claim-true q case none =
     let V = product_values q.base q.left q.right in
-    ap (λ xs. powers_sum q.ops (drawn_point q) 0 (map q.embedding xs)) (same-lists 0 q.claimed.values V (case.claimed_count ∙ sym (values-count q case)) none) ∙ entries-sum q case
+    ap (λ xs. batched_by_powers q.ops (drawn_point q) 0 (map q.embedding xs)) (same-lists 0 q.claimed.values V (case.claimed_count ∙ sym (values-count q case)) none) ∙ entries-sum q case
 
 -- a copy of a challenger has the same case
 pub case-copied : (fs : Fields) (m : ClaimedProduct) (bits : ℕ) (p copy : Party) → IsCopyOf p copy → case_of fs m bits copy ≡ case_of fs m bits p

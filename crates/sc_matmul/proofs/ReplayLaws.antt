@@ -10,7 +10,7 @@ use Rattle.sc_definitions.specs.Rounds.{next_claim, claim_along}
 use Rattle.sc_definitions.specs.Transcript.{Round, messages_of, before_draw}
 use Rattle.sc_definitions.specs.Replays.{AllPass, given_rounds, round_passes}
 use Rattle.sc_definitions.specs.Events.{Rules}
-use Rattle.sc_definitions.specs.Channels.{Wire, Footing, footing, channel, witnesses_of}
+use Rattle.sc_definitions.specs.Channels.{Wire, VerifierState, verifier_state, channel, witnesses_of}
 use Rattle.sc_definitions.specs.Witnesses.{first_failing}
 use Rattle.sc_definitions.proofs.WitnessLaws.{first_failing-at, first_failing-none}
 use Rattle.sc_definitions.proofs.BuiltLaws.{length-challenges}
@@ -25,7 +25,7 @@ use Rattle.sc_transcript.specs.Data.{witness_count, pair_replay}
 use Rattle.sc_transcript.specs.Shapes.{shape_of, batch_of}
 use Rattle.sc_transcript.specs.Walks.{Walk, IsWalked}
 use Rattle.sc_transcript.specs.Replayed.{Replay, replay_of, LeavesReplay, AreCounted, AreMiscounted}
-use Rattle.sc_verdicts.specs.Findings.{Finding}
+use Rattle.sc_audit_errors.specs.Findings.{Finding}
 use Rattle.sc_soundness.specs.Stages.{stage_luck}
 use Rattle.sc_merge_definitions.specs.QuadraticPlays.{finding_where}
 use Rattle.sc_merge_definitions.specs.Matrices.{MatmulCase, MatmulFigures, drawn_point, after_point, after_rounds, entries_claim, left_table, right_table, inner_variables, matmul_challenges, matmul_stage, matmul_figures, false_entry}
@@ -92,22 +92,22 @@ module _ (n bits : ℕ) (w : Wire) where
 -- ---- a replay
 
 -- there are as many challenges as rounds came
-pub walked-count : (p : Walk) (w : Wire) (rs : List ℕ) (end : Footing) → p.rounds ≡ given_rounds w.messages w.witnesses → IsWalked p rs end → length rs ≡ length w.messages
+pub walked-count : (p : Walk) (w : Wire) (rs : List ℕ) (end : VerifierState) → p.rounds ≡ given_rounds w.messages w.witnesses → IsWalked p rs end → length rs ≡ length w.messages
 walked-count p w rs end is walked =
     ap length walked.replays.drawn ∙ length-challenges p.channel.rules p.channel.extension p.channel.bits p.start.history p.rounds ∙ ap length is
     ∙ length-given_rounds w.messages w.witnesses
 
 module _ (q : MatmulCase) (w : Wire) where
   -- where it starts
-  abbrev pub start_for : Footing
-  start_for = footing (rounds_start q) (entries_claim q)
+  abbrev pub start_for : VerifierState
+  start_for = verifier_state (rounds_start q) (entries_claim q)
 
   abbrev pub replay_for : Replay
   replay_for = replay_of (next_claim evaluation q.ops) q.channel (batch_of (shape_of (inner_variables q) q.channel.bits Evaluation)) start_for w
 
   pub replay-is : {R : Rules} {h : List Event} {n degree claim : ℕ} → R ≡ q.channel.rules → h ≡ after_point q → n ≡ inner_variables q → degree ≡ q.channel.extension.degree →
       claim ≡ entries_claim q →
-      pair_replay q.ops (channel R q.channel.extension q.channel.base_size q.channel.bits) degree (shape_of n q.channel.bits Evaluation) w (footing h claim) ≡ replay_for
+      pair_replay q.ops (channel R q.channel.extension q.channel.base_size q.channel.bits) degree (shape_of n q.channel.bits Evaluation) w (verifier_state h claim) ≡ replay_for
   replay-is rules history count degree claim = rw (rules, history, count, degree, claim) refl
 
   module _ (none : counts_fault (inner_variables q) q.channel.bits w ≡ None) where
@@ -193,20 +193,20 @@ module _ (q : MatmulCase) (w : Wire) where
         })
 
     -- there are as many challenges as variables
-    pub drawn-count : (rs : List ℕ) (end : Footing) → IsWalked replay_for.walk rs end → length rs ≡ inner_variables q
+    pub drawn-count : (rs : List ℕ) (end : VerifierState) → IsWalked replay_for.walk rs end → length rs ≡ inner_variables q
     drawn-count rs end walked =
         ap length walked.replays.drawn ∙ length-challenges q.channel.rules q.channel.extension q.channel.bits (rounds_start q) (rounds_given w)
         ∙ length-given_rounds w.messages w.witnesses ∙ rounds_as
 
     -- the residual
-    pub residual-is : (rs : List ℕ) (end : Footing) → IsWalked replay_for.walk rs end →
+    pub residual-is : (rs : List ℕ) (end : VerifierState) → IsWalked replay_for.walk rs end →
         end.claim ≡ claim_along (next_claim evaluation q.ops) (entries_claim q) w.messages (matmul_challenges q (rounds_given w))
     residual-is rs end walked =
         walked.replays.claim
         ∙ ap (λ ms. claim_along (next_claim evaluation q.ops) (entries_claim q) ms (matmul_challenges q (rounds_given w))) (messages-given_rounds w.messages w.witnesses)
 
     -- a report on rounds that were replayed whole
-    pub whole-answered : (rs : List ℕ) (end : Footing) (f : MatmulFigures) → IsWalked replay_for.walk rs end → f ≡ matmul_figures q (rounds_given w) →
+    pub whole-answered : (rs : List ℕ) (end : VerifierState) (f : MatmulFigures) → IsWalked replay_for.walk rs end → f ≡ matmul_figures q (rounds_given w) →
         IsAnswered q (Some w) (Ok f) end.history
     whole-answered rs end f walked is = record {
       result = ap (given_result q) (given-whole walked.replays.passes) ∙ ap (λ t. Ok t) (sym is);
@@ -214,7 +214,7 @@ module _ (q : MatmulCase) (w : Wire) where
     }
 
     -- there was no memory for one
-    pub whole-broken : (rs : List ℕ) (end : Footing) → IsWalked replay_for.walk rs end → IsAnswered q (Some w) (Err errors.NoMemory) end.history
+    pub whole-broken : (rs : List ℕ) (end : VerifierState) → IsWalked replay_for.walk rs end → IsAnswered q (Some w) (Err errors.NoMemory) end.history
     whole-broken rs end walked = record {
       result = inl refl;
       history = inr (inr (
@@ -228,7 +228,7 @@ module _ (q : MatmulCase) (w : Wire) where
     }
 
     -- a replay that was refused
-    pub refused-answered : (untouched : Type 0) (e : SumcheckError) (end : Footing) → (untouched → end.history ≡ after_point q) →
+    pub refused-answered : (untouched : Type 0) (e : SumcheckError) (end : VerifierState) → (untouched → end.history ≡ after_point q) →
         LeavesReplay untouched replay_for (Err (cause_of e)) end → IsAnswered q (Some w) (Err (refusal_by e)) end.history
     refused-answered untouched (rounds.RoundCountMismatch expected actual) end kept left =
         absurd (left.0.2 (left.0.1 ∙ rounds_as ∙ sym left.0.0))

@@ -7,8 +7,8 @@ use Rattle.std.proofs.lemmas.Bool.{cases_eq}
 use Rattle.std.proofs.lemmas.Bool.Decides.{eqb_tells, nat_tests}
 use Rattle.sc_definitions.specs.Interpolation.{first_below}
 use Rattle.sc_definitions.proofs.Lengths.{pow-same}
-use Rattle.sc_verdicts.specs.Arities.{exponent_from, arity_of}
-use Rattle.sc_verdicts.proofs.ArityLaws.{exponent-next, exponent-found, arity-tells}
+use Rattle.sc_audit_errors.specs.Arities.{exponent_from, arity_of}
+use Rattle.sc_audit_errors.proofs.ArityLaws.{exponent-next, exponent-found, arity-tells}
 use Rattle.sc_merge_definitions.specs.Matrices.{side_variables, Matrix}
 use Rattle.sc_matmul.specs.declared.error.MatmulError.{MatmulError}
 use Rattle.sc_matmul.specs.declared.error.MatmulError.TheVariants.{Side, Inner, Outer}

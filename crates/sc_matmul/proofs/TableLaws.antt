@@ -5,7 +5,7 @@ use Rattle.std.proofs.lemmas.Simd.{map-map}
 use Rattle.sc_definitions.specs.Ring.{Ops, IsRing, times, power}
 use Rattle.sc_definitions.specs.Tables.{entries, rows_of, sum_below}
 use Rattle.sc_definitions.specs.Polynomials.{poly_at}
-use Rattle.sc_definitions.specs.Statements.{powers_sum}
+use Rattle.sc_definitions.specs.Statements.{batched_by_powers}
 use Rattle.sc_definitions.proofs.RingLaws.{times_comm}
 use Rattle.sc_definitions.proofs.Sums.{sum-same}
 use Rattle.sc_definitions.proofs.Power.{power-zero, power-suc, power-plus}
@@ -80,5 +80,5 @@ dot-powers o ring image number row xs ps from m point v size at powers is =
 
 -- the claim
 pub claim-value : {X : Type 0} (o : Ops) → IsRing o → (h : ℕ → ℕ) (base : X → ℕ) (xs : List X) (point v : ℕ) → v ≡ poly_at o (map (λ x. h (base x)) xs) point →
-    v ≡ powers_sum o point 0 (map h (map base xs))
+    v ≡ batched_by_powers o point 0 (map h (map base xs))
 claim-value o ring h base xs point v is = is ∙ ap (λ l. poly_at o l point) (sym (map-map h base xs)) ∙ poly_at-powers o ring (map h (map base xs)) point

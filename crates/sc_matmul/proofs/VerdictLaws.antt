@@ -6,8 +6,8 @@ use Rattle.std.proofs.lemmas.Simd.{map-map}
 use Rattle.sc_definitions.specs.Ring.{Ops, minus}
 use Rattle.sc_definitions.specs.Polynomials.{poly_minus}
 use Rattle.sc_definitions.specs.Roots.{root_count}
-use Rattle.sc_definitions.specs.Lucky.{Turn, Luck, in_batch, luck_in, first_turn}
-use Rattle.sc_verdicts.specs.Findings.{holds, refuted, named}
+use Rattle.sc_definitions.specs.Lucky.{Turn, LuckyChallenge, in_batch, luck_in, first_turn}
+use Rattle.sc_audit_errors.specs.Findings.{holds, refuted, named}
 use Rattle.sc_soundness.specs.Stages.{Stage, stage_luck}
 use Rattle.sc_merge_definitions.specs.QuadraticPlays.{finding_where}
 
@@ -82,15 +82,15 @@ module _ (o : Ops) (s : Stage) where
 
 -- ---- what is found
 
-pub finding-refuted : {X : Type 0} (fault : Option X) (luck : Option Luck) (matched : Bool) → matched ≡ false → refuted ≡ finding_where matched fault luck
+pub finding-refuted : {X : Type 0} (fault : Option X) (luck : Option LuckyChallenge) (matched : Bool) → matched ≡ false → refuted ≡ finding_where matched fault luck
 finding-refuted fault luck matched is = ap (λ b. finding_where b fault luck) (sym is)
 
-pub finding-holds : {X Y : Type 0} (number : X → Y) (fault : Option Y) (told : Option X) (luck : Option Luck) (matched : Bool) → matched ≡ true → option_map number told ≡ fault → told ≡ None →
+pub finding-holds : {X Y : Type 0} (number : X → Y) (fault : Option Y) (told : Option X) (luck : Option LuckyChallenge) (matched : Bool) → matched ≡ true → option_map number told ≡ fault → told ≡ None →
     holds ≡ finding_where matched fault luck
 finding-holds number fault told luck matched is found none =
     ap (λ x. finding_where true x luck) (sym (ap (option_map number) none) ∙ found) ∙ ap (λ b. finding_where b fault luck) (sym is)
 
-pub finding-named : {X Y : Type 0} (number : X → Y) (fault : Option Y) (told : Option X) (x : X) (luck : Option Luck) (matched : Bool) → matched ≡ true → option_map number told ≡ fault →
+pub finding-named : {X Y : Type 0} (number : X → Y) (fault : Option Y) (told : Option X) (x : X) (luck : Option LuckyChallenge) (matched : Bool) → matched ≡ true → option_map number told ≡ fault →
     told ≡ Some x → named luck ≡ finding_where matched fault luck
 finding-named number fault told x luck matched is found some =
     ap (λ y. finding_where true y luck) (sym (ap (option_map number) some) ∙ found) ∙ ap (λ b. finding_where b fault luck) (sym is)

@@ -5,7 +5,7 @@ use Rattle.sc_definitions.specs.declared.events.Event.{Event}
 use Rattle.sc_definitions.specs.Transcript.{Round, before_draw}
 use Rattle.sc_definitions.specs.Replays.{given_rounds}
 use Rattle.sc_definitions.specs.Channels.{Wire}
-use Rattle.sc_verdicts.specs.Findings.{holds}
+use Rattle.sc_audit_errors.specs.Findings.{holds}
 use Rattle.sc_merge_definitions.specs.Matrices.{MatmulCase, MatmulFigures, after_point, after_rounds, false_entry}
 use Rattle.sc_matmul.specs.declared.error.MatmulError.{MatmulError}
 use Rattle.sc_matmul.specs.declared.error.MatmulError.TheVariants.{InvalidPowWitness, NoWitness, NoMemory}

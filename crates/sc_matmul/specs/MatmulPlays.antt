@@ -9,7 +9,7 @@ use Rattle.sc_transcript.specs.declared.error.SumcheckError.TheVariants as round
 use Rattle.sc_transcript.specs.declared.data.SumcheckData.{SumcheckData}
 use Rattle.sc_transcript.specs.Data.{wire_in}
 use Rattle.sc_merge_definitions.specs.Matrices.{MatmulCase, drawn_point, after_point, entries_claim, inner_variables, matmul_tables, matmul_challenges, matmul_stage, AreBuiltRounds}
-use Rattle.sc_definitions.specs.Lucky.{Luck}
+use Rattle.sc_definitions.specs.Lucky.{LuckyChallenge}
 use Rattle.sc_soundness.specs.Stages.{stage_luck}
 use Rattle.sc_rounds.specs.declared.product_polynomial.ProductPolynomial.{ProductPolynomial}
 use Rattle.sc_rounds.specs.Turns.{IsPairOf}
@@ -63,5 +63,5 @@ pub record IsPlayedOn {F EF : Type 0} (base : F → ℕ) (number : EF → ℕ) (
   pub pair_is : IsPairOf number (matmul_tables q) (inner_variables q) pair
 
 -- the first lucky challenge of such rounds, if one is
-abbrev pub played_luck : {F EF : Type 0} → (F → ℕ) → (EF → ℕ) → MatmulCase → Played F EF → Option Luck
+abbrev pub played_luck : {F EF : Type 0} → (F → ℕ) → (EF → ℕ) → MatmulCase → Played F EF → Option LuckyChallenge
 played_luck base number q p = stage_luck q.ops (matmul_stage q (rounds_given (wire_in base number p.rounds)))

@@ -4,7 +4,7 @@ use Rattle.sc_definitions.specs.Transcript.{Round}
 use Rattle.sc_definitions.specs.Channels.{Wire}
 use Rattle.sc_definitions.specs.Lucky.{in_batch, in_round}
 use Rattle.sc_transcript.specs.Data.{messages_in, witnesses_in}
-use Rattle.sc_verdicts.specs.Findings.{Finding, holds, refuted, lucky}
+use Rattle.sc_audit_errors.specs.Findings.{Finding, holds, refuted, lucky}
 use Rattle.sc_soundness.specs.Differences.{Difference}
 use Rattle.sc_merge_definitions.specs.Matrices.{MatmulCase, MatmulFigures, matmul_figures, false_entry}
 use Rattle.sc_matmul.specs.declared.error.MatmulError.{MatmulError}

@@ -2,7 +2,7 @@
 use Rattle.std.specs.Prelude.{ℕ, ◌==◌, List, [], length, if◌then◌else◌, Option, Some, None, Result, Ok, Err}
 use Rattle.sc_definitions.specs.declared.events.Event.{Event}
 use Rattle.sc_definitions.specs.Tables.{evaluation, prefix}
-use Rattle.sc_definitions.specs.Rounds.{honest_pair}
+use Rattle.sc_definitions.specs.Rounds.{honest_message}
 use Rattle.sc_definitions.specs.Transcript.{Round}
 use Rattle.sc_definitions.specs.Replays.{given_rounds}
 use Rattle.sc_definitions.specs.Channels.{Wire}
@@ -20,7 +20,7 @@ rounds_start q = seeded_history q.channel (after_point q) (inner_variables q)
 -- those that an honest prover builds, or the number of the first one for which no witness is found
 abbrev pub matmul_built : MatmulCase → Result (List Round) ℕ
 matmul_built q =
-    honest_rounds (honest_pair evaluation prefix q.ops (left_table q) (right_table q)) q.channel (rounds_start q) [] (inner_variables q)
+    honest_rounds (honest_message evaluation prefix q.ops (left_table q) (right_table q)) q.channel (rounds_start q) [] (inner_variables q)
 
 -- what comes after tests that found this, or nothing
 abbrev pub unless_fault : {X : Type 0} → Option MatmulError → Result X MatmulError → Result X MatmulError

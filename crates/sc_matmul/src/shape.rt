@@ -9,8 +9,8 @@ ghost use Rattle.sc_matmul.specs.Shapes.{inner_fault, outer_fault, shape_fault, 
 
 use crate::error::MatmulError;
 use crate::matrix::Matrix;
+use sc_audit_errors::arity;
 use sc_field::{ExtensionField, Field};
-use sc_verdicts::arity;
 use std::marker::PhantomData;
 
 // The most variables that a side has.

@@ -2,7 +2,7 @@
 ghost use Rattle.std.specs.Prelude.{◌≡◌, ℕ, ◌<◌, ◌^◌, IfOk, length, map};
 ghost use Rattle.sc_definitions.specs.Ring.{power};
 ghost use Rattle.sc_definitions.specs.Tables.{entries};
-ghost use Rattle.sc_definitions.specs.Statements.{powers_sum};
+ghost use Rattle.sc_definitions.specs.Statements.{batched_by_powers};
 ghost use Rattle.sc_challenger.specs.Parties.{Party};
 ghost use Rattle.sc_table.specs.Polys.{variables_of, table_of};
 ghost use Rattle.sc_merge_definitions.specs.Matrices.{side_variables, drawn_point};
@@ -61,7 +61,7 @@ pub(crate) fn right_table<F: Field, EF: ExtensionField<F>>(
 
 // The claimed entries, each times the power of the point by its place, in sum.
 pub(crate) fn claim_at<F: Field, EF: ExtensionField<F>>(claimed: &[F], point: EF) -> EF
-    ensures { EF.number result ≡ powers_sum EF.ops (EF.number point) 0
+    ensures { EF.number result ≡ batched_by_powers EF.ops (EF.number point) 0
         (map EF.embedding (map F.number claimed.now)) }
 {
     let mut claim = EF::ZERO;

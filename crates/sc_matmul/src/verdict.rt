@@ -6,7 +6,7 @@ ghost use Rattle.sc_definitions.specs.Lucky.{in_batch};
 ghost use Rattle.sc_definitions.specs.Roots.{root_count};
 ghost use Rattle.sc_challenger.specs.Parties.{Party};
 ghost use Rattle.sc_rounds.specs.Products.{variables_in};
-ghost use Rattle.sc_verdicts.specs.Findings.{lucky, named};
+ghost use Rattle.sc_audit_errors.specs.Findings.{lucky, named};
 ghost use Rattle.sc_merge_definitions.specs.QuadraticPlays.{finding_where};
 ghost use Rattle.sc_merge_definitions.specs.Matrices.{product_values, false_entry};
 ghost use Rattle.sc_matmul.specs.MatrixViews.{matrix_in, entries_in};

@@ -10,29 +10,29 @@ use Rattle.std.proofs.lemmas.List.{length-map}
 use Rattle.std.proofs.lemmas.List.Elements.{All-map}
 use Rattle.std.proofs.lemmas.List.FromFn.{get_or-map-range_with_len, length-map-range_with_len}
 use Rattle.sc_definitions.specs.Ring.{times, minus, power}
-use Rattle.sc_definitions.specs.Tables.{evaluation, prefix, sum_below, inner, rows_of, value, bound_by}
+use Rattle.sc_definitions.specs.Tables.{evaluation, prefix, sum_below, inner_product, rows_of, value, folded_by}
 use Rattle.sc_definitions.specs.Polynomials.{AllZero}
-use Rattle.sc_definitions.specs.Rounds.{honest_pair, next_claim, claim_along}
+use Rattle.sc_definitions.specs.Rounds.{honest_message, next_claim, claim_along}
 use Rattle.sc_definitions.specs.TwoTables.{true_claim_on}
-use Rattle.sc_definitions.specs.Statements.{powers_sum}
+use Rattle.sc_definitions.specs.Statements.{batched_by_powers}
 use Rattle.sc_definitions.specs.Transcript.{Round, messages_of, rounds_events}
-use Rattle.sc_definitions.specs.Lucky.{course_on, Luck, in_batch, in_round}
+use Rattle.sc_definitions.specs.Lucky.{course_on, LuckyChallenge, in_batch, in_round}
 use Rattle.sc_definitions.proofs.RingLaws.{plus_below, size_pos}
 use Rattle.sc_definitions.proofs.Sums.{sum-same, times-sum}
 use Rattle.sc_definitions.proofs.BlockLaws.{sum-blocks, sums-product}
 use Rattle.sc_definitions.proofs.Power.{power-plus}
 use Rattle.sc_definitions.proofs.MappedRounds.{image_inner}
 use Rattle.sc_definitions.proofs.RoundLaws.{true_claim-inner}
-use Rattle.sc_definitions.proofs.StatementLaws.{element-powers_sum}
+use Rattle.sc_definitions.proofs.StatementLaws.{element-batched_by_powers}
 use Rattle.sc_definitions.proofs.BuiltLaws.{length-messages, length-challenges}
 use Rattle.sc_definitions.proofs.PolyLaws.{length-minus}
 use Rattle.sc_definitions.proofs.Identity.{atom, ◌⊗◌, Agree, identity}
-use Rattle.sc_verdicts.specs.Findings.{holds}
+use Rattle.sc_audit_errors.specs.Findings.{holds}
 use Rattle.sc_soundness.specs.Stages.{stage_residual, true_stage_residual, stage_luck, IsCertifiedIn, IsStage}
 use Rattle.sc_soundness.specs.Differences.{first_difference}
 use Rattle.sc_soundness.proofs.CourseLaws.{two_tables-sound, two_tables-keep, honest-end_true}
 use Rattle.sc_soundness.proofs.MergedLaws.{pair-end}
-use Rattle.sc_soundness.proofs.PowerLaws.{excess-powers, powers_sum-rows, sum-swap}
+use Rattle.sc_soundness.proofs.PowerLaws.{excess-powers, batched_by_powers-rows, sum-swap}
 use Rattle.sc_soundness.proofs.ImageLaws.{difference-none, same-lists, images-apart, rows-below, rows-image}
 use Rattle.sc_merge_definitions.specs.QuadraticPlays.{seeded_history, IsCertifiedBy}
 use Rattle.sc_merge_definitions.specs.Matrices.{side_variables, product_entry, product_values, MatmulCase, IsMatmulCase, observed_entries, drawn_point, after_point, after_rounds, matmul_events, entries_claim, left_table, right_table, matmul_tables, inner_variables, matmul_challenges, matmul_stage, false_entry, matmul_figures, AreBuiltRounds, CertifiesMatmul}
@@ -63,7 +63,7 @@ module _ (q : MatmulCase) (is : IsMatmulCase q) where
   entry-image : (i j : ℕ) →
       q.embedding (product_entry q.base q.left q.right i j)
       ≡ sum_below q.ops q.left.cols (λ x. times q.ops (q.embedding (rows_of q.left.values (i * q.left.cols + x))) (q.embedding (rows_of q.right.values (x * q.right.cols + j))))
-  unfolding product_entry inner
+  unfolding product_entry inner_product
   entry-image i j =
       let f : ℕ → ℕ = λ x. rows_of q.left.values (i * q.left.cols + x) in
       let g : ℕ → ℕ = λ x. rows_of q.right.values (x * q.right.cols + j) in
@@ -89,7 +89,7 @@ module _ (q : MatmulCase) (is : IsMatmulCase q) where
 
   -- ---- the claim on the true entries
 
-  true-entries : powers_sum q.ops (drawn_point q) 0 (map q.embedding (product_values q.base q.left q.right))
+  true-entries : batched_by_powers q.ops (drawn_point q) 0 (map q.embedding (product_values q.base q.left q.right))
       ≡ sum_below q.ops q.left.cols (λ x. times q.ops (left_table q x) (right_table q x))
   unfolding left_table right_table Agree
   true-entries =
@@ -106,7 +106,7 @@ module _ (q : MatmulCase) (is : IsMatmulCase q) where
       let term : ℕ → ℕ → ℕ → ℕ = λ i j x. times o (times o (P (i * m)) (L i x)) (times o (P j) (R x j)) in
       let A = atom 0 in let B = atom 1 in let C = atom 2 in let D = atom 3 in
       let count : length V ≡ n * m = length-map (product_values q.base q.left q.right) q.embedding ∙ values-count in
-      powers_sum-rows o ring rho 0 V
+      batched_by_powers-rows o ring rho 0 V
       ∙ ap (λ k. sum_below o k (λ e. times o (P (0 + e)) (rows_of V e))) count
       ∙ sum-blocks o ring n m (λ e. times o (P (0 + e)) (rows_of V e))
       ∙ sum-same o n _ _ (λ i low_i. sum-same o m _ _ (λ j low_j.
@@ -122,9 +122,9 @@ module _ (q : MatmulCase) (is : IsMatmulCase q) where
       ∙ sum-swap o ring n c (λ i x. sum_below o m (λ j. term i j x))
       ∙ sum-same o c _ _ (λ x _. sym (sums-product o ring n m (λ i. times o (P (i * m)) (L i x)) (λ j. times o (P j) (R x j))))
 
-  pub entries-sum : powers_sum q.ops (drawn_point q) 0 (map q.embedding (product_values q.base q.left q.right))
+  pub entries-sum : batched_by_powers q.ops (drawn_point q) 0 (map q.embedding (product_values q.base q.left q.right))
       ≡ true_claim_on q.ops (matmul_tables q) [] (inner_variables q)
-  unfolding inner bound_by
+  unfolding inner_product folded_by
   entries-sum =
       true-entries
       ∙ ap (λ n. sum_below q.ops n (λ x. times q.ops (left_table q x) (right_table q x))) is.inner
@@ -142,7 +142,7 @@ module _ (q : MatmulCase) (is : IsMatmulCase q) where
       sound = two_tables-sound q.ops is.field (matmul_tables q) tt;
       pairs = wide;
       count = length-messages rounds ∙ sym (length-challenges _ _ _ _ rounds);
-      small = element-powers_sum q.ops is.field.ring (drawn_point q) 0 (map q.embedding q.claimed.values);
+      small = element-batched_by_powers q.ops is.field.ring (drawn_point q) 0 (map q.embedding q.claimed.values);
       true_is = ap (true_claim_on q.ops (matmul_tables q) []) (sym (length-messages rounds ∙ count));
       at = excess-powers q.ops is.field.ring (drawn_point q) (map q.embedding q.claimed.values) (map q.embedding (product_values q.base q.left q.right)) lengths-same
           ∙ ap (minus q.ops (entries_claim q)) entries-sum;
@@ -164,7 +164,7 @@ module _ (q : MatmulCase) (is : IsMatmulCase q) where
         images-apart q.base q.ops is.base_field is.field q.embedding is.embeds q.claimed.values V (is.claimed_count ∙ sym values-count) is.claimed_below values-below zeros in
         wrong (ap (λ xs. first_difference 0 xs V) same ∙ difference-none 0 V)
 
-    certified-by : (l : Luck) → IsCertifiedIn q.ops (matmul_stage q rounds) l → IsCertifiedBy q.ops (drawn_point q) (length q.claimed.values) (matmul_challenges q rounds) l
+    certified-by : (l : LuckyChallenge) → IsCertifiedIn q.ops (matmul_stage q rounds) l → IsCertifiedBy q.ops (drawn_point q) (length q.claimed.values) (matmul_challenges q rounds) l
     certified-by (in_batch polynomial roots) c = (
       c.0,
       ap length c.1 ∙ length-minus q.ops is.field.ring (map q.embedding q.claimed.values) (map q.embedding (product_values q.base q.left q.right)) lengths-same
@@ -190,10 +190,10 @@ module _ (q : MatmulCase) (is : IsMatmulCase q) where
       let V = product_values q.base q.left q.right in
       let rs = matmul_challenges q rounds in
       let claim : entries_claim q ≡ true_claim_on q.ops (matmul_tables q) [] (inner_variables q) =
-      ap (λ xs. powers_sum q.ops (drawn_point q) 0 (map q.embedding xs)) right ∙ entries-sum in
+      ap (λ xs. batched_by_powers q.ops (drawn_point q) 0 (map q.embedding xs)) right ∙ entries-sum in
       holds_where _ (false_entry q) (stage_luck q.ops (matmul_stage q rounds))
       (eq-eqb _ _ (ap (λ c. claim_along (next_claim evaluation q.ops) c (messages_of rounds) rs) claim
-      ∙ honest-end_true (course_on q.ops (matmul_tables q)) (honest_pair evaluation prefix q.ops (left_table q) (right_table q)) (two_tables-keep q.ops is.field.ring (matmul_tables q) tt)
+      ∙ honest-end_true (course_on q.ops (matmul_tables q)) (honest_message evaluation prefix q.ops (left_table q) (right_table q)) (two_tables-keep q.ops is.field.ring (matmul_tables q) tt)
       q.channel (seeded_history q.channel (after_point q) (inner_variables q)) [] (inner_variables q) rounds count built
       ∙ pair-end q.ops is.field.ring (left_table q) (right_table q) rs))
       (ap (λ xs. first_difference 0 xs V) right ∙ difference-none 0 V)

@@ -9,22 +9,22 @@ use Rattle.sc_definitions.specs.Seeds.{quadratic_seed}
 use Rattle.std.proofs.lemmas.Bool.{cases_eq}
 use Rattle.sc_definitions.specs.declared.false_claim.FalseClaim.{FalseClaim}
 use Rattle.sc_definitions.specs.Ring.{Ops, IsRing, element, plus, times, opposite, minus, power}
-use Rattle.sc_definitions.specs.Tables.{evaluation, prefix, inner, value, bound_by}
+use Rattle.sc_definitions.specs.Tables.{evaluation, prefix, inner_product, value, folded_by}
 use Rattle.sc_definitions.specs.Polynomials.{poly_at, poly_minus, AllZero}
 use Rattle.sc_definitions.specs.Rounds.{next_claim, claim_along}
-use Rattle.sc_definitions.specs.Statements.{weight_of, true_value, IsTrueOf, is_true_of, powers_sum, claimed_values}
+use Rattle.sc_definitions.specs.Statements.{weight_of, true_value, IsTrueOf, is_true_of, batched_by_powers, claimed_values}
 use Rattle.sc_definitions.specs.Transcript.{messages_of, sent, rounds_events}
-use Rattle.sc_definitions.specs.Lucky.{excess, Luck, in_batch, in_round}
+use Rattle.sc_definitions.specs.Lucky.{excess, LuckyChallenge, in_batch, in_round}
 use Rattle.sc_definitions.proofs.RingLaws.{element-small, element-plus, element-zero, plus_comm, plus-zero, times-zero}
 use Rattle.sc_definitions.proofs.Sums.{sum-same, element-sum}
-use Rattle.sc_definitions.proofs.TableLaws.{inner-sum}
+use Rattle.sc_definitions.proofs.TableLaws.{inner_product-sum}
 use Rattle.sc_definitions.proofs.BuildLaws.{sum-zeros}
 use Rattle.sc_definitions.proofs.RootLaws.{same-from_minus}
 use Rattle.sc_definitions.proofs.RoundLaws.{true_claim-inner}
-use Rattle.sc_definitions.proofs.StatementLaws.{element-powers_sum}
+use Rattle.sc_definitions.proofs.StatementLaws.{element-batched_by_powers}
 use Rattle.sc_definitions.proofs.BuiltLaws.{length-messages, length-challenges}
 use Rattle.sc_definitions.proofs.Identity.{atom, nought, ◌⊕◌, ◌⊗◌, Agree, identity}
-use Rattle.sc_verdicts.specs.Findings.{holds}
+use Rattle.sc_audit_errors.specs.Findings.{holds}
 use Rattle.sc_soundness.specs.Stages.{stage_residual, true_stage_residual, stage_luck, IsCertifiedIn, IsStage}
 use Rattle.sc_soundness.specs.Merged.{WeightedTable, merged_claim, honest_merged, merged_value, merged_course}
 use Rattle.sc_soundness.proofs.CourseLaws.{honest-end_true, minus-same}
@@ -58,22 +58,22 @@ module _ (o : Ops) (ring : IsRing o) where
     -- the tables' sums with their weights, where the first claim has the power p
     inner_from : ℕ → List TableClaim → ℕ → List (ℕ → ℕ) → ℕ
     inner_from p claims j [] = 0
-    inner_from p claims j (f ∷ fs) = plus o (inner o n f (λ b. powers_sum o c p (map (weight_on o j b) claims))) (inner_from p claims (suc j) fs)
+    inner_from p claims j (f ∷ fs) = plus o (inner_product o n f (λ b. batched_by_powers o c p (map (weight_on o j b) claims))) (inner_from p claims (suc j) fs)
 
     -- those of one claim
     one_from : TableClaim → ℕ → List (ℕ → ℕ) → ℕ
     one_from claim j [] = 0
-    one_from claim j (f ∷ fs) = plus o (inner o n f (λ b. weight_on o j b claim)) (one_from claim (suc j) fs)
+    one_from claim j (f ∷ fs) = plus o (inner_product o n f (λ b. weight_on o j b claim)) (one_from claim (suc j) fs)
 
     merged-inner : (claims : List TableClaim) (j : ℕ) (fs : List (ℕ → ℕ)) → merged_claim o (weighted_from o c claims j fs) [] n ≡ inner_from 0 claims j fs
-    unfolding merged_claim inner_from merging_weights bound_by
+    unfolding merged_claim inner_from merging_weights folded_by
     merged-inner claims j [] = refl
     merged-inner claims j (f ∷ fs) =
         ap (λ t. plus o t (merged_claim o (weighted_from o c claims (suc j) fs) [] n)) (true_claim-inner o ring evaluation prefix f (merging_weights o c claims j) [] n)
-        ∙ ap (plus o (inner o n f (merging_weights o c claims j))) (merged-inner claims (suc j) fs)
+        ∙ ap (plus o (inner_product o n f (merging_weights o c claims j))) (merged-inner claims (suc j) fs)
 
     none-from : (p j : ℕ) (fs : List (ℕ → ℕ)) → inner_from p [] j fs ≡ 0
-    unfolding inner_from powers_sum inner Agree
+    unfolding inner_from batched_by_powers inner_product Agree
     none-from p j [] = refl
     none-from p j (f ∷ fs) =
         ap (λ t. plus o t (inner_from p [] (suc j) fs)) (sum-same o (2 ^ n) _ _ (λ b _. times-zero o ring (f b)) ∙ sum-zeros o ring (2 ^ n))
@@ -82,20 +82,20 @@ module _ (o : Ops) (ring : IsRing o) where
 
     first-from : (p : ℕ) (claim : TableClaim) (claims : List TableClaim) (j : ℕ) (fs : List (ℕ → ℕ)) →
         inner_from p (claim ∷ claims) j fs ≡ plus o (times o (power o c p) (one_from claim j fs)) (inner_from (suc p) claims j fs)
-    unfolding inner_from one_from powers_sum Agree
+    unfolding inner_from one_from batched_by_powers Agree
     first-from p claim claims j [] = identity o ring (power o c p ∷ []) nought (atom 0 ⊗ nought ⊕ nought) tt tt refl
     first-from p claim claims j (f ∷ fs) =
-        let I = inner o n f (λ b. weight_on o j b claim) in
-        let R = inner o n f (λ b. powers_sum o c (suc p) (map (weight_on o j b) claims)) in
+        let I = inner_product o n f (λ b. weight_on o j b claim) in
+        let R = inner_product o n f (λ b. batched_by_powers o c (suc p) (map (weight_on o j b) claims)) in
         ap (λ t. plus o t (inner_from p (claim ∷ claims) (suc j) fs))
-        (inner-sum o ring n (power o c p) f (λ b. weight_on o j b claim) (λ b. powers_sum o c (suc p) (map (weight_on o j b) claims)))
+        (inner_product-sum o ring n (power o c p) f (λ b. weight_on o j b claim) (λ b. batched_by_powers o c (suc p) (map (weight_on o j b) claims)))
         ∙ ap (plus o (plus o (times o (power o c p) I) R)) (first-from p claim claims (suc j) fs)
         ∙ identity o ring (power o c p ∷ I ∷ R ∷ one_from claim (suc j) fs ∷ inner_from (suc p) claims (suc j) fs ∷ [])
         ((atom 0 ⊗ atom 1 ⊕ atom 2) ⊕ (atom 0 ⊗ atom 3 ⊕ atom 4)) (atom 0 ⊗ (atom 1 ⊕ atom 3) ⊕ (atom 2 ⊕ atom 4)) tt tt refl
 
     -- a claim adds nothing on another table
-    elsewhere : (claim : TableClaim) (j : ℕ) (f : ℕ → ℕ) → (claim.table ≡ j → ⊥) → inner o n f (λ b. weight_on o j b claim) ≡ 0
-    unfolding inner weight_on
+    elsewhere : (claim : TableClaim) (j : ℕ) (f : ℕ → ℕ) → (claim.table ≡ j → ⊥) → inner_product o n f (λ b. weight_on o j b claim) ≡ 0
+    unfolding inner_product weight_on
     elsewhere claim j f other =
         sum-same o (2 ^ n) _ _ (λ b _. ap (λ t. times o (f b) (if t then weight_of o claim.statement.kind b else 0)) (ne_eqb _ _ other) ∙ times-zero o ring (f b))
         ∙ sum-zeros o ring (2 ^ n)
@@ -110,11 +110,11 @@ module _ (o : Ops) (ring : IsRing o) where
 
     on-table : (claim : TableClaim) (j i : ℕ) (fs : List (ℕ → ℕ)) → claim.table ≡ j + i → i < length fs →
         one_from claim j fs ≡ true_value o n (table_at fs i) claim.statement.kind
-    unfolding one_from true_value inner weight_on
+    unfolding one_from true_value inner_product weight_on
     on-table claim j i [] is low = absurd (omega (arith, low))
     on-table claim j zero (f ∷ fs) is low =
         let here : claim.table ≡ j = omega (arith, is) in
-        let truth = inner o n f (weight_of o claim.statement.kind) in
+        let truth = inner_product o n f (weight_of o claim.statement.kind) in
         ap (λ t. plus o t (one_from claim (suc j) fs))
         (sum-same o (2 ^ n) _ _ (λ b _. ap (λ t. times o (f b) (if t then weight_of o claim.statement.kind b else 0)) (eq-eqb _ _ here)))
         ∙ ap (plus o truth) (none-before claim (suc j) fs (omega (arith, here)))
@@ -129,8 +129,8 @@ module _ (q : OpeningsCase) (is : IsOpeningsCase q) where
   -- ---- the merged claim of true values
 
   true-from : (p : ℕ) (claims : List TableClaim) → All (λ c. c.table < length q.tables) claims →
-      inner_from q.ops is.field.ring q.variables (merging_challenge q) p claims 0 q.tables ≡ powers_sum q.ops (merging_challenge q) p (map (true_claim_value q) claims)
-  unfolding powers_sum
+      inner_from q.ops is.field.ring q.variables (merging_challenge q) p claims 0 q.tables ≡ batched_by_powers q.ops (merging_challenge q) p (map (true_claim_value q) claims)
+  unfolding batched_by_powers
   true-from p [] named = none-from q.ops is.field.ring q.variables (merging_challenge q) p 0 q.tables
   true-from p (c ∷ claims) named =
       let gamma = merging_challenge q in
@@ -140,7 +140,7 @@ module _ (q : OpeningsCase) (is : IsOpeningsCase q) where
       (on-table q.ops is.field.ring q.variables gamma c 0 c.table q.tables (omega arith) low)
       ∙ ap (plus q.ops (times q.ops (power q.ops gamma p) (true_claim_value q c))) (true-from (suc p) claims (λ k d less. named (suc k) d (omega (arith, less))))
 
-  pub claims-sum : powers_sum q.ops (merging_challenge q) 0 (map (true_claim_value q) q.claims) ≡ merged_claim q.ops (weighted_tables q) [] q.variables
+  pub claims-sum : batched_by_powers q.ops (merging_challenge q) 0 (map (true_claim_value q) q.claims) ≡ merged_claim q.ops (weighted_tables q) [] q.variables
   claims-sum =
       sym (merged-inner q.ops is.field.ring q.variables (merging_challenge q) q.claims 0 q.tables ∙ true-from 0 q.claims is.named)
 
@@ -157,7 +157,7 @@ module _ (q : OpeningsCase) (is : IsOpeningsCase q) where
 
   -- a claim exceeds its true value nowhere just where it is true
   no_excess : (c : TableClaim) → c.statement.claimed < q.ops.size → element q.ops (claim_excess q c) ≡ 0 → IsTrueClaim q c
-  unfolding excess IsTrueOf true_value inner
+  unfolding excess IsTrueOf true_value inner_product
   no_excess c low none =
       let v = true_claim_value q c in
       let whole : element q.ops v ≡ v = element-sum q.ops is.field.ring (2 ^ q.variables) _ in
@@ -218,7 +218,7 @@ module _ (q : OpeningsCase) (is : IsOpeningsCase q) where
       sound = merged-sound q.ops is.field (weighted_tables q);
       pairs = wide;
       count = length-messages came.rounds ∙ sym (length-challenges _ _ _ _ came.rounds);
-      small = element-powers_sum q.ops is.field.ring (merging_challenge q) 0 (claimed_values (statements_of q.claims));
+      small = element-batched_by_powers q.ops is.field.ring (merging_challenge q) 0 (claimed_values (statements_of q.claims));
       true_is = ap (merged_claim q.ops (weighted_tables q) []) (sym (length-messages came.rounds ∙ count));
       at = ap (λ p. poly_at q.ops p (merging_challenge q)) (excesses-are q.claims)
           ∙ excess-powers q.ops is.field.ring (merging_challenge q) (claimed_values (statements_of q.claims)) (map (true_claim_value q) q.claims) (claimed-count q.claims)
@@ -243,7 +243,7 @@ module _ (q : OpeningsCase) (is : IsOpeningsCase q) where
     some-is : (first_false_table_claim q 0 q.claims ≡ None → ⊥) → AllZero q.ops (openings_stage q came.rounds).excess → ⊥
     some-is wrong zeros = wrong (none-false 0 q.claims (none-exceeds q.claims is.below zeros))
 
-    certified-by : (l : Luck) → IsCertifiedIn q.ops (openings_stage q came.rounds) l → IsOpeningsCertified q (openings_figures q came) l
+    certified-by : (l : LuckyChallenge) → IsCertifiedIn q.ops (openings_stage q came.rounds) l → IsOpeningsCertified q (openings_figures q came) l
     unfolding openings_figures
     certified-by (in_batch polynomial roots) c = record {
       certificate = c.0;
@@ -276,7 +276,7 @@ module _ (q : OpeningsCase) (is : IsOpeningsCase q) where
       let ps = weighted_tables q in
       let gamma = merging_challenge q in
       let residual = claim_along (next_claim evaluation q.ops) (merging_claim q) (messages_of came.rounds) zs in
-      let claim : merging_claim q ≡ merged_claim q.ops ps [] q.variables = ap (powers_sum q.ops gamma 0) (sym (true-values q.claims all)) ∙ claims-sum in
+      let claim : merging_claim q ≡ merged_claim q.ops ps [] q.variables = ap (batched_by_powers q.ops gamma 0) (sym (true-values q.claims all)) ∙ claims-sum in
       let ends : residual ≡ products_sum q.ops came.openings (weight_values_at q.ops ps zs) =
       ap (λ c. claim_along (next_claim evaluation q.ops) c (messages_of came.rounds) zs) claim
       ∙ honest-end_true (merged_course q.ops ps) (honest_merged q.ops ps) (merged-keeps q.ops is.field.ring ps)

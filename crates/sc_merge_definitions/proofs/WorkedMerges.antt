@@ -2,11 +2,11 @@
 use Rattle.std.proofs.Common.{◌≡◌, ℕ, false, List, [], ◌∷◌, refl}
 use Rattle.sc_definitions.specs.Ring.{plus, times, opposite, power}
 use Rattle.sc_definitions.specs.Residues.{residues}
-use Rattle.sc_definitions.specs.Tables.{evaluation, prefix, sum_below, inner, weight, value, digits, rows_of}
+use Rattle.sc_definitions.specs.Tables.{evaluation, prefix, sum_below, inner_product, equality_weight, value, digits, rows_of}
 use Rattle.sc_definitions.specs.Polynomials.{poly_at, poly_minus}
 use Rattle.sc_definitions.specs.Roots.{count_below, root_count}
-use Rattle.sc_definitions.specs.Rounds.{placed_entry, true_claim, slope, slow_leading, honest_pair, sent_pair, sent_polynomial, next_claim, claim_along}
-use Rattle.sc_definitions.specs.Statements.{claims, weight_of, true_value, is_true_of, powers_sum}
+use Rattle.sc_definitions.specs.Rounds.{partial_value, true_claim, slope, slow_leading, honest_message, sent_pair, sent_polynomial, next_claim, claim_along}
+use Rattle.sc_definitions.specs.Statements.{claims, weight_of, true_value, is_true_of, batched_by_powers}
 use Rattle.sc_definitions.specs.Interpolation.{first_below}
 use Rattle.sc_definitions.specs.Events.{own_extension, draws, extension_draw}
 use Rattle.sc_definitions.specs.Scripted.{scripted_rules}
@@ -14,7 +14,7 @@ use Rattle.sc_definitions.specs.Transcript.{Round, round_of, sent, before_draw, 
 use Rattle.sc_definitions.specs.Channels.{channel}
 use Rattle.sc_definitions.specs.Seeds.{eight_bytes, length_prefixed, label_text, protocol_name, length_bytes, step_bytes, separator_bytes, nibbles, seed_words, quadratic_seed}
 use Rattle.sc_definitions.specs.Lucky.{excess, in_batch, first_turn}
-use Rattle.sc_verdicts.specs.Findings.{holds, refuted, lucky}
+use Rattle.sc_audit_errors.specs.Findings.{holds, refuted, lucky}
 use Rattle.sc_soundness.specs.Stages.{stage_luck}
 use Rattle.sc_soundness.specs.Merged.{merged_claim, merged_leading, honest_merged}
 use Rattle.sc_soundness.specs.Differences.{first_difference}
@@ -41,12 +41,12 @@ sent_once = round_of (221 ∷ 30 ∷ []) 0 ∷ []
 -- what is built on the true entries
 matmul_built :
     (product_values (residues 65537) (product []).left (product []).right ≡ 19 ∷ 22 ∷ 43 ∷ 50 ∷ [])
-    × (honest_pair evaluation prefix (residues 65537) (left_table (product (19 ∷ 22 ∷ 43 ∷ 50 ∷ []))) (right_table (product (19 ∷ 22 ∷ 43 ∷ 50 ∷ []))) [] 0 ≡ 221 ∷ 30 ∷ [])
+    × (honest_message evaluation prefix (residues 65537) (left_table (product (19 ∷ 22 ∷ 43 ∷ 50 ∷ []))) (right_table (product (19 ∷ 22 ∷ 43 ∷ 50 ∷ []))) [] 0 ≡ 221 ∷ 30 ∷ [])
     × (matmul_figures (product (19 ∷ 22 ∷ 43 ∷ 50 ∷ [])) sent_once
     ≡ record { point = 2; claim = 635; messages = (221 ∷ 30 ∷ []) ∷ []; witnesses = []; challenges = 3 ∷ []; residual = 980; left = 28; right = 35; finding = holds })
-unfolding matmul_figures honest_pair side_variables first_below product_entry product_values left_table right_table first_difference stage_luck
-    first_turn claim_along next_claim sent_polynomial sent_pair true_claim placed_entry inner slope slow_leading poly_at poly_minus value weight digits
-    rows_of sum_below powers_sum power draws extension_draw sent before_draw round_events challenge quadratic_seed seed_words nibbles separator_bytes
+unfolding matmul_figures honest_message side_variables first_below product_entry product_values left_table right_table first_difference stage_luck
+    first_turn claim_along next_claim sent_polynomial sent_pair true_claim partial_value inner_product slope slow_leading poly_at poly_minus value equality_weight digits
+    rows_of sum_below batched_by_powers power draws extension_draw sent before_draw round_events challenge quadratic_seed seed_words nibbles separator_bytes
     step_bytes length_bytes length_prefixed eight_bytes protocol_name label_text plus times opposite
 matmul_built = (refl, refl, refl)
 
@@ -65,8 +65,8 @@ matmul_checked :
       finding = lucky (in_batch (2 ∷ 65536 ∷ 0 ∷ 0 ∷ []) 1);
     }
 unfolding matmul_figures side_variables first_below product_entry product_values left_table right_table first_difference stage_luck first_turn
-    claim_along next_claim sent_polynomial sent_pair true_claim placed_entry inner slope slow_leading root_count count_below poly_at poly_minus value
-    weight digits rows_of sum_below powers_sum power draws extension_draw sent before_draw round_events challenge quadratic_seed seed_words nibbles
+    claim_along next_claim sent_polynomial sent_pair true_claim partial_value inner_product slope slow_leading root_count count_below poly_at poly_minus value
+    equality_weight digits rows_of sum_below batched_by_powers power draws extension_draw sent before_draw round_events challenge quadratic_seed seed_words nibbles
     separator_bytes step_bytes length_bytes length_prefixed eight_bytes protocol_name label_text plus times opposite
 matmul_checked = refl
 
@@ -92,8 +92,8 @@ openings_built :
     × (openings_figures (opened 1 4) (came (4 ∷ 6 ∷ []))
     ≡ record { claim = 9; messages = (1 ∷ 1 ∷ []) ∷ []; witnesses = []; openings = 4 ∷ 6 ∷ []; challenges = 3 ∷ []; residual = 28; weights = 65535 ∷ 6 ∷ []; finding = holds })
 unfolding openings_figures openings_match products_sum merging_weights weight_on weight_of first_false_table_claim is_true_of true_value merged_claim
-    merged_leading honest_merged stage_luck first_turn claim_along next_claim sent_polynomial sent_pair true_claim placed_entry inner slope slow_leading
-    poly_at value weight digits rows_of sum_below powers_sum power draws extension_draw sent before_draw round_events challenge quadratic_seed seed_words
+    merged_leading honest_merged stage_luck first_turn claim_along next_claim sent_polynomial sent_pair true_claim partial_value inner_product slope slow_leading
+    poly_at value equality_weight digits rows_of sum_below batched_by_powers power draws extension_draw sent before_draw round_events challenge quadratic_seed seed_words
     nibbles separator_bytes step_bytes length_bytes length_prefixed eight_bytes protocol_name label_text plus times opposite
 openings_built = (refl, refl)
 
@@ -103,7 +103,7 @@ openings_checked :
     × ((openings_figures (opened 3 3) (came (4 ∷ 7 ∷ []))).finding ≡ refuted)
     × ((openings_figures (opened 3 3) (came (7 ∷ 7 ∷ []))).finding ≡ refuted)
 unfolding openings_figures openings_match products_sum merging_weights weight_on weight_of first_false_table_claim is_true_of true_value excess
-    merged_claim stage_luck first_turn claim_along next_claim sent_polynomial sent_pair true_claim placed_entry inner root_count count_below poly_at value
-    weight digits rows_of sum_below powers_sum power draws extension_draw sent before_draw round_events challenge quadratic_seed seed_words nibbles
+    merged_claim stage_luck first_turn claim_along next_claim sent_polynomial sent_pair true_claim partial_value inner_product root_count count_below poly_at value
+    equality_weight digits rows_of sum_below batched_by_powers power draws extension_draw sent before_draw round_events challenge quadratic_seed seed_words nibbles
     separator_bytes step_bytes length_bytes length_prefixed eight_bytes protocol_name label_text plus times opposite
 openings_checked = (refl, refl, refl)

@@ -7,15 +7,15 @@ use Rattle.sc_definitions.specs.Ring.{Ops, IsField, IsRingMap, ◌*⟨◌⟩◌,
 use Rattle.sc_definitions.specs.Tables.{evaluation, prefix, sum_below, rows_of, value}
 use Rattle.sc_definitions.specs.TwoTables.{TwoTables, true_claim_on}
 use Rattle.sc_definitions.specs.Polynomials.{poly_minus}
-use Rattle.sc_definitions.specs.Rounds.{honest_pair, next_claim, claim_along}
-use Rattle.sc_definitions.specs.Statements.{powers_sum}
+use Rattle.sc_definitions.specs.Rounds.{honest_message, next_claim, claim_along}
+use Rattle.sc_definitions.specs.Statements.{batched_by_powers}
 use Rattle.sc_definitions.specs.Interpolation.{first_below}
 use Rattle.sc_definitions.specs.Events.{words, extension_draw}
 use Rattle.sc_definitions.specs.Transcript.{Round, messages_of, rounds_events}
 use Rattle.sc_definitions.specs.Channels.{Channel, IsBuilt, witnesses_of}
 use Rattle.sc_definitions.specs.Seeds.{quadratic_seed}
-use Rattle.sc_definitions.specs.Lucky.{course_on, Luck}
-use Rattle.sc_verdicts.specs.Findings.{Finding, holds, lucky}
+use Rattle.sc_definitions.specs.Lucky.{course_on, LuckyChallenge}
+use Rattle.sc_audit_errors.specs.Findings.{Finding, holds, lucky}
 use Rattle.sc_soundness.specs.Stages.{Stage, stage_luck}
 use Rattle.sc_soundness.specs.Differences.{Difference, first_difference}
 use Rattle.sc_merge_definitions.specs.QuadraticPlays.{seeded_history, challenges_after, finding_where, IsCertifiedBy}
@@ -85,7 +85,7 @@ after_point q = q.history ++ words (observed_entries q) ++ replicate q.channel.e
 
 -- the claim on the entries: the claimed ones, each times the point to the power of its place
 abbrev pub entries_claim : MatmulCase → ℕ
-entries_claim q = powers_sum q.ops (drawn_point q) 0 (map q.embedding q.claimed.values)
+entries_claim q = batched_by_powers q.ops (drawn_point q) 0 (map q.embedding q.claimed.values)
 
 -- By the place x of the sides that both share: the left matrix with its rows added up, row i times the power of the place where row i of the product begins;
 -- and the right one with its columns added up, column j times the power j.
@@ -173,21 +173,21 @@ matmul_figures q rounds =
 -- the rounds that are built
 abbrev pub AreBuiltRounds : MatmulCase → List Round → Type 0
 AreBuiltRounds q rounds =
-    IsBuilt (honest_pair evaluation prefix q.ops (left_table q) (right_table q)) q.channel (seeded_history q.channel (after_point q) (inner_variables q)) []
+    IsBuilt (honest_message evaluation prefix q.ops (left_table q) (right_table q)) q.channel (seeded_history q.channel (after_point q) (inner_variables q)) []
     (inner_variables q) rounds
 
 -- A challenge that is named lucky is certified, the point by a coefficient for each entry; and where the residual is the product of the two values although
 -- an entry is false, one is named.
 pub record CertifiesMatmul (q : MatmulCase) (f : MatmulFigures) : Type 0 where
-  pub named : (l : Luck) → f.finding ≡ lucky l → IsCertifiedBy q.ops f.point (length q.claimed.values) f.challenges l
-  pub no_other : f.residual ≡ f.left *⟨ q.ops ⟩ f.right → (q.claimed.values ≡ product_values q.base q.left q.right → ⊥) → (l : Luck) × (f.finding ≡ lucky l)
+  pub named : (l : LuckyChallenge) → f.finding ≡ lucky l → IsCertifiedBy q.ops f.point (length q.claimed.values) f.challenges l
+  pub no_other : f.residual ≡ f.left *⟨ q.ops ⟩ f.right → (q.claimed.values ≡ product_values q.base q.left q.right → ⊥) → (l : LuckyChallenge) × (f.finding ≡ lucky l)
 
 -- ---- the laws
 
 -- The claim on the true entries is the sum over the two tables.
 abbrev pub EntriesSumTables : Type 0
 EntriesSumTables = (q : MatmulCase) → IsMatmulCase q →
-    powers_sum q.ops (drawn_point q) 0 (map q.embedding (product_values q.base q.left q.right)) ≡ true_claim_on q.ops (matmul_tables q) [] (inner_variables q)
+    batched_by_powers q.ops (drawn_point q) 0 (map q.embedding (product_values q.base q.left q.right)) ≡ true_claim_on q.ops (matmul_tables q) [] (inner_variables q)
 
 -- The figures of whatever rounds came, as many as there should be, of two values each, certify themselves.
 abbrev pub MatmulsAreCertified : Type 0

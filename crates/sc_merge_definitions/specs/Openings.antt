@@ -8,13 +8,13 @@ use Rattle.sc_definitions.specs.declared.false_claim.FalseClaim.{FalseClaim}
 use Rattle.sc_definitions.specs.Ring.{Ops, IsField, ◌+⟨◌⟩◌, ◌*⟨◌⟩◌}
 use Rattle.sc_definitions.specs.Tables.{evaluation, prefix, value}
 use Rattle.sc_definitions.specs.Rounds.{next_claim, claim_along}
-use Rattle.sc_definitions.specs.Statements.{Kind, equality, successor, Statement, weight_of, true_value, IsTrueOf, is_true_of, powers_sum, claimed_values}
+use Rattle.sc_definitions.specs.Statements.{Kind, equality, successor, Statement, weight_of, true_value, IsTrueOf, is_true_of, batched_by_powers, claimed_values}
 use Rattle.sc_definitions.specs.Events.{words, extension_draw}
 use Rattle.sc_definitions.specs.Transcript.{Round, messages_of, sent, rounds_events}
 use Rattle.sc_definitions.specs.Channels.{Channel, IsBuilt, witnesses_of}
 use Rattle.sc_definitions.specs.Seeds.{quadratic_seed}
-use Rattle.sc_definitions.specs.Lucky.{IsCertificate, excess, Luck, in_batch, in_round, IsRoundLuck}
-use Rattle.sc_verdicts.specs.Findings.{Finding, holds, lucky}
+use Rattle.sc_definitions.specs.Lucky.{IsCertificate, excess, LuckyChallenge, in_batch, in_round, IsRoundLuck}
+use Rattle.sc_audit_errors.specs.Findings.{Finding, holds, lucky}
 use Rattle.sc_soundness.specs.Stages.{Stage, stage_luck}
 use Rattle.sc_soundness.specs.Merged.{WeightedTable, merged_claim, honest_merged, merged_course}
 use Rattle.sc_merge_definitions.specs.QuadraticPlays.{seeded_history, challenges_after, finding_where}
@@ -91,7 +91,7 @@ after_merging q = q.history ++ sent q.channel.extension (claimed_values (stateme
 
 -- the merged claim: the claimed values, each times the challenge to the power of its place
 abbrev pub merging_claim : OpeningsCase → ℕ
-merging_claim q = powers_sum q.ops (merging_challenge q) 0 (claimed_values (statements_of q.claims))
+merging_claim q = batched_by_powers q.ops (merging_challenge q) 0 (claimed_values (statements_of q.claims))
 
 -- a claim's weight at a row of table j: none where it is on another one
 unfoldable pub weight_on : Ops → ℕ → ℕ → TableClaim → ℕ
@@ -99,7 +99,7 @@ weight_on o j b c = if c.table == j then weight_of o c.statement.kind b else 0
 
 -- table j's weights: those of the claims on it, each times the power of the claim's place
 unfoldable pub merging_weights : Ops → ℕ → List TableClaim → ℕ → ℕ → ℕ
-merging_weights o c claims j b = powers_sum o c 0 (map (weight_on o j b) claims)
+merging_weights o c claims j b = batched_by_powers o c 0 (map (weight_on o j b) claims)
 
 -- tables that are numbered from j on, with their weights
 abbrev pub weighted_from : Ops → ℕ → List TableClaim → ℕ → List (ℕ → ℕ) → List WeightedTable
@@ -208,21 +208,21 @@ pub record IsMergingLuck (q : OpeningsCase) (polynomial : List ℕ) (roots : ℕ
   pub true_where_zero : (i : ℕ) (c : TableClaim) → slice_get q.claims i ≡ Some c → slice_get polynomial i ≡ Some 0 → IsTrueClaim q c
 
 -- a lucky challenge is certified: the merging one so, or that of a round by three coefficients
-abbrev pub IsOpeningsCertified : OpeningsCase → OpeningsFigures → Luck → Type 0
+abbrev pub IsOpeningsCertified : OpeningsCase → OpeningsFigures → LuckyChallenge → Type 0
 IsOpeningsCertified q f (in_batch polynomial roots) = IsMergingLuck q polynomial roots
 IsOpeningsCertified q f (in_round round polynomial roots) = IsRoundLuck q.ops f.challenges round polynomial roots
 
 -- A challenge that is named lucky is certified; and where the residual and the openings match although a claim is false, one is named.
 pub record CertifiesOpenings (q : OpeningsCase) (f : OpeningsFigures) : Type 0 where
-  pub named : (l : Luck) → f.finding ≡ lucky l → IsOpeningsCertified q f l
-  pub no_other : openings_match q f.residual f.openings f.challenges ≡ true → (AllClaimsTrue q q.claims → ⊥) → (l : Luck) × (f.finding ≡ lucky l)
+  pub named : (l : LuckyChallenge) → f.finding ≡ lucky l → IsOpeningsCertified q f l
+  pub no_other : openings_match q f.residual f.openings f.challenges ≡ true → (AllClaimsTrue q q.claims → ⊥) → (l : LuckyChallenge) × (f.finding ≡ lucky l)
 
 -- ---- the laws
 
 -- The merged claim of the true values is the sum over all tables.
 abbrev pub ClaimsSumTables : Type 0
 ClaimsSumTables = (q : OpeningsCase) → IsOpeningsCase q →
-    powers_sum q.ops (merging_challenge q) 0 (map (true_claim_value q) q.claims) ≡ merged_claim q.ops (weighted_tables q) [] q.variables
+    batched_by_powers q.ops (merging_challenge q) 0 (map (true_claim_value q) q.claims) ≡ merged_claim q.ops (weighted_tables q) [] q.variables
 
 -- The figures of whatever came, with as many rounds as there are variables, of two values each, certify themselves.
 abbrev pub OpeningsAreCertified : Type 0

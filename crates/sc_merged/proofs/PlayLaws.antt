@@ -5,18 +5,18 @@ use Rattle.std.proofs.lemmas.Grind.{flat_map-append}
 use Rattle.sc_definitions.specs.Ring.{Ops, IsRing}
 use Rattle.sc_definitions.specs.Transcript.{round_events, rounds_events, challenge, challenges, HasFirstWitness}
 use Rattle.sc_definitions.specs.Channels.{Channel, with_rounds, NoWitnessFound}
-use Rattle.sc_definitions.specs.Standings.{half_rows}
+use Rattle.sc_definitions.specs.ProverStates.{half_rows}
 use Rattle.sc_definitions.proofs.BuiltLaws.{challenges-append, length-challenges, IsBuilt-append}
-use Rattle.sc_definitions.proofs.StandingLaws.{with_none, with_more}
+use Rattle.sc_definitions.proofs.ProverStateLaws.{with_none, with_more}
 use Rattle.sc_transcript.specs.declared.error.SumcheckError.{SumcheckError}
 use Rattle.sc_transcript.specs.declared.error.SumcheckError.TheVariants.{NoWitness, NoMemory}
 use Rattle.sc_soundness.specs.Merged.{honest_merged, merged_message, bound_table}
 use Rattle.sc_merged.specs.SameRows.{HaveSameRows}
-use Rattle.sc_merged.specs.MergedPlays.{MergedStanding, next_message, IsMergedRound, IsHalted, ArePlayed, LeaveRounds}
+use Rattle.sc_merged.specs.MergedPlays.{MergedState, next_message, IsMergedRound, IsHalted, ArePlayed, LeaveRounds}
 use Rattle.sc_merged.proofs.SameRowsLaws.{rows-self, bound-nothing, bound-next, honest-stands}
 
 -- no round yet
-pub played-none : (o : Ops) (c : Channel) (s : MergedStanding) → ArePlayed o c s s []
+pub played-none : (o : Ops) (c : Channel) (s : MergedState) → ArePlayed o c s s []
 played-none o c s = record {
   rounds = [];
   built = tt;
@@ -27,7 +27,7 @@ played-none o c s = record {
   wire = with_none c.bits s.wire;
 }
 
-module _ (o : Ops) (ring : IsRing o) (c : Channel) (start s : MergedStanding) (rs : List ℕ) (so_far : ArePlayed o c start s rs) where
+module _ (o : Ops) (ring : IsRing o) (c : Channel) (start s : MergedState) (rs : List ℕ) (so_far : ArePlayed o c start s rs) where
   -- as many challenges as rounds
   pub drawn-length : length rs ≡ length so_far.rounds
   drawn-length = ap length so_far.drawn ∙ length-challenges c.rules c.extension c.bits start.history so_far.rounds
@@ -39,7 +39,7 @@ module _ (o : Ops) (ring : IsRing o) (c : Channel) (start s : MergedStanding) (r
       ∙ honest-stands o ring start.pairs s.pairs rs m (subst (λ n. HaveSameRows n s.pairs (map (bound_table o rs n) start.pairs)) some so_far.bound)
 
   -- one round more
-  pub played-more : (t : MergedStanding) (r : ℕ) → IsMergedRound o c s t r → ArePlayed o c start t (rs ++ r ∷ [])
+  pub played-more : (t : MergedState) (r : ℕ) → IsMergedRound o c s t r → ArePlayed o c start t (rs ++ r ∷ [])
   played-more t r one =
       let R = c.rules in
       let E = c.extension in
@@ -68,7 +68,7 @@ module _ (o : Ops) (ring : IsRing o) (c : Channel) (start s : MergedStanding) (r
       }
 
   -- the next round is refused
-  pub stopped : (X : Type 0) (after : MergedStanding) (i : ℕ) (e : SumcheckError) → length rs ≡ i → i < start.variables → IsHalted o c s after i e →
+  pub stopped : (X : Type 0) (after : MergedState) (i : ℕ) (e : SumcheckError) → length rs ≡ i → i < start.variables → IsHalted o c s after i e →
       LeaveRounds {X = X} o c start after rs (Err e)
   stopped X after i (NoWitness j) count few why =
       let m = start.variables - suc j in

@@ -3,13 +3,13 @@ use Rattle.std.proofs.Common.{◌≡◌, ℕ, zero, suc, ◌+◌, ◌*◌, ◌^�
 use Rattle.std.proofs.Math.Nat.{pow-suc}
 use Rattle.sc_definitions.specs.declared.events.Event.{Event}
 use Rattle.sc_definitions.specs.Ring.{Ops, IsRing, plus}
-use Rattle.sc_definitions.specs.Tables.{evaluation, prefix, inner, bound_in, bound_by}
+use Rattle.sc_definitions.specs.Tables.{evaluation, prefix, inner_product, folded_in, folded_by}
 use Rattle.sc_definitions.specs.Messages.{message_first, message_leading}
 use Rattle.sc_definitions.specs.Transcript.{Round, round_events, challenge}
 use Rattle.sc_definitions.specs.Channels.{Channel, IsBuilt}
-use Rattle.sc_definitions.proofs.PlacedLaws.{bound_by-append}
-use Rattle.sc_definitions.proofs.PlayedLaws.{message-same, bound_in-same}
-use Rattle.sc_definitions.proofs.SameTables.{inner-same, bound_by-same}
+use Rattle.sc_definitions.proofs.PlacedLaws.{folded_by-append}
+use Rattle.sc_definitions.proofs.PlayedLaws.{message-same, folded_in-same}
+use Rattle.sc_definitions.proofs.SameTables.{inner_product-same, folded_by-same}
 use Rattle.sc_soundness.specs.Merged.{WeightedTable, merged_claim, honest_merged, merged_inner, merged_message_first, merged_message_leading, merged_message, bound_table}
 use Rattle.sc_soundness.proofs.MergedLaws.{merged-message, merged-inner}
 use Rattle.sc_merged.specs.SameRows.{HaveSameRows}
@@ -42,13 +42,13 @@ rows-chain n (p ∷ ps) (q ∷ qs) (u ∷ us) one two = (
 
 -- with no challenge bound a table is as it was
 pub bound-nothing : (o : Ops) (m : ℕ) (ps : List WeightedTable) → map (bound_table o [] m) ps ≡ ps
-unfolding bound_by
+unfolding folded_by
 bound-nothing o m [] = refl
 bound-nothing o m (p ∷ ps) = ap (λ t. p ∷ t) (bound-nothing o m ps)
 
-pub bound-one : (o : Ops) (r m : ℕ) (f : ℕ → ℕ) → bound_by evaluation prefix o (r ∷ []) m f ≡ bound_in evaluation prefix o m r f
-unfolding bound_by
-bound-one o r m f = let same : length {A = ℕ} [] + m ≡ m = omega arith in ap (λ k. bound_in evaluation prefix o k r f) same
+pub bound-one : (o : Ops) (r m : ℕ) (f : ℕ → ℕ) → folded_by evaluation prefix o (r ∷ []) m f ≡ folded_in evaluation prefix o m r f
+unfolding folded_by
+bound-one o r m f = let same : length {A = ℕ} [] + m ≡ m = omega arith in ap (λ k. folded_in evaluation prefix o k r f) same
 
 -- one challenge more
 pub bound-next : (o : Ops) (rs : List ℕ) (r m : ℕ) (ps qs us : List WeightedTable) → HaveSameRows (suc m) qs (map (bound_table o rs (suc m)) ps) →
@@ -60,10 +60,10 @@ bound-next o rs r m (p ∷ ps) [] us so_far one = absurd so_far
 bound-next o rs r m (p ∷ ps) (q ∷ qs) [] so_far one = absurd one
 bound-next o rs r m (p ∷ ps) (q ∷ qs) (u ∷ us) so_far one = (
   record {
-    table = λ b low. one.0.table b low ∙ ap (λ f. f b) (bound-one o r m q.table) ∙ bound_in-same evaluation prefix o m r b _ _ low so_far.0.table
-        ∙ ap (λ f. f b) (sym (bound_by-append evaluation prefix o rs r m p.table));
-    weights = λ b low. one.0.weights b low ∙ ap (λ f. f b) (bound-one o r m q.weights) ∙ bound_in-same evaluation prefix o m r b _ _ low so_far.0.weights
-        ∙ ap (λ f. f b) (sym (bound_by-append evaluation prefix o rs r m p.weights));
+    table = λ b low. one.0.table b low ∙ ap (λ f. f b) (bound-one o r m q.table) ∙ folded_in-same evaluation prefix o m r b _ _ low so_far.0.table
+        ∙ ap (λ f. f b) (sym (folded_by-append evaluation prefix o rs r m p.table));
+    weights = λ b low. one.0.weights b low ∙ ap (λ f. f b) (bound-one o r m q.weights) ∙ folded_in-same evaluation prefix o m r b _ _ low so_far.0.weights
+        ∙ ap (λ f. f b) (sym (folded_by-append evaluation prefix o rs r m p.weights));
   },
   bound-next o rs r m ps qs us so_far.1 one.1,
 )
@@ -76,22 +76,22 @@ bound-same o rs m n [] (q ∷ qs) whole same = absurd same
 bound-same o rs m n (p ∷ ps) [] whole same = absurd same
 bound-same o rs m n (p ∷ ps) (q ∷ qs) whole same = (
   record {
-    table = bound_by-same evaluation prefix o rs m p.table q.table (λ b low. same.0.table b (subst (λ k. b < 2 ^ k) whole low));
-    weights = bound_by-same evaluation prefix o rs m p.weights q.weights (λ b low. same.0.weights b (subst (λ k. b < 2 ^ k) whole low));
+    table = folded_by-same evaluation prefix o rs m p.table q.table (λ b low. same.0.table b (subst (λ k. b < 2 ^ k) whole low));
+    weights = folded_by-same evaluation prefix o rs m p.weights q.weights (λ b low. same.0.weights b (subst (λ k. b < 2 ^ k) whole low));
   },
   bound-same o rs m n ps qs whole same.1,
 )
 
 -- ---- sums and messages
 
-pub inner-rows : (o : Ops) (n : ℕ) (ps qs : List WeightedTable) → HaveSameRows n ps qs → merged_inner o n ps ≡ merged_inner o n qs
+pub inner_product-rows : (o : Ops) (n : ℕ) (ps qs : List WeightedTable) → HaveSameRows n ps qs → merged_inner o n ps ≡ merged_inner o n qs
 unfolding merged_inner
-inner-rows o n [] [] same = refl
-inner-rows o n [] (q ∷ qs) same = absurd same
-inner-rows o n (p ∷ ps) [] same = absurd same
-inner-rows o n (p ∷ ps) (q ∷ qs) same =
-    ap (λ t. plus o t (merged_inner o n ps)) (inner-same o n p.table q.table p.weights q.weights same.0.table same.0.weights)
-    ∙ ap (plus o (inner o n q.table q.weights)) (inner-rows o n ps qs same.1)
+inner_product-rows o n [] [] same = refl
+inner_product-rows o n [] (q ∷ qs) same = absurd same
+inner_product-rows o n (p ∷ ps) [] same = absurd same
+inner_product-rows o n (p ∷ ps) (q ∷ qs) same =
+    ap (λ t. plus o t (merged_inner o n ps)) (inner_product-same o n p.table q.table p.weights q.weights same.0.table same.0.weights)
+    ∙ ap (plus o (inner_product o n q.table q.weights)) (inner_product-rows o n ps qs same.1)
 
 -- the two values of a list
 first-of : (a b c d : ℕ) → a ∷ b ∷ [] ≡ c ∷ d ∷ [] → a ≡ c
@@ -133,7 +133,7 @@ message-rows o m ps qs same =
 module _ (o : Ops) (ring : IsRing o) where
   -- tables as they stand give the true claim and the honest message
   pub claim-stands : (ps qs : List WeightedTable) (rs : List ℕ) (m : ℕ) → HaveSameRows m qs (map (bound_table o rs m) ps) → merged_inner o m qs ≡ merged_claim o ps rs m
-  claim-stands ps qs rs m same = inner-rows o m qs (map (bound_table o rs m) ps) same ∙ sym (merged-inner o ring ps rs m)
+  claim-stands ps qs rs m same = inner_product-rows o m qs (map (bound_table o rs m) ps) same ∙ sym (merged-inner o ring ps rs m)
 
   pub honest-stands : (ps qs : List WeightedTable) (rs : List ℕ) (m : ℕ) → HaveSameRows (suc m) qs (map (bound_table o rs (suc m)) ps) →
       merged_message o (2 ^ m) qs ≡ honest_merged o ps rs m

@@ -2,7 +2,7 @@
 use Rattle.std.proofs.Common.{◌≡◌, ℕ, zero, suc, ◌+◌, ◌<◌, ◌≤◌, List, [], ◌∷◌, length, map, take, get_or, refl, sym, ◌∙◌, ap, arith}
 use Rattle.std.proofs.lemmas.List.{length-map, take_all}
 use Rattle.sc_definitions.specs.Ring.{Ops, IsRing, plus}
-use Rattle.sc_definitions.specs.Tables.{evaluation, prefix, inner}
+use Rattle.sc_definitions.specs.Tables.{evaluation, prefix, inner_product}
 use Rattle.sc_definitions.specs.Messages.{message_first, message_leading}
 use Rattle.sc_definitions.proofs.RingLaws.{plus_comm, plus_assoc}
 use Rattle.sc_soundness.specs.Merged.{WeightedTable, merged_inner, merged_message_first, merged_message_leading}
@@ -34,10 +34,10 @@ pub total-all : {X : Type 0} (o : Ops) (f : WeightedTable → ℕ) (of : X → W
     total o f (take i (map of xs)) ≡ total o f (map of xs)
 total-all o f of xs i all = ap (total o f) (take_all i (map of xs) (omega (arith, length-map xs of, all)))
 
-pub inner-total : (o : Ops) (n : ℕ) (ps : List WeightedTable) → total o (λ p. inner o n p.table p.weights) ps ≡ merged_inner o n ps
+pub inner_product-total : (o : Ops) (n : ℕ) (ps : List WeightedTable) → total o (λ p. inner_product o n p.table p.weights) ps ≡ merged_inner o n ps
 unfolding total merged_inner
-inner-total o n [] = refl
-inner-total o n (p ∷ ps) = ap (plus o (inner o n p.table p.weights)) (inner-total o n ps)
+inner_product-total o n [] = refl
+inner_product-total o n (p ∷ ps) = ap (plus o (inner_product o n p.table p.weights)) (inner_product-total o n ps)
 
 pub first-total : (o : Ops) (half : ℕ) (ps : List WeightedTable) → total o (λ p. message_first evaluation prefix o half p.table p.weights) ps ≡ merged_message_first o half ps
 unfolding total merged_message_first

@@ -5,7 +5,7 @@ use Rattle.std.proofs.lemmas.List.{length-map, length-drop, drop_all}
 use Rattle.std.proofs.lemmas.List.Elements.{All-map}
 use Rattle.sc_definitions.specs.Ring.{Ops, IsRing, IsField, element, plus, minus}
 use Rattle.sc_definitions.specs.Tables.{evaluation, prefix}
-use Rattle.sc_definitions.specs.Rounds.{true_claim, slow_leading, slow_round, honest_pair, sent_pair, sent_polynomial, next_claim, claim_along}
+use Rattle.sc_definitions.specs.Rounds.{true_claim, slow_leading, round_polynomial, honest_message, sent_pair, sent_polynomial, next_claim, claim_along}
 use Rattle.sc_definitions.specs.Polynomials.{poly_plus, poly_minus}
 use Rattle.sc_definitions.specs.Lucky.{Turn, first_turn, IsTurn}
 use Rattle.sc_definitions.proofs.RingLaws.{element-small}
@@ -23,7 +23,7 @@ module _ (o : Ops) (ring : IsRing o) where
   -- the true polynomial is what the honest message sends under the true claim
   pub merged-sent : (ps : List WeightedTable) (rs : List ℕ) (m : ℕ) →
       sent_polynomial evaluation o (merged_claim o ps rs (suc m)) (honest_merged o ps rs m) ≡ merged_round o ps rs m
-  unfolding merged_claim merged_leading honest_merged merged_round sent_polynomial sent_pair honest_pair poly_plus Agree
+  unfolding merged_claim merged_leading honest_merged merged_round sent_polynomial sent_pair honest_message poly_plus Agree
   merged-sent [] rs m = ap (λ v. 0 ∷ v ∷ 0 ∷ []) (identity o ring [] (((nought ⊖ nought) ⊖ nought) ⊖ nought) nought tt tt refl)
   merged-sent (p ∷ ps) rs m =
       let t = true_claim evaluation prefix o p.table p.weights rs (suc m) in
@@ -37,7 +37,7 @@ module _ (o : Ops) (ring : IsRing o) where
       (identity o ring (t ∷ c ∷ q ∷ T ∷ C ∷ Q ∷ []) ((((A ⊕ E) ⊖ (B ⊕ F)) ⊖ (B ⊕ F)) ⊖ (D ⊕ G)) ((((A ⊖ B) ⊖ B) ⊖ D) ⊕ (((E ⊖ F) ⊖ F) ⊖ G)) tt tt refl)
       ∙ ap (λ l. poly_plus o l (C ∷ minus o (minus o (minus o T C) C) Q ∷ Q ∷ []))
       (honest-sends o ring p.table p.weights rs m t c q evaluation prefix tt refl refl)
-      ∙ ap (poly_plus o (slow_round evaluation prefix o p.table p.weights rs m)) (merged-sent ps rs m)
+      ∙ ap (poly_plus o (round_polynomial evaluation prefix o p.table p.weights rs m)) (merged-sent ps rs m)
 
   -- tables that are the same have the same rounds
   pub round-same : (ps qs : List WeightedTable) (n : ℕ) (rs : List ℕ) (m : ℕ) → HaveSameRows n ps qs → length rs + suc m ≡ n → merged_round o ps rs m ≡ merged_round o qs rs m

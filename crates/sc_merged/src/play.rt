@@ -5,7 +5,12 @@ ghost use Rattle.sc_transcript.specs.Batches.{CountsOne};
 ghost use Rattle.sc_transcript.specs.Drivers.{channel_of, Continues, HasRoundLeft, IsDone};
 ghost use Rattle.sc_transcript.specs.Transcripts.{driver_in};
 ghost use Rattle.sc_merged.specs.MergedViews.{left_in};
-ghost use Rattle.sc_merged.specs.MergedPlays.{standing_in, LeavesRound, LeaveRounds, LeavesPlay};
+ghost use Rattle.sc_merged.specs.MergedPlays.{
+  prover_state_in,
+  LeavesRound,
+  LeaveRounds,
+  LeavesPlay,
+};
 
 use crate::tables::MergedTables;
 use sc_challenger::Challenger;
@@ -36,9 +41,9 @@ impl<EF: Field> MergedTables<EF> {
         ensures rules { (C.party challenger.new).rules ≡ (C.party challenger.old).rules }
         ensures left { LeavesPlay (map EF.number) EF.ops
             (channel_by (C.party challenger.old) EF.extension F.ops.size pow_bits)
-            (standing_in F.number EF.number self.old sumcheck_data.old
+            (prover_state_in F.number EF.number self.old sumcheck_data.old
             (C.party challenger.old).history)
-            (standing_in F.number EF.number self.new sumcheck_data.new
+            (prover_state_in F.number EF.number self.new sumcheck_data.new
             (C.party challenger.new).history) result }
     {
         play_batch(alloc, self, sumcheck_data, challenger, pow_bits)
@@ -57,9 +62,9 @@ fn play_batch<F: Field, EF: ExtensionField<F>, C: Challenger<F>>(
     ensures rules { (C.party challenger.new).rules ≡ (C.party challenger.old).rules }
     ensures left { LeavesPlay (map EF.number) EF.ops
         (channel_by (C.party challenger.old) EF.extension F.ops.size pow_bits)
-        (standing_in F.number EF.number tables.old sumcheck_data.old
+        (prover_state_in F.number EF.number tables.old sumcheck_data.old
         (C.party challenger.old).history)
-        (standing_in F.number EF.number tables.new sumcheck_data.new
+        (prover_state_in F.number EF.number tables.new sumcheck_data.new
         (C.party challenger.new).history) result }
 {
     let rounds = tables.num_variables();
@@ -94,9 +99,9 @@ fn play_rounds<F: Field, EF: ExtensionField<F>, C: Challenger<F>>(
     ensures continues { Continues (driver_in transcript.old) (driver_in transcript.new) }
     ensures all { OnOk result (IsDone (driver_in transcript.new)) }
     ensures rounds { LeaveRounds EF.ops (channel_of EF.extension (driver_in transcript.old))
-        (standing_in F.number EF.number tables.old sumcheck_data.old
+        (prover_state_in F.number EF.number tables.old sumcheck_data.old
         (driver_in transcript.old).history)
-        (standing_in F.number EF.number tables.new sumcheck_data.new
+        (prover_state_in F.number EF.number tables.new sumcheck_data.new
         (driver_in transcript.new).history) (map EF.number challenges.new.items) result }
 {
     for _round in 0..transcript.shape().num_rounds {
@@ -120,9 +125,9 @@ fn play_round<F: Field, EF: ExtensionField<F>, C: Challenger<F>>(
     ensures counts { CountsOne (driver_in transcript.old) (driver_in transcript.new) result }
     ensures round { LeavesRound EF.number EF.ops
         (channel_of EF.extension (driver_in transcript.old))
-        (standing_in F.number EF.number tables.old sumcheck_data.old
+        (prover_state_in F.number EF.number tables.old sumcheck_data.old
         (driver_in transcript.old).history)
-        (standing_in F.number EF.number tables.new sumcheck_data.new
+        (prover_state_in F.number EF.number tables.new sumcheck_data.new
         (driver_in transcript.new).history) (driver_in transcript.old).played result }
 {
     let message = tables.message();

@@ -1,7 +1,7 @@
 //! Several tables with weights, on which rounds are played in one.
 ghost use Rattle.std.specs.Prelude.{◌≡◌, ◌+◌, ◌<◌, [], ◌∷◌, All, IfOk, length, map};
 ghost use Rattle.sc_definitions.specs.Tables.{value};
-ghost use Rattle.sc_definitions.specs.Standings.{half_rows};
+ghost use Rattle.sc_definitions.specs.ProverStates.{half_rows};
 ghost use Rattle.sc_soundness.specs.Merged.{bound_table, merged_inner, merged_message};
 ghost use Rattle.sc_transcript.specs.Data.{pair_of};
 ghost use Rattle.sc_merged.specs.SameRows.{HaveSameRows};

@@ -1,9 +1,9 @@
 //! A table and its weights.
 ghost use Rattle.std.specs.Prelude.{◌≡◌, ℕ, ◌+◌, ◌^◌, ◌<◌, None, [], ◌∷◌, length, map};
 ghost use Rattle.sc_definitions.specs.Ring.{◌+⟨◌⟩◌, ◌*⟨◌⟩◌};
-ghost use Rattle.sc_definitions.specs.Tables.{evaluation, prefix, entries, value, inner};
+ghost use Rattle.sc_definitions.specs.Tables.{evaluation, prefix, entries, value, inner_product};
 ghost use Rattle.sc_definitions.specs.Messages.{message_of};
-ghost use Rattle.sc_definitions.specs.Standings.{half_rows};
+ghost use Rattle.sc_definitions.specs.ProverStates.{half_rows};
 ghost use Rattle.sc_soundness.specs.Merged.{bound_table};
 ghost use Rattle.sc_table.specs.Polys.{variables_of, table_of};
 ghost use Rattle.sc_table.specs.SplitEqs.{split_variables, split_weight};
@@ -45,7 +45,7 @@ impl<EF: Field> WeightedPoly<EF> {
 
     /// The sum over all rows of entry times weight. It takes no memory.
     pub fn sum(&self) -> EF
-        ensures { EF.number result ≡ inner EF.ops (arity_in self.now)
+        ensures { EF.number result ≡ inner_product EF.ops (arity_in self.now)
             (table_in EF.number self.now) (weights_in EF.number self.now) }
     {
         dot_slices::<EF, EF>(self.table.as_slice(), self.weights.as_slice())

@@ -14,7 +14,7 @@ use Rattle.sc_definitions.proofs.WitnessLaws.{IsBuiltOr, honest_rounds-built}
 use Rattle.sc_definitions.proofs.ReplayLaws.{length-given_rounds, messages-given_rounds}
 use Rattle.sc_challenger.specs.Parties.{Party}
 use Rattle.sc_transcript.specs.Data.{witness_count}
-use Rattle.sc_verdicts.specs.Findings.{holds, lucky}
+use Rattle.sc_audit_errors.specs.Findings.{holds, lucky}
 use Rattle.sc_soundness.specs.Merged.{honest_merged}
 use Rattle.sc_merge_definitions.specs.Openings.{TableClaim, OpeningsCase, IsOpeningsCase, OpeningsFigures, AreBuiltOpenings, weighted_tables, openings_figures, first_false_table_claim, CertifiesOpenings}
 use Rattle.sc_merge_definitions.proofs.OpeningLaws.{all-true, certified-openings, holds-openings}

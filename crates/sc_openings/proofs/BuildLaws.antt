@@ -18,7 +18,7 @@ use Rattle.sc_transcript.proofs.InStep.{all_pass}
 use Rattle.sc_soundness.specs.Merged.{honest_merged}
 use Rattle.sc_merge_definitions.specs.Openings.{OpeningsCase, OpeningsFigures, SentOpenings, merging_challenge, weighted_tables, openings_challenges, values_at, openings_figures, first_false_table_claim}
 use Rattle.sc_merged.specs.SameRows.{HaveSameRows}
-use Rattle.sc_merged.specs.MergedPlays.{MergedStanding, ArePlayed, StopAt, LeavesPlay, seeded}
+use Rattle.sc_merged.specs.MergedPlays.{MergedState, ArePlayed, StopAt, LeavesPlay, seeded}
 use Rattle.sc_merged.proofs.SameRowsLaws.{honest-same, built-same}
 use Rattle.sc_openings.specs.declared.error.MergeError.{MergeError}
 use Rattle.sc_openings.specs.declared.error.MergeError.TheVariants as errors
@@ -33,7 +33,7 @@ use Rattle.sc_openings.proofs.ReplayLaws.{counts-none, openings-none, count-from
 module _ (q : OpeningsCase) (ring : IsRing q.ops) where
   -- ---- what a play leaves
 
-  module _ (start after : MergedStanding) (history : start.history ≡ rounds_start q) (variables : start.variables ≡ q.variables)
+  module _ (start after : MergedState) (history : start.history ≡ rounds_start q) (variables : start.variables ≡ q.variables)
       (same : HaveSameRows q.variables start.pairs (weighted_tables q)) (empty : start.wire ≡ empty_wire) (low : All (λ w. w < q.channel.base_size) after.wire.witnesses) where
     built_here : (rs : List Round) → IsBuilt (honest_merged q.ops start.pairs) q.channel start.history [] start.variables rs →
         IsBuilt (honest_merged q.ops (weighted_tables q)) q.channel (rounds_start q) [] q.variables rs
@@ -85,7 +85,7 @@ module _ (q : OpeningsCase) (ring : IsRing q.ops) where
         ∙ ap (λ t. honest_merged o (weighted_tables q) t m) drawn in
         let before : last.history ≡ rounds_start q ++ rounds_events E bits played.rounds = played.history ∙ ap (λ h. h ++ rounds_events E bits played.rounds) history in
         let wire : after.wire.witnesses ≡ witnesses_of bits played.rounds =
-        ap (λ (t : MergedStanding). t.wire.witnesses) stop.kept
+        ap (λ (t : MergedState). t.wire.witnesses) stop.kept
         ∙ ap (λ (w : Wire). w.witnesses) (played.wire ∙ ap (λ w. with_rounds bits w played.rounds) empty) in
         let at = stop.none.history ∙ ap (λ h. h ++ sent E (honest_merged o start.pairs stop.rs (start.variables - suc i))) before
         ∙ ap (λ vs. (rounds_start q ++ rounds_events E bits played.rounds) ++ sent E vs) message in
@@ -95,7 +95,7 @@ module _ (q : OpeningsCase) (ring : IsRing q.ops) where
         ∙ ap (λ k. Err k) count
 
     -- it was refused
-    pub built-refused : {F EF C X : Type 0} (base : F → ℕ) (number : EF → ℕ) (party : C → Party) (drawn : X → List ℕ) (before : MergedStanding) (e : SumcheckError) →
+    pub built-refused : {F EF C X : Type 0} (base : F → ℕ) (number : EF → ℕ) (party : C → Party) (drawn : X → List ℕ) (before : MergedState) (e : SumcheckError) →
         seeded q.channel before ≡ start → LeavesPlay drawn q.ops q.channel before after (Err e) → LeavesBuilt {F = F} {EF = EF} base number party q (Err (refusal_by e))
     built-refused base number party drawn before (rounds.NoWitness i) is left = built_stopped i (subst (λ s. StopAt q.ops q.channel s after i) is left)
     built-refused base number party drawn before rounds.NoMemory is left = tt

@@ -12,7 +12,7 @@ use Rattle.sc_definitions.specs.Rounds.{next_claim, claim_along}
 use Rattle.sc_definitions.specs.Transcript.{Round, messages_of, before_draw, sent}
 use Rattle.sc_definitions.specs.Replays.{AllPass, given_rounds, round_passes}
 use Rattle.sc_definitions.specs.Events.{Rules}
-use Rattle.sc_definitions.specs.Channels.{Wire, Footing, footing, channel, witnesses_of}
+use Rattle.sc_definitions.specs.Channels.{Wire, VerifierState, verifier_state, channel, witnesses_of}
 use Rattle.sc_definitions.specs.Witnesses.{first_failing}
 use Rattle.sc_definitions.proofs.TableLaws.{value-same}
 use Rattle.sc_definitions.proofs.WitnessLaws.{first_failing-at, first_failing-none}
@@ -26,7 +26,7 @@ use Rattle.sc_transcript.specs.Data.{witness_count, pair_replay}
 use Rattle.sc_transcript.specs.Shapes.{shape_of, batch_of}
 use Rattle.sc_transcript.specs.Walks.{Walk, IsWalked}
 use Rattle.sc_transcript.specs.Replayed.{Replay, replay_of, LeavesReplay}
-use Rattle.sc_verdicts.specs.Findings.{Finding}
+use Rattle.sc_audit_errors.specs.Findings.{Finding}
 use Rattle.sc_soundness.specs.Merged.{WeightedTable}
 use Rattle.sc_soundness.specs.Stages.{stage_luck}
 use Rattle.sc_merge_definitions.specs.QuadraticPlays.{finding_where}
@@ -155,22 +155,22 @@ counted-case q came emb base ts is none =
     ap (λ k. proof_fault k q.variables q.channel.bits came) (case-tables q emb base ts is) ∙ none
 
 -- there are as many challenges as rounds came
-pub walked-count : (p : Walk) (w : Wire) (rs : List ℕ) (end : Footing) → p.rounds ≡ given_rounds w.messages w.witnesses → IsWalked p rs end → length rs ≡ length w.messages
+pub walked-count : (p : Walk) (w : Wire) (rs : List ℕ) (end : VerifierState) → p.rounds ≡ given_rounds w.messages w.witnesses → IsWalked p rs end → length rs ≡ length w.messages
 walked-count p w rs end is walked =
     ap length walked.replays.drawn ∙ length-challenges p.channel.rules p.channel.extension p.channel.bits p.start.history p.rounds ∙ ap length is
     ∙ length-given_rounds w.messages w.witnesses
 
 module _ (q : OpeningsCase) (came : CameOpenings) where
   -- where it starts
-  abbrev pub start_for : Footing
-  start_for = footing (rounds_start q) (merging_claim q)
+  abbrev pub start_for : VerifierState
+  start_for = verifier_state (rounds_start q) (merging_claim q)
 
   abbrev pub replay_for : Replay
   replay_for = replay_of (next_claim evaluation q.ops) q.channel (batch_of (shape_of q.variables q.channel.bits Evaluation)) start_for came.wire
 
   pub replay-is : {R : Rules} {h : List Event} {n degree claim : ℕ} → R ≡ q.channel.rules → h ≡ after_merging q → n ≡ q.variables → degree ≡ q.channel.extension.degree →
       claim ≡ merging_claim q →
-      pair_replay q.ops (channel R q.channel.extension q.channel.base_size q.channel.bits) degree (shape_of n q.channel.bits Evaluation) came.wire (footing h claim) ≡ replay_for
+      pair_replay q.ops (channel R q.channel.extension q.channel.base_size q.channel.bits) degree (shape_of n q.channel.bits Evaluation) came.wire (verifier_state h claim) ≡ replay_for
   replay-is rules history count degree claim = rw (rules, history, count, degree, claim) refl
 
   module _ (none : proof_fault (length q.tables) q.variables q.channel.bits came ≡ None) where
@@ -257,26 +257,26 @@ module _ (q : OpeningsCase) (came : CameOpenings) where
         })
 
     -- there are as many challenges as variables
-    pub drawn-count : (rs : List ℕ) (end : Footing) → IsWalked replay_for.walk rs end → length rs ≡ q.variables
+    pub drawn-count : (rs : List ℕ) (end : VerifierState) → IsWalked replay_for.walk rs end → length rs ≡ q.variables
     drawn-count rs end walked =
         ap length walked.replays.drawn ∙ length-challenges q.channel.rules q.channel.extension q.channel.bits (rounds_start q) (rounds_given came.wire)
         ∙ length-given_rounds came.wire.messages came.wire.witnesses ∙ rounds_as
 
     -- the residual
-    pub residual-is : (rs : List ℕ) (end : Footing) → IsWalked replay_for.walk rs end →
+    pub residual-is : (rs : List ℕ) (end : VerifierState) → IsWalked replay_for.walk rs end →
         end.claim ≡ claim_along (next_claim evaluation q.ops) (merging_claim q) came.wire.messages (openings_challenges q (rounds_given came.wire))
     residual-is rs end walked =
         walked.replays.claim
         ∙ ap (λ ms. claim_along (next_claim evaluation q.ops) (merging_claim q) ms (openings_challenges q (rounds_given came.wire))) (messages-given_rounds came.wire.messages came.wire.witnesses)
 
     -- the history after the openings
-    opened : (rs : List ℕ) (end : Footing) (h' : List Event) → IsWalked replay_for.walk rs end → h' ≡ end.history ++ sent q.channel.extension came.openings →
+    opened : (rs : List ℕ) (end : VerifierState) (h' : List Event) → IsWalked replay_for.walk rs end → h' ≡ end.history ++ sent q.channel.extension came.openings →
         h' ≡ after_openings q (sent_given came)
     opened rs end h' walked is =
         is ∙ ap (λ l. l ++ sent q.channel.extension came.openings) walked.replays.history
 
     -- a report on rounds that were replayed whole
-    pub whole-answered : (rs : List ℕ) (end : Footing) (f : OpeningsFigures) (h' : List Event) → IsWalked replay_for.walk rs end →
+    pub whole-answered : (rs : List ℕ) (end : VerifierState) (f : OpeningsFigures) (h' : List Event) → IsWalked replay_for.walk rs end →
         h' ≡ end.history ++ sent q.channel.extension came.openings → f ≡ openings_figures q (sent_given came) → IsAnswered q (Some came) (Ok f) h'
     whole-answered rs end f h' walked history is =
         let shows : record { rounds = given_rounds f.messages f.witnesses; openings = f.openings } ≡ sent_given came =
@@ -288,7 +288,7 @@ module _ (q : OpeningsCase) (came : CameOpenings) where
         }
 
     -- there was no memory for one
-    pub whole-broken : (rs : List ℕ) (end : Footing) (h' : List Event) → IsWalked replay_for.walk rs end → h' ≡ end.history ++ sent q.channel.extension came.openings →
+    pub whole-broken : (rs : List ℕ) (end : VerifierState) (h' : List Event) → IsWalked replay_for.walk rs end → h' ≡ end.history ++ sent q.channel.extension came.openings →
         IsAnswered q (Some came) (Err errors.NoMemory) h'
     whole-broken rs end h' walked history = record {
       result = inl refl;
@@ -296,7 +296,7 @@ module _ (q : OpeningsCase) (came : CameOpenings) where
     }
 
     -- or for the openings
-    pub rounds-broken : (rs : List ℕ) (end : Footing) (h' : List Event) → IsWalked replay_for.walk rs end → h' ≡ end.history → IsAnswered q (Some came) (Err errors.NoMemory) h'
+    pub rounds-broken : (rs : List ℕ) (end : VerifierState) (h' : List Event) → IsWalked replay_for.walk rs end → h' ≡ end.history → IsAnswered q (Some came) (Err errors.NoMemory) h'
     rounds-broken rs end h' walked history = record {
       result = inl refl;
       history = inr (inr (inl (
@@ -310,7 +310,7 @@ module _ (q : OpeningsCase) (came : CameOpenings) where
     }
 
     -- a replay that was refused
-    pub refused-answered : (untouched : Type 0) (e : SumcheckError) (end : Footing) → (untouched → end.history ≡ after_merging q) →
+    pub refused-answered : (untouched : Type 0) (e : SumcheckError) (end : VerifierState) → (untouched → end.history ≡ after_merging q) →
         LeavesReplay untouched replay_for (Err (cause_of e)) end → IsAnswered q (Some came) (Err (refusal_by e)) end.history
     refused-answered untouched (rounds.RoundCountMismatch expected actual) end kept left =
         absurd (left.0.2 (left.0.1 ∙ rounds_as ∙ sym left.0.0))

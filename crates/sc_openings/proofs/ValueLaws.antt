@@ -8,7 +8,7 @@ use Rattle.std.proofs.lemmas.Bool.{cases_eq}
 use Rattle.std.proofs.lemmas.List.{length-map, map-append, take_all}
 use Rattle.sc_definitions.specs.declared.false_claim.FalseClaim.{FalseClaim}
 use Rattle.sc_definitions.specs.Ring.{Ops, IsRing, plus, times}
-use Rattle.sc_definitions.specs.Tables.{prefix, entries, rows_of, sum_below, inner, weight}
+use Rattle.sc_definitions.specs.Tables.{prefix, entries, rows_of, sum_below, inner_product, equality_weight}
 use Rattle.sc_definitions.specs.Statements.{successor, successor_weight, slot_weight, weight_of, true_value, is_true_of, claimed_values}
 use Rattle.sc_definitions.proofs.RingLaws.{plus_comm, plus-zero, times_comm, times-one, element-times}
 use Rattle.sc_definitions.proofs.Sums.{sum-same, sum-split, element-sum}
@@ -48,7 +48,7 @@ table-is emb base none (t ∷ ts) (suc j) d low = table-is emb base none ts j d 
 
 -- next rows weigh what their equality weights do
 pub slot-plain : (o : Ops) → IsRing o → (zs : List ℕ) (b : ℕ) → b < 2 ^ length zs → slot_weight prefix o [] zs b ≡ successor_weight o zs b
-unfolding slot_weight weight successor_weight
+unfolding slot_weight equality_weight successor_weight
 slot-plain o ring zs b low =
     let n = 2 ^ length zs in
     let none : 0 * n + b ≡ b = omega arith in
@@ -58,7 +58,7 @@ slot-plain o ring zs b low =
 pub true-next : {X Y : Type 0} (o : Ops) → IsRing o → (image : X → ℕ) (number : Y → ℕ) (xs : List X) (ws : List Y) (zs : List ℕ) (n : ℕ) → length zs ≡ n → length xs ≡ 2 ^ n →
     ((b : ℕ) → b < 2 ^ n → entries number ws b ≡ successor_weight o zs b) →
     products o (length xs) (entries image xs) (entries number ws) ≡ true_value o n (entries image xs) (successor prefix [] zs)
-unfolding products true_value inner weight_of
+unfolding products true_value inner_product weight_of
 true-next o ring image number xs ws zs n arity size weights =
     ap (λ k. sum_below o k (λ b. times o (entries image xs b) (entries number ws b))) size
     ∙ sum-same o (2 ^ n) _ _ (λ b low. ap (times o (entries image xs b)) (weights b low ∙ sym (slot-plain o ring zs b (subst (λ k. b < 2 ^ k) (sym arity) low))))

@@ -7,8 +7,8 @@ use Rattle.sc_definitions.specs.Polynomials.{poly_minus}
 use Rattle.sc_definitions.specs.Statements.{claimed_values}
 use Rattle.sc_definitions.specs.Transcript.{Round, messages_of}
 use Rattle.sc_definitions.specs.Roots.{root_count}
-use Rattle.sc_definitions.specs.Lucky.{Turn, Luck, in_batch, luck_in, first_turn, excess}
-use Rattle.sc_verdicts.specs.Findings.{holds, refuted, named}
+use Rattle.sc_definitions.specs.Lucky.{Turn, LuckyChallenge, in_batch, luck_in, first_turn, excess}
+use Rattle.sc_audit_errors.specs.Findings.{holds, refuted, named}
 use Rattle.sc_soundness.specs.Stages.{Stage, stage_luck}
 use Rattle.sc_soundness.specs.Merged.{WeightedTable, merged_claim, merged_inner, merged_course}
 use Rattle.sc_merge_definitions.specs.QuadraticPlays.{finding_where}
@@ -86,13 +86,13 @@ module _ (o : Ops) (s : Stage) where
 
 -- ---- what is found
 
-pub finding-refuted : {X : Type 0} (fault : Option X) (luck : Option Luck) (matched : Bool) → matched ≡ false → refuted ≡ finding_where matched fault luck
+pub finding-refuted : {X : Type 0} (fault : Option X) (luck : Option LuckyChallenge) (matched : Bool) → matched ≡ false → refuted ≡ finding_where matched fault luck
 finding-refuted fault luck matched is = ap (λ b. finding_where b fault luck) (sym is)
 
-pub finding-holds : {X : Type 0} (fault told : Option X) (luck : Option Luck) (matched : Bool) → matched ≡ true → told ≡ fault → told ≡ None → holds ≡ finding_where matched fault luck
+pub finding-holds : {X : Type 0} (fault told : Option X) (luck : Option LuckyChallenge) (matched : Bool) → matched ≡ true → told ≡ fault → told ≡ None → holds ≡ finding_where matched fault luck
 finding-holds fault told luck matched is found none = ap (λ x. finding_where true x luck) (sym none ∙ found) ∙ ap (λ b. finding_where b fault luck) (sym is)
 
-pub finding-named : {X : Type 0} (fault told : Option X) (x : X) (luck : Option Luck) (matched : Bool) → matched ≡ true → told ≡ fault → told ≡ Some x →
+pub finding-named : {X : Type 0} (fault told : Option X) (x : X) (luck : Option LuckyChallenge) (matched : Bool) → matched ≡ true → told ≡ fault → told ≡ Some x →
     named luck ≡ finding_where matched fault luck
 finding-named fault told x luck matched is found some = ap (λ y. finding_where true y luck) (sym some ∙ found) ∙ ap (λ b. finding_where b fault luck) (sym is)
 

@@ -6,9 +6,9 @@ use Rattle.std.proofs.lemmas.List.{length-map, map-append, get_or-set_other}
 use Rattle.std.proofs.lemmas.Grind.{get_or-set_at}
 use Rattle.sc_definitions.specs.Ring.{Ops, IsRing, plus, times, power}
 use Rattle.sc_definitions.specs.Tables.{entries}
-use Rattle.sc_definitions.specs.Statements.{weight_of, powers_sum}
+use Rattle.sc_definitions.specs.Statements.{weight_of, batched_by_powers}
 use Rattle.sc_definitions.proofs.RingLaws.{plus-zero, times-zero}
-use Rattle.sc_definitions.proofs.StatementLaws.{element-powers_sum, powers_sum-append}
+use Rattle.sc_definitions.proofs.StatementLaws.{element-batched_by_powers, batched_by_powers-append}
 use Rattle.sc_soundness.specs.Merged.{WeightedTable}
 use Rattle.sc_merge_definitions.specs.Openings.{TableClaim, weight_on, merging_weights, weighted_from, table_at}
 use Rattle.sc_merged.specs.declared.weighted.WeightedPoly.{WeightedPoly}
@@ -48,8 +48,8 @@ module _ (o : Ops) (ring : IsRing o) (c : ℕ) where
   unfolding merging_weights
   weights_next cs x j b =
       let ws = map (weight_on o j b) cs in
-      ap (powers_sum o c 0) (map-append (weight_on o j b) cs (x ∷ [])) ∙ powers_sum-append o ring c 0 ws (weight_on o j b x)
-      ∙ ap (λ k. plus o (powers_sum o c 0 ws) (times o (power o c k) (weight_on o j b x))) (omega (arith, length-map cs (weight_on o j b)))
+      ap (batched_by_powers o c 0) (map-append (weight_on o j b) cs (x ∷ [])) ∙ batched_by_powers-append o ring c 0 ws (weight_on o j b x)
+      ∙ ap (λ k. plus o (batched_by_powers o c 0 ws) (times o (power o c k) (weight_on o j b x))) (omega (arith, length-map cs (weight_on o j b)))
 
   -- on its table
   pub weights-here : (cs : List TableClaim) (x : TableClaim) (j b : ℕ) → x.table ≡ j →
@@ -63,10 +63,10 @@ module _ (o : Ops) (ring : IsRing o) (c : ℕ) where
   pub weights-kept : (cs : List TableClaim) (x : TableClaim) (j b : ℕ) → (x.table ≡ j → ⊥) → merging_weights o c (cs ++ x ∷ []) j b ≡ merging_weights o c cs j b
   unfolding weight_on merging_weights
   weights-kept cs x j b other =
-      let before = powers_sum o c 0 (map (weight_on o j b) cs) in
+      let before = batched_by_powers o c 0 (map (weight_on o j b) cs) in
       weights_next cs x j b
       ∙ ap (λ t. plus o before (times o (power o c (length cs)) (if t then weight_of o x.statement.kind b else 0))) (ne_eqb _ _ other)
-      ∙ ap (plus o before) (times-zero o ring (power o c (length cs))) ∙ plus-zero o ring before ∙ element-powers_sum o ring c 0 (map (weight_on o j b) cs)
+      ∙ ap (plus o before) (times-zero o ring (power o c (length cs))) ∙ plus-zero o ring before ∙ element-batched_by_powers o ring c 0 (map (weight_on o j b) cs)
 
   module _ {EF : Type 0} (number : EF → ℕ) (n many : ℕ) (fs : List (ℕ → ℕ)) where
     -- tables with the weights of claims
@@ -75,7 +75,7 @@ module _ (o : Ops) (ring : IsRing o) (c : ℕ) where
 
     -- no claims weigh nothing
     pub none-weighted : (ws : List (WeightedPoly EF)) → AreWeighted number n many (λ j. record { table = table_at fs j; weights = λ b. 0 }) ws → AreWeighted number n many (weighted_by []) ws
-    unfolding merging_weights powers_sum
+    unfolding merging_weights batched_by_powers
     none-weighted ws is = record {
       count = is.count;
       each = λ j d low. (let w = is.each j d low in record { variables = w.variables; rows = record { table = w.rows.table; weights = λ b less. w.rows.weights b less } });

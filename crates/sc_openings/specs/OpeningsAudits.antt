@@ -4,7 +4,7 @@ use Rattle.std.specs.List.{slice_get}
 use Rattle.sc_definitions.specs.declared.events.Event.{Event}
 use Rattle.sc_definitions.specs.Transcript.{Round, before_draw}
 use Rattle.sc_definitions.specs.Replays.{given_rounds}
-use Rattle.sc_verdicts.specs.Findings.{holds}
+use Rattle.sc_audit_errors.specs.Findings.{holds}
 use Rattle.sc_merge_definitions.specs.Openings.{OpeningsCase, first_false_table_claim, SentOpenings, OpeningsFigures, after_merging, after_openings}
 use Rattle.sc_openings.specs.declared.error.MergeError.{MergeError}
 use Rattle.sc_openings.specs.declared.error.MergeError.TheVariants.{InvalidPowWitness, NoWitness, NoMemory}

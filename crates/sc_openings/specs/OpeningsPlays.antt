@@ -4,7 +4,7 @@ use Rattle.sc_definitions.specs.Tables.{evaluation}
 use Rattle.sc_definitions.specs.Rounds.{next_claim, claim_along}
 use Rattle.sc_definitions.specs.Transcript.{Round}
 use Rattle.sc_definitions.specs.Channels.{empty_wire, with_rounds, IsBuilt}
-use Rattle.sc_definitions.specs.Lucky.{Luck}
+use Rattle.sc_definitions.specs.Lucky.{LuckyChallenge}
 use Rattle.sc_challenger.specs.Parties.{Party}
 use Rattle.sc_transcript.specs.declared.error.SumcheckError.{SumcheckError}
 use Rattle.sc_transcript.specs.declared.error.SumcheckError.TheVariants as rounds
@@ -72,5 +72,5 @@ pub record IsPlayedOn {F EF : Type 0} (base : F → ℕ) (number : EF → ℕ) (
   pub tables : AreTablesOf number q t
 
 -- the first lucky challenge of such rounds, if one is
-abbrev pub played_luck : {F EF : Type 0} → (F → ℕ) → (EF → ℕ) → OpeningsCase → Played F EF → Option Luck
+abbrev pub played_luck : {F EF : Type 0} → (F → ℕ) → (EF → ℕ) → OpeningsCase → Played F EF → Option LuckyChallenge
 played_luck base number q p = stage_luck q.ops (openings_stage q (rounds_given (wire_in base number p.proof.rounds)))

@@ -4,7 +4,7 @@ use Rattle.sc_definitions.specs.declared.false_claim.FalseClaim.{FalseClaim as F
 use Rattle.sc_definitions.specs.Transcript.{Round}
 use Rattle.sc_definitions.specs.Lucky.{in_batch, in_round}
 use Rattle.sc_transcript.specs.Data.{messages_in, witnesses_in}
-use Rattle.sc_verdicts.specs.Findings.{Finding, holds, refuted, lucky}
+use Rattle.sc_audit_errors.specs.Findings.{Finding, holds, refuted, lucky}
 use Rattle.sc_merge_definitions.specs.Openings.{OpeningsCase, first_false_table_claim, SentOpenings, OpeningsFigures, openings_figures}
 use Rattle.sc_openings.specs.declared.error.MergeError.{MergeError}
 use Rattle.sc_openings.specs.declared.error.MergeError.TheVariants.{FalseClaim, NoWitness, NoMemory}

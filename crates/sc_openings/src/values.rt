@@ -2,7 +2,7 @@
 ghost use Rattle.std.specs.Prelude.{◌≡◌, ◌≤◌, ◌^◌, IfOk, length, map};
 ghost use Rattle.std.specs.Option.{option_map};
 ghost use Rattle.sc_definitions.specs.Tables.{entries};
-ghost use Rattle.sc_definitions.specs.Statements.{true_value, powers_sum};
+ghost use Rattle.sc_definitions.specs.Statements.{true_value, batched_by_powers};
 ghost use Rattle.sc_challenger.specs.Parties.{Party};
 ghost use Rattle.sc_soundness.specs.Differences.{first_difference};
 ghost use Rattle.sc_merge_definitions.specs.Openings.{claim_kind};
@@ -78,7 +78,7 @@ pub(crate) fn first_false<EF: Field>(claimed: &[EF], truths: &[EF]) -> Option<Fa
 // The claimed values, each times the power of the challenge by its place, in sum.
 pub(crate) fn claim_at<EF: Field>(claimed: &[EF], challenge: EF) -> EF
     ensures { EF.number result
-        ≡ powers_sum EF.ops (EF.number challenge) 0 (map EF.number claimed.now) }
+        ≡ batched_by_powers EF.ops (EF.number challenge) 0 (map EF.number claimed.now) }
 {
     let mut claim = EF::ZERO;
     for i in 0..claimed.len() {

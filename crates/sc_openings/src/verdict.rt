@@ -5,7 +5,7 @@ ghost use Rattle.sc_definitions.specs.Polynomials.{poly_minus};
 ghost use Rattle.sc_definitions.specs.Lucky.{in_batch};
 ghost use Rattle.sc_definitions.specs.Roots.{root_count};
 ghost use Rattle.sc_challenger.specs.Parties.{Party};
-ghost use Rattle.sc_verdicts.specs.Findings.{lucky, named};
+ghost use Rattle.sc_audit_errors.specs.Findings.{lucky, named};
 ghost use Rattle.sc_merge_definitions.specs.QuadraticPlays.{finding_where};
 ghost use Rattle.sc_merge_definitions.specs.Openings.{OpeningsCase};
 ghost use Rattle.sc_merge_definitions.specs.Openings.{first_false_table_claim};

@@ -5,7 +5,7 @@ use Rattle.std.proofs.lemmas.List.{append-nil, length-map, map-append, get_or-ma
 use Rattle.std.proofs.lemmas.Nat.{pow_pos}
 use Rattle.sc_definitions.specs.Ring.{Ops, IsRing, plus, times, minus}
 use Rattle.std.proofs.lemmas.Bool.{cases_eq}
-use Rattle.sc_definitions.specs.Tables.{Order, prefix, suffix, evaluation, weight, entries, inner, bound_in}
+use Rattle.sc_definitions.specs.Tables.{Order, prefix, suffix, evaluation, equality_weight, entries, inner_product, folded_in}
 use Rattle.sc_definitions.specs.Shifts.{shifted, only_at}
 use Rattle.sc_definitions.proofs.Lengths.{pow-same}
 use Rattle.sc_definitions.proofs.TableLaws.{two_halves}
@@ -14,11 +14,11 @@ use Rattle.sc_table.proofs.EntryLaws.{entry-read, entry-take, entry-append_left,
 use Rattle.sc_table.proofs.SliceLaws.{HasPushed}
 use Rattle.sc_definitions.specs.Statements.{successor_weight}
 use Rattle.sc_definitions.specs.Parts.{Part, Equal, Carry, Done, Omega, part_weight, closing, next_partial, tables_by, next_partials_of}
-use Rattle.sc_definitions.specs.Standings.{entries_of}
+use Rattle.sc_definitions.specs.ProverStates.{entries_of}
 use Rattle.sc_definitions.proofs.RingLaws.{plus_comm, times_comm, times-one, times-zero}
 use Rattle.sc_definitions.proofs.PartLaws.{part-equal, carry-zero, carry-suc, omega-last, omega-before, done-zero, done-suc, element-part}
-use Rattle.sc_definitions.proofs.PlayedLaws.{bound_in-same}
-use Rattle.sc_definitions.proofs.StandingLaws.{entries-is, length-entries_of, rows-entries_of}
+use Rattle.sc_definitions.proofs.PlayedLaws.{folded_in-same}
+use Rattle.sc_definitions.proofs.ProverStateLaws.{entries-is, length-entries_of, rows-entries_of}
 use Rattle.sc_definitions.proofs.NextPartialLaws.{next_partial-none, length-next_partials_of, next_partials_of-at, next_partials_of-none, next_partials_of-more}
 use Rattle.sc_definitions.proofs.NextPartialSteps.{done-step_prefix, carry-step_prefix, omega-step_prefix, done-step_suffix, carry-step_suffix, omega-step_suffix}
 use Rattle.sc_table.specs.declared.poly.Poly.{Poly}
@@ -120,8 +120,8 @@ module _ {EF : Type 0} (o : Ops) (ring : IsRing o) (number : EF → ℕ) (f : �
       let N : Part → ℕ → ℕ = λ part. next_partial prefix o part f zs (suc m) in
       let c = coordinate_prefix zs kept rest others z last whole in
       let at_one = half_high prefix m a low in (
-        ap (λ t. plus o t (times o (minus o 1 z) (of Carry (2 * a + 1)))) (bound_in-same evaluation suffix o m z a (of Done) (N Done) low (is Done))
-            ∙ ap (λ t. plus o (bound_in evaluation suffix o m z (N Done) a) (times o (minus o 1 z) t)) (is Carry (2 * a + 1) at_one)
+        ap (λ t. plus o t (times o (minus o 1 z) (of Carry (2 * a + 1)))) (folded_in-same evaluation suffix o m z a (of Done) (N Done) low (is Done))
+            ∙ ap (λ t. plus o (folded_in evaluation suffix o m z (N Done) a) (times o (minus o 1 z) t)) (is Carry (2 * a + 1) at_one)
             ∙ sym (done-step_prefix o ring f zs m z a c.0 c.1),
         ap (times o z) (is Carry (2 * a) (half_low prefix m a low)) ∙ sym (carry-step_prefix o ring f zs m z a c.0 c.1),
         ap (times o z) (is Omega (2 * a + 1) at_one) ∙ sym (omega-step_prefix o ring f zs m z a c.0 c.1),
@@ -131,7 +131,7 @@ module _ {EF : Type 0} (o : Ops) (ring : IsRing o) (number : EF → ℕ) (f : �
       let N : Part → ℕ → ℕ = λ part. next_partial suffix o part f zs (suc m) in
       let c = coordinate_suffix zs kept rest others z last whole in
       let at_one = half_high suffix m a low in (
-        bound_in-same evaluation prefix o m z a (of Done) (N Done) low (is Done) ∙ sym (done-step_suffix o ring f zs m z a c.0 c.1),
+        folded_in-same evaluation prefix o m z a (of Done) (N Done) low (is Done) ∙ sym (done-step_suffix o ring f zs m z a c.0 c.1),
         ap (λ t. plus o (times o z t) (times o (minus o 1 z) (of Done (2 ^ m + a)))) (is Carry a (half_low suffix m a low))
             ∙ ap (λ t. plus o (times o z (N Carry a)) (times o (minus o 1 z) t)) (is Done (2 ^ m + a) at_one)
             ∙ plus_comm o ring (times o z (N Carry a)) (times o (minus o 1 z) (N Done (2 ^ m + a)))
@@ -224,7 +224,7 @@ pub next-sums_are : {EF : Type 0} (order : Order) (o : Ops) (number : EF → ℕ
 unfolding next_sums_of
 next-sums_are order o number f zs l m none rounds x r empty same is value_is rounds_are =
     ap (λ y. record { value = y; rounds = next_rounds_in number (next_tables_in r.1) }) (ap number value_is ∙ is.sum)
-    ∙ ap (λ ys. record { value = inner o (length zs) f (successor_weight o zs); rounds = ys }) (ap (next_rounds_in number) rounds_are ∙ is.rounds
+    ∙ ap (λ ys. record { value = inner_product o (length zs) f (successor_weight o zs); rounds = ys }) (ap (next_rounds_in number) rounds_are ∙ is.rounds
     ∙ ap (λ t. next_rounds_in number t ++ next_partials_of order o f zs l) empty ∙ ap (next_partials_of order o f zs) same)
 
 -- as many rounds as variables are kept in the last, each with its tables
@@ -233,7 +233,7 @@ module _ {EF : Type 0} (order : Order) (o : Ops) (number : EF → ℕ) (f : ℕ 
   unfolding next_sums_of
   next_rounds_are = ap (λ (s : NextSums). s.rounds) is
 
-  pub next-value : number r.0 ≡ inner o (length zs) f (successor_weight o zs)
+  pub next-value : number r.0 ≡ inner_product o (length zs) f (successor_weight o zs)
   unfolding next_sums_of
   next-value = ap (λ (s : NextSums). s.value) is
 
@@ -269,7 +269,7 @@ module _ {EF : Type 0} (o : Ops) (number : EF → ℕ) (t : NextPartials EF) (m 
   of = rows_by number t
 
   pub fewer-prefix : (order : Order) (line sums carried last : Poly EF) → order ≡ prefix →
-      HasRows number m (bound_in evaluation suffix o m z (table_of number t.done)) line →
+      HasRows number m (folded_in evaluation suffix o m z (table_of number t.done)) line →
       HasRows number (variables_of line) (λ a. plus o (table_of number line a) (times o not_z (table_of number t.carry (half_row order true (variables_of line) a)))) sums →
       HasRows number m (λ a. times o z (table_of number t.carry (half_row order false m a))) carried →
       HasRows number m (λ a. times o z (table_of number t.omega (half_row order true m a))) last →
@@ -281,9 +281,9 @@ module _ {EF : Type 0} (o : Ops) (number : EF → ℕ) (t : NextPartials EF) (m 
           rows = λ a low.
               summed.rows a (subst (λ k. a < 2 ^ k) (sym lines.variables) low)
               ∙ ap (λ x. plus o x (times o not_z (table_of number t.carry (half_row order true (variables_of line) a)))) (lines.rows a low)
-              ∙ ap (λ k. plus o (bound_in evaluation suffix o m z (table_of number t.done) a) (times o k (table_of number t.carry (half_row order true (variables_of line) a)))) not_is
-              ∙ ap (λ k. plus o (bound_in evaluation suffix o m z (table_of number t.done) a) (times o (minus o 1 z) (table_of number t.carry (half_row order true k a)))) lines.variables
-              ∙ ap (λ k. plus o (bound_in evaluation suffix o m z (table_of number t.done) a) (times o (minus o 1 z) (table_of number t.carry (half_row k true m a)))) is;
+              ∙ ap (λ k. plus o (folded_in evaluation suffix o m z (table_of number t.done) a) (times o k (table_of number t.carry (half_row order true (variables_of line) a)))) not_is
+              ∙ ap (λ k. plus o (folded_in evaluation suffix o m z (table_of number t.done) a) (times o (minus o 1 z) (table_of number t.carry (half_row order true k a)))) lines.variables
+              ∙ ap (λ k. plus o (folded_in evaluation suffix o m z (table_of number t.done) a) (times o (minus o 1 z) (table_of number t.carry (half_row k true m a)))) is;
         };
         carry = rows-as number m _ _ carried (λ a low. ap (λ k. times o z (table_of number t.carry (half_row k false m a))) is) carries;
         omega = rows-as number m _ _ last (λ a low. ap (λ k. times o z (table_of number t.omega (half_row k true m a))) is) lasts;
@@ -291,7 +291,7 @@ module _ {EF : Type 0} (o : Ops) (number : EF → ℕ) (t : NextPartials EF) (m 
       subst (λ k. HaveRows number m (part_fewer k o m z (rows_by number t)) (record { done = sums; carry = carried; omega = last })) (sym is) made
 
   pub fewer-suffix : (order : Order) (line carried sums last : Poly EF) → order ≡ suffix →
-      HasRows number m (bound_in evaluation prefix o m z (table_of number t.done)) line →
+      HasRows number m (folded_in evaluation prefix o m z (table_of number t.done)) line →
       HasRows number m (λ a. times o z (table_of number t.carry (half_row order false m a))) carried →
       HasRows number (variables_of carried) (λ a. plus o (table_of number carried a) (times o not_z (table_of number t.done (half_row order true (variables_of carried) a)))) sums →
       HasRows number m (λ a. times o z (table_of number t.omega (half_row order true m a))) last →
@@ -314,7 +314,7 @@ module _ {EF : Type 0} (o : Ops) (number : EF → ℕ) (t : NextPartials EF) (m 
 
 -- a table that is bound has the entries of the definition, one variable being left
 pub bound-rows : {EF : Type 0} (order known : Order) (o : Ops) (number : EF → ℕ) (z m : ℕ) (p q : Poly EF) → other_order order ≡ known → variables_of p ≡ suc m →
-    IsFixedOf (other_order order) o number z (table_of number p) (2 ^ variables_of p) q → HasRows number m (bound_in evaluation known o m z (table_of number p)) q
+    IsFixedOf (other_order order) o number z (table_of number p) (2 ^ variables_of p) q → HasRows number m (folded_in evaluation known o m z (table_of number p)) q
 bound-rows order known o number z m p q same size fixed =
     let more : variables_of p ≡ variables_of q + 1 = pow-same (variables_of p) (variables_of q + 1) fixed.fewer in
     let count : variables_of q ≡ m = omega (arith, more, size) in
@@ -322,8 +322,8 @@ bound-rows order known o number z m p q same size fixed =
       variables = count;
       rows = λ a low.
           fixed.rows_are a (subst (λ k. a < 2 ^ k) (sym count) low)
-          ∙ ap (λ k. bound_in evaluation (other_order order) o k z (table_of number p) a) count
-          ∙ ap (λ k. bound_in evaluation k o m z (table_of number p) a) same;
+          ∙ ap (λ k. folded_in evaluation (other_order order) o k z (table_of number p) a) count
+          ∙ ap (λ k. folded_in evaluation k o m z (table_of number p) a) same;
     }
 
 -- ---- the parts of weights
@@ -342,7 +342,7 @@ moved-entries number none xs moved n (suc b) zero_is is low fits =
 module _ {EF : Type 0} (o : Ops) (ring : IsRing o) (number : EF → ℕ) (x : ℕ) (zs : List ℕ) (equal : Poly EF) (weights : List EF) (last_weight : EF)
     (has : HasRows number (length zs) (λ b. times o x (part_weight o Equal zs b)) equal) (weights_are : entries number weights ≡ table_of number equal)
     (last_is : entries number weights (2 ^ length zs - 1) ≡ number last_weight) where
-  last_row : number last_weight ≡ times o x (weight o zs (2 ^ length zs - 1))
+  last_row : number last_weight ≡ times o x (equality_weight o zs (2 ^ length zs - 1))
   last_row =
       let inside : 2 ^ length zs - 1 < 2 ^ length zs = omega (arith, pow_pos (length zs)) in
       sym last_is ∙ ap (λ t. t (2 ^ length zs - 1)) weights_are ∙ has.rows (2 ^ length zs - 1) inside ∙ ap (times o x) (part-equal o zs (2 ^ length zs - 1))
@@ -356,7 +356,7 @@ module _ {EF : Type 0} (o : Ops) (ring : IsRing o) (number : EF → ℕ) (x : �
 
   pub omega-rows : (p : Poly EF) → HasRows number (length zs) (only_at (2 ^ length zs - 1) (λ b. number last_weight)) p → HasRows number (length zs) (λ b. times o x (part_weight o Omega zs b)) p
   omega-rows p is = rows-as number (length zs) _ _ p (λ a low. ⊎_elim
-      (λ e. only_at-here (2 ^ length zs - 1) (λ b. number last_weight) a e ∙ last_row ∙ ap (λ k. times o x (weight o zs k)) (sym e) ∙ ap (times o x) (sym (omega-last o zs a e)))
+      (λ e. only_at-here (2 ^ length zs - 1) (λ b. number last_weight) a e ∙ last_row ∙ ap (λ k. times o x (equality_weight o zs k)) (sym e) ∙ ap (times o x) (sym (omega-last o zs a e)))
       (λ d. only_at-elsewhere (2 ^ length zs - 1) (λ b. number last_weight) a d ∙ sym (ap (times o x) (omega-before o zs a d) ∙ times-zero o ring x))
       (cases_eq a (2 ^ length zs - 1))) is
 

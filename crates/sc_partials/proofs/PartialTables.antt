@@ -3,12 +3,12 @@ use Rattle.std.proofs.Common.{◌≡◌, ℕ, suc, ◌+◌, ◌-◌, ◌^◌, �
 use Rattle.std.proofs.Math.Seq.{get_or-append_seam}
 use Rattle.std.proofs.lemmas.List.{append-nil, length-map, map-append, get_or-map}
 use Rattle.sc_definitions.specs.Ring.{Ops, IsRing}
-use Rattle.sc_definitions.specs.Tables.{Order, prefix, suffix, evaluation, entries, rows_of, value, bound_in}
+use Rattle.sc_definitions.specs.Tables.{Order, prefix, suffix, evaluation, entries, rows_of, value, folded_in}
 use Rattle.sc_definitions.specs.Partials.{partial, partials_of}
-use Rattle.sc_definitions.specs.Standings.{entries_of}
+use Rattle.sc_definitions.specs.ProverStates.{entries_of}
 use Rattle.sc_definitions.proofs.Lengths.{pow-same}
-use Rattle.sc_definitions.proofs.PlayedLaws.{bound_in-same}
-use Rattle.sc_definitions.proofs.StandingLaws.{entries-is, length-entries_of, rows-entries_of}
+use Rattle.sc_definitions.proofs.PlayedLaws.{folded_in-same}
+use Rattle.sc_definitions.proofs.ProverStateLaws.{entries-is, length-entries_of, rows-entries_of}
 use Rattle.sc_definitions.proofs.PartialLaws.{partial-step_prefix, partial-step_suffix, partial-none, length-partials_of, partials_of-at, partials_of-none, partials_of-more}
 use Rattle.sc_table.specs.declared.poly.Poly.{Poly}
 use Rattle.sc_table.specs.Polys.{variables_of, table_of, IsFixedOf}
@@ -18,14 +18,14 @@ use Rattle.sc_partials.specs.Partials.{numbers_in, rounds_in, other_order, joine
 
 module _ {EF : Type 0} (o : Ops) (ring : IsRing o) (number : EF → ℕ) (f : ℕ → ℕ) (zs : List ℕ) where
   step : (order : Order) (kept rest others : List ℕ) (z : ℕ) → LastOf order kept z rest → zs ≡ joined order kept others → (a : ℕ) → a < 2 ^ length rest →
-      partial order o f zs (length rest) a ≡ bound_in evaluation (other_order order) o (length rest) z (partial order o f zs (length kept)) a
+      partial order o f zs (length rest) a ≡ folded_in evaluation (other_order order) o (length rest) z (partial order o f zs (length kept)) a
   step prefix kept rest others z last whole a low =
       let split : zs ≡ rest ++ z ∷ others = whole ∙ ap (λ t. t ++ others) last ∙ append_assoc rest (z ∷ []) others in
       let size : length kept ≡ suc (length rest) = ap length last ∙ length-append rest (z ∷ []) ∙ omega arith in
       let long : length zs ≡ length rest + suc (length others) = ap length split ∙ length-append rest (z ∷ others) in
       let at : z ≡ get_or zs (length rest) z = sym (ap (λ t. get_or t (length rest) z) split ∙ get_or-append_seam rest z others z) in
       partial-step_prefix o ring f zs (length rest) z a (omega (arith, long)) at
-      ∙ ap (λ n. bound_in evaluation suffix o (length rest) z (partial prefix o f zs n) a) (sym size)
+      ∙ ap (λ n. folded_in evaluation suffix o (length rest) z (partial prefix o f zs n) a) (sym size)
   step suffix kept rest others z last whole a low =
       let split : zs ≡ others ++ z ∷ rest = whole ∙ ap (λ t. others ++ t) last in
       let size : length kept ≡ suc (length rest) = ap length last in
@@ -33,7 +33,7 @@ module _ {EF : Type 0} (o : Ops) (ring : IsRing o) (number : EF → ℕ) (f : �
       let there : length zs - suc (length rest) ≡ length others = omega (arith, long) in
       let at : z ≡ get_or zs (length zs - suc (length rest)) z = sym (ap (λ t. get_or zs t z) there ∙ ap (λ t. get_or t (length others) z) split ∙ get_or-append_seam others z rest z) in
       partial-step_suffix o ring f zs (length rest) z a (omega (arith, long)) at
-      ∙ ap (λ n. bound_in evaluation prefix o (length rest) z (partial suffix o f zs n) a) (sym size)
+      ∙ ap (λ n. folded_in evaluation prefix o (length rest) z (partial suffix o f zs n) a) (sym size)
 
   pub others_more : (order : Order) → List ℕ → ℕ → List ℕ
   others_more prefix others z = z ∷ others
@@ -62,8 +62,8 @@ module _ {EF : Type 0} (o : Ops) (ring : IsRing o) (number : EF → ℕ) (f : �
         rows = λ a low.
             let there : a < 2 ^ variables_of q = subst (λ n. a < 2 ^ n) (sym few) low in
             fixed.rows_are a there
-            ∙ ap (λ n. bound_in evaluation (other_order order) o n z (table_of number p) a) few
-            ∙ bound_in-same evaluation (other_order order) o (length rest) z a (table_of number p) (partial order o f zs (length kept)) low
+            ∙ ap (λ n. folded_in evaluation (other_order order) o n z (table_of number p) a) few
+            ∙ folded_in-same evaluation (other_order order) o (length rest) z a (table_of number p) (partial order o f zs (length kept)) low
             (λ k small. is.rows k (subst (λ n. k < 2 ^ n) (sym size) small))
             ∙ sym (step order kept rest is.others z last is.whole a low);
       }

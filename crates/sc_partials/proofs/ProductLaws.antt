@@ -4,7 +4,7 @@ use Rattle.std.proofs.lemmas.Bool.{cases_lt}
 use Rattle.sc_definitions.specs.Ring.{Ops, IsRing, plus, times, minus}
 use Rattle.sc_definitions.specs.Tables.{Order, prefix, suffix, entries, rows_of}
 use Rattle.sc_definitions.specs.Messages.{low_entry, high_entry}
-use Rattle.sc_definitions.specs.Grids.{Digit, nought, one, infinity, digit_of, ternary, grid_value, grid_list}
+use Rattle.sc_definitions.specs.Grids.{Digit, digit_zero, one, infinity, digit_of, ternary, grid_value, grid_list}
 use Rattle.sc_definitions.proofs.GridLaws.{rows-grid_list}
 use Rattle.sc_table.proofs.EntryLaws.{entry-set_same, entry-set_other}
 use Rattle.sc_partials.specs.declared.products.Pair.{Pair}
@@ -18,7 +18,7 @@ use Rattle.sc_partials.proofs.SumLaws.{one-product}
 
 -- what is at a digit, by equal values
 digit-same : (o : Ops) (d : Digit) (a b x y : ℕ) → a ≡ x → b ≡ y → at_digit o d a b ≡ at_digit o d x y
-digit-same o nought a b x y low high = low
+digit-same o digit_zero a b x y low high = low
 digit-same o one a b x y low high = high
 digit-same o infinity a b x y low high = cc (low, high)
 
@@ -27,7 +27,7 @@ value-digit : (o : Ops) (order : Order) (f : ℕ → ℕ) (d : Digit) (ds : List
     grid_value order o f (d ∷ ds) m b
     ≡ at_digit o d (grid_value order o (low_entry order f) ds m b) (grid_value order o (high_entry order (2 ^ (length ds + m)) f) ds m b)
 unfolding grid_value
-value-digit o order f nought ds m b = refl
+value-digit o order f digit_zero ds m b = refl
 value-digit o order f one ds m b = refl
 value-digit o order f infinity ds m b = refl
 

@@ -6,7 +6,7 @@ use Rattle.std.proofs.lemmas.Nat.{mul-add-lt, pow_below}
 use Rattle.std.proofs.Math.Nat.{pow-suc, pow-le-pow_left, pow-le-pow_right, mul-le-mul_right, mod-eq_of_lt, mod-lt, mod-add-div', div-lt_iff_lt-mul}
 use Rattle.sc_definitions.specs.Ring.{Ops, IsRing, minus}
 use Rattle.sc_definitions.specs.Tables.{Order, prefix, suffix, entries}
-use Rattle.sc_definitions.specs.Grids.{Digit, nought, one, infinity, digit_of, ternary, low_row, high_row, grid_value}
+use Rattle.sc_definitions.specs.Grids.{Digit, digit_zero, one, infinity, digit_of, ternary, low_row, high_row, grid_value}
 use Rattle.sc_definitions.proofs.GridLaws.{grid_value-append_nought, grid_value-append_one, grid_value-append_infinity, ternary-append}
 use Rattle.sc_table.proofs.EntryLaws.{entry-append_left, entry-append_last, entry-append_right}
 use Rattle.sc_partials.specs.Staged.{at_digit, HasDifferences, HasDigits, HasDigit, IsStaged}
@@ -129,7 +129,7 @@ module _ {X : Type 0} (number : X → ℕ) (o : Ops) (ring : IsRing o) (order : 
   at_more : (d : Digit) (ds : List Digit) (m b : ℕ) →
       at_digit o d (grid_value order o f ds (suc m) (low_row order b)) (grid_value order o f ds (suc m) (high_row order m b))
       ≡ grid_value order o f (ds ++ d ∷ []) m b
-  at_more nought ds m b = sym (grid_value-append_nought o ring order f ds m b)
+  at_more digit_zero ds m b = sym (grid_value-append_nought o ring order f ds m b)
   at_more one ds m b = sym (grid_value-append_one o ring order f ds m b)
   at_more infinity ds m b = sym (grid_value-append_infinity o ring order f ds m b)
 

@@ -2,8 +2,8 @@
 use Rattle.std.proofs.Common.{◌≡◌, ℕ, suc, ◌+◌, ◌-◌, ◌*◌, ◌^◌, ◌<◌, List, [], ◌∷◌, ◌++◌, length, map, take, drop, refl, sym, ◌∙◌, ap, arith}
 use Rattle.std.proofs.lemmas.List.{length-map, map-append}
 use Rattle.sc_definitions.specs.Ring.{Ops, IsRing, plus, times, minus}
-use Rattle.sc_definitions.specs.Tables.{Order, prefix, suffix, entries, rows_of, inner, sum_below}
-use Rattle.sc_definitions.specs.Grids.{Digit, nought, infinity, ternary, low_row, high_row, grid_value, grid_entry, grid_of, grids_of}
+use Rattle.sc_definitions.specs.Tables.{Order, prefix, suffix, entries, rows_of, inner_product, sum_below}
+use Rattle.sc_definitions.specs.Grids.{Digit, digit_zero, infinity, ternary, low_row, high_row, grid_value, grid_entry, grid_of, grids_of}
 use Rattle.sc_definitions.proofs.RingLaws.{plus_comm, plus-zero, element-times}
 use Rattle.sc_definitions.proofs.GridLaws.{grid_value-append_nought, grid_value-append_infinity, grid_entry-zero, rows-grid_list, grid-is, grids_of-none, grids_of-more}
 use Rattle.sc_table.proofs.EntryLaws.{entry-take, entry-drop}
@@ -24,7 +24,7 @@ module _ {EF : Type 0} (number : EF → ℕ) (o : Ops) (ring : IsRing o) where
   zeros-grid order f j m s size zero_is infinity_is = grid-is order o f (λ b. 0) j m (sum_shown number s) (record {
     length_nought = length-map s.zero.items number ∙ size.zero;
     length_infinity = length-map s.infinity.items number ∙ size.infinity;
-    at_nought = λ k low. numbers-rows number s.zero.items k ∙ zero_is k ∙ sym (grid_entry-zero o ring order f (ternary j k ++ nought ∷ []) m);
+    at_nought = λ k low. numbers-rows number s.zero.items k ∙ zero_is k ∙ sym (grid_entry-zero o ring order f (ternary j k ++ digit_zero ∷ []) m);
     at_infinity = λ k low. numbers-rows number s.infinity.items k ∙ infinity_is k ∙ sym (grid_entry-zero o ring order f (ternary j k ++ infinity ∷ []) m);
   })
 
@@ -47,7 +47,7 @@ module _ {EF : Type 0} (number : EF → ℕ) (o : Ops) (ring : IsRing o) where
   -- a sum over one row
   pub one-product : (order : Order) (f w : ℕ → ℕ) (ds : List Digit) →
       grid_entry order o f w ds 0 ≡ times o (grid_value order o f ds 0 0) (grid_value order o w ds 0 0)
-  unfolding grid_entry inner sum_below
+  unfolding grid_entry inner_product sum_below
   one-product order f w ds =
       let x = grid_value order o f ds 0 0 in let y = grid_value order o w ds 0 0 in
       plus_comm o ring 0 (times o x y) ∙ plus-zero o ring (times o x y) ∙ element-times o ring x y
@@ -60,7 +60,7 @@ module _ {EF : Type 0} (number : EF → ℕ) (o : Ops) (ring : IsRing o) where
   high_none prefix = refl
   high_none suffix = refl
 
-  at_nought : (order : Order) (f : ℕ → ℕ) (ds : List Digit) → grid_value order o f (ds ++ nought ∷ []) 0 0 ≡ grid_value order o f ds 1 0
+  at_nought : (order : Order) (f : ℕ → ℕ) (ds : List Digit) → grid_value order o f (ds ++ digit_zero ∷ []) 0 0 ≡ grid_value order o f ds 1 0
   at_nought order f ds = grid_value-append_nought o ring order f ds 0 0 ∙ ap (grid_value order o f ds 1) (low_none order)
 
   at_infinity : (order : Order) (f : ℕ → ℕ) (ds : List Digit) →
@@ -80,12 +80,12 @@ module _ {EF : Type 0} (number : EF → ℕ) (o : Ops) (ring : IsRing o) where
 
   -- the product of the values at 0 is that at the digits and 0
   pub zero-product : (order : Order) (f w : ℕ → ℕ) (j k : ℕ) (xs ys : List EF) → IsStaged number o order f j 1 xs → IsStaged number o order w j 1 ys → k < 3 ^ j →
-      times o (entries number xs k) (entries number ys k) ≡ grid_entry order o f w (ternary j k ++ nought ∷ []) 0
+      times o (entries number xs k) (entries number ys k) ≡ grid_entry order o f w (ternary j k ++ digit_zero ∷ []) 0
   zero-product order f w j k xs ys fs ws low =
       let ds = ternary j k in
       ap (λ x. times o x (entries number ys k)) (part_low order f j k xs fs low ∙ sym (at_nought order f ds))
-      ∙ ap (times o (grid_value order o f (ds ++ nought ∷ []) 0 0)) (part_low order w j k ys ws low ∙ sym (at_nought order w ds))
-      ∙ sym (one-product order f w (ds ++ nought ∷ []))
+      ∙ ap (times o (grid_value order o f (ds ++ digit_zero ∷ []) 0 0)) (part_low order w j k ys ws low ∙ sym (at_nought order w ds))
+      ∙ sym (one-product order f w (ds ++ digit_zero ∷ []))
 
   -- that of the differences is that at the digits and infinity
   pub infinity-product : (order : Order) (f w : ℕ → ℕ) (j k : ℕ) (xs ys : List EF) → IsStaged number o order f j 1 xs → IsStaged number o order w j 1 ys → k < 3 ^ j →
@@ -119,7 +119,7 @@ module _ {EF : Type 0} (number : EF → ℕ) (o : Ops) (ring : IsRing o) where
         zero = λ k low. zeros k low
             ∙ ap (λ x. plus o (entries number old.zero.items k) (times o x (entries number y0 k))) (front xs x0 x0_is k low)
             ∙ ap (λ y. plus o (entries number old.zero.items k) (times o (entries number xs k) y)) (front ys y0 y0_is k low)
-            ∙ ap (plus o (entries number old.zero.items k)) (zero-product order f w j k xs ys fs ws low ∙ sym (rows-grid_list order o f w nought j 0 k low));
+            ∙ ap (plus o (entries number old.zero.items k)) (zero-product order f w j k xs ys fs ws low ∙ sym (rows-grid_list order o f w digit_zero j 0 k low));
         infinity = λ k low. infinities k low
             ∙ ap (λ x. plus o (entries number old.infinity.items k) (times o x (minus o (entries number y1 k) (entries number y0 k))))
             (ap (λ t. minus o t (entries number x0 k)) (back xs x1 x1_is k) ∙ ap (minus o (entries number xs (3 ^ j + k))) (front xs x0 x0_is k low))

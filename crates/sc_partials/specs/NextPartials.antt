@@ -1,9 +1,9 @@
 -- What clauses see of the three tables of a successor.
 use Rattle.std.specs.Prelude.{◌≡◌, ℕ, ◌^◌, ◌<◌, ◌++◌, Bool, true, false, List, length, map}
 use Rattle.sc_definitions.specs.Ring.{Ops, ◌+⟨◌⟩◌, ◌-⟨◌⟩◌, ◌*⟨◌⟩◌}
-use Rattle.sc_definitions.specs.Tables.{Order, prefix, suffix, evaluation, inner, bound_in}
+use Rattle.sc_definitions.specs.Tables.{Order, prefix, suffix, evaluation, inner_product, folded_in}
 use Rattle.sc_definitions.specs.Statements.{successor_weight}
-use Rattle.sc_definitions.specs.Standings.{entries_of}
+use Rattle.sc_definitions.specs.ProverStates.{entries_of}
 use Rattle.sc_definitions.specs.Grids.{low_row, high_row}
 use Rattle.sc_definitions.specs.Parts.{Part, Equal, Carry, Done, Omega, closing, next_partial, PartTables, next_partials_of}
 use Rattle.sc_table.specs.declared.poly.Poly.{Poly}
@@ -34,7 +34,7 @@ pub record NextSums : Type 0 where
   pub rounds : List PartTables
 
 unfoldable pub next_sums_of : Order → Ops → (ℕ → ℕ) → List ℕ → ℕ → NextSums
-next_sums_of order o f zs l = record { value = inner o (length zs) f (successor_weight o zs); rounds = next_partials_of order o f zs l }
+next_sums_of order o f zs l = record { value = inner_product o (length zs) f (successor_weight o zs); rounds = next_partials_of order o f zs l }
 
 -- a value and the three tables of rounds, by their numbers
 abbrev pub next_sums_in : {EF : Type 0} → (EF → ℕ) → EF × NextSvoPartials EF → NextSums
@@ -73,7 +73,7 @@ pub record AreNextPartials {EF : Type 0} (order : Order) (o : Ops) (number : EF 
 -- The tables of the first l rounds stand after a list, and the value is answered.
 pub record NextLeaves {EF : Type 0} (o : Ops) (number : EF → ℕ) (g : Opening) (l : ℕ) (old new : List (NextPartials EF)) (value_is : EF) : Type 0 where
   pub rounds : next_rounds_in number new ≡ next_rounds_in number old ++ next_partials_of g.order o g.table g.point l
-  pub sum : number value_is ≡ inner o (length g.point) g.table (successor_weight o g.point)
+  pub sum : number value_is ≡ inner_product o (length g.point) g.table (successor_weight o g.point)
 
 -- Only the tables of the first few rounds do, of fewer than l: what a refusal leaves.
 pub record NextLeavesSome {EF : Type 0} (o : Ops) (number : EF → ℕ) (g : Opening) (l : ℕ) (old new : List (NextPartials EF)) : Type 0 where
@@ -91,8 +91,8 @@ half_row order true m a = high_row (other_order order) m a
 -- The tables of a round with one variable less, by those that are given for each part: z is the coordinate of the last variable in the order, which
 -- joins those that are summed over.
 abbrev pub done_fewer : Order → Ops → ℕ → ℕ → (Part → ℕ → ℕ) → ℕ → ℕ
-done_fewer prefix o m z of a = bound_in evaluation suffix o m z (of Done) a +⟨ o ⟩ (1 -⟨ o ⟩ z) *⟨ o ⟩ of Carry (half_row prefix true m a)
-done_fewer suffix o m z of a = bound_in evaluation prefix o m z (of Done) a
+done_fewer prefix o m z of a = folded_in evaluation suffix o m z (of Done) a +⟨ o ⟩ (1 -⟨ o ⟩ z) *⟨ o ⟩ of Carry (half_row prefix true m a)
+done_fewer suffix o m z of a = folded_in evaluation prefix o m z (of Done) a
 
 abbrev pub carry_fewer : Order → Ops → ℕ → ℕ → (Part → ℕ → ℕ) → ℕ → ℕ
 carry_fewer prefix o m z of a = z *⟨ o ⟩ of Carry (half_row prefix false m a)

@@ -2,7 +2,7 @@
 use Rattle.std.specs.Prelude.{◌≡◌, ℕ, ◌^◌, ◌<◌, ◌≤◌, ◌++◌, List, [], ◌∷◌, length, map}
 use Rattle.sc_definitions.specs.Ring.{Ops}
 use Rattle.sc_definitions.specs.Tables.{Order, prefix, suffix, value}
-use Rattle.sc_definitions.specs.Standings.{entries_of}
+use Rattle.sc_definitions.specs.ProverStates.{entries_of}
 use Rattle.sc_definitions.specs.Partials.{partial, partials_of}
 use Rattle.sc_table.specs.declared.poly.Poly.{Poly}
 use Rattle.sc_table.specs.Polys.{variables_of, table_of}

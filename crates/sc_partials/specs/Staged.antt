@@ -2,11 +2,11 @@
 use Rattle.std.specs.Prelude.{◌≡◌, ℕ, ◌+◌, ◌*◌, ◌^◌, ◌<◌, List, length}
 use Rattle.sc_definitions.specs.Ring.{Ops, ◌-⟨◌⟩◌}
 use Rattle.sc_definitions.specs.Tables.{Order, entries}
-use Rattle.sc_definitions.specs.Grids.{Digit, nought, one, infinity, digit_of, ternary, low_row, high_row, grid_value}
+use Rattle.sc_definitions.specs.Grids.{Digit, digit_zero, one, infinity, digit_of, ternary, low_row, high_row, grid_value}
 
 -- what is at a digit, by the values at 0 and at 1
 abbrev pub at_digit : Ops → Digit → ℕ → ℕ → ℕ
-at_digit o nought low high = low
+at_digit o digit_zero low high = low
 at_digit o one low high = high
 at_digit o infinity low high = high -⟨ o ⟩ low
 

@@ -3,7 +3,7 @@
 ghost use Rattle.std.specs.Prelude.{◌≡◌, ℕ, ◌+◌, ◌*◌, ◌/◌, ◌%◌, ◌<◌, ◌≤◌, [], ◌∷◌, length};
 ghost use Rattle.sc_definitions.specs.Ring.{◌*⟨◌⟩◌};
 ghost use Rattle.sc_definitions.specs.Tables.{Order, entries, rows_of};
-ghost use Rattle.sc_definitions.specs.Grids.{Digit, nought, infinity, digit_of};
+ghost use Rattle.sc_definitions.specs.Grids.{Digit, digit_zero, infinity, digit_of};
 ghost use Rattle.sc_definitions.specs.Grids.{grid_value, grid_list};
 ghost use Rattle.sc_table.specs.Strategy.{order_of};
 ghost use Rattle.sc_partials.specs.Products.{pair_at, square_at, cube_at};
@@ -45,7 +45,7 @@ pub(crate) fn add_of_one<EF: Field>(
     requires at_zero { length at_zero.old ≡ 1 }
     requires at_infinity { length at_infinity.old ≡ 1 }
     ensures at_zero { (order : Order) → Gains EF.number EF.ops 0 1 (rows_of (grid_list order
-        EF.ops (entries EF.number table.now) (entries EF.number weights.now) nought 0 0))
+        EF.ops (entries EF.number table.now) (entries EF.number weights.now) digit_zero 0 0))
         at_zero.old at_zero.new }
     ensures at_infinity { (order : Order) → Gains EF.number EF.ops 0 1 (rows_of (grid_list order
         EF.ops (entries EF.number table.now) (entries EF.number weights.now) infinity 0 0))
@@ -69,7 +69,7 @@ pub(crate) fn add_of_two<EF: Field>(
     requires at_zero { length at_zero.old ≡ 3 }
     requires at_infinity { length at_infinity.old ≡ 3 }
     ensures at_zero { Gains EF.number EF.ops 0 3 (rows_of (grid_list (order_of order)
-        EF.ops (entries EF.number table.now) (entries EF.number weights.now) nought 1 0))
+        EF.ops (entries EF.number table.now) (entries EF.number weights.now) digit_zero 1 0))
         at_zero.old at_zero.new }
     ensures at_infinity { Gains EF.number EF.ops 0 3 (rows_of (grid_list (order_of order)
         EF.ops (entries EF.number table.now) (entries EF.number weights.now) infinity 1 0))
@@ -98,7 +98,7 @@ pub(crate) fn add_of_three<EF: Field>(
     requires at_zero { length at_zero.old ≡ 9 }
     requires at_infinity { length at_infinity.old ≡ 9 }
     ensures at_zero { Gains EF.number EF.ops 0 9 (rows_of (grid_list (order_of order)
-        EF.ops (entries EF.number table.now) (entries EF.number weights.now) nought 2 0))
+        EF.ops (entries EF.number table.now) (entries EF.number weights.now) digit_zero 2 0))
         at_zero.old at_zero.new }
     ensures at_infinity { Gains EF.number EF.ops 0 9 (rows_of (grid_list (order_of order)
         EF.ops (entries EF.number table.now) (entries EF.number weights.now) infinity 2 0))

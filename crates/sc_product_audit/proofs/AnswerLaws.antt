@@ -9,10 +9,10 @@ use Rattle.sc_definitions.specs.declared.events.Event.{Event}
 use Rattle.sc_definitions.specs.Ring.{Ops, IsField}
 use Rattle.sc_definitions.specs.Transcript.{Round, messages_of, before_draw, round_events, challenge}
 use Rattle.sc_definitions.specs.Replays.{round_passes, given_rounds}
-use Rattle.sc_definitions.specs.Channels.{Channel, Wire, Footing, footing, witnesses_of, IsReplayed, IsBuilt}
+use Rattle.sc_definitions.specs.Channels.{Channel, Wire, VerifierState, verifier_state, witnesses_of, IsReplayed, IsBuilt}
 use Rattle.sc_definitions.specs.Interpolation.{node_values, next_through}
 use Rattle.sc_definitions.specs.Products.{values_product, product_round, honest_values}
-use Rattle.sc_definitions.specs.Lucky.{Turn, Luck, luck_in, first_turn, product_course}
+use Rattle.sc_definitions.specs.Lucky.{Turn, LuckyChallenge, luck_in, first_turn, product_course}
 use Rattle.sc_definitions.proofs.BuiltLaws.{length-challenges, length-messages}
 use Rattle.sc_definitions.proofs.ReplayLaws.{length-given_rounds, messages-given_rounds}
 use Rattle.sc_definitions.proofs.ProductRounds.{honest_along}
@@ -25,7 +25,7 @@ use Rattle.sc_degree.specs.declared.error.GenericDegreeError.{GenericDegreeError
 use Rattle.sc_degree.specs.declared.error.GenericDegreeError.TheVariants as degree
 use Rattle.sc_degree.specs.Proofs.{generic_replay, LeavesVerify}
 use Rattle.sc_degree.specs.Shapes.{generic_shape}
-use Rattle.sc_verdicts.specs.Findings.{Finding, holds}
+use Rattle.sc_audit_errors.specs.Findings.{Finding, holds}
 use Rattle.sc_product_audit.specs.declared.error.ProductError.{ProductError}
 use Rattle.sc_product_audit.specs.declared.error.ProductError.TheVariants.{RoundCountMismatch, PowWitnessCountMismatch, PolyEvalCountMismatch, InvalidPowWitness, NoMemory}
 use Rattle.sc_product_audit.specs.declared.report.ProductReport.{ProductReport}
@@ -48,7 +48,7 @@ pub memory-alone : (due : Result ProductReported ProductError) (r : ProductRepor
 memory-alone due r e given is = ⊎_elim (λ memory. memory) (λ refused. (let both : due_report r ≡ due_refusal e = sym is ∙ refused in cc)) given
 
 -- where the claimed sum is the true one no challenge is named
-same_true : (matched : Bool) (luck other : Option Luck) → product_finding matched true luck ≡ product_finding matched true other
+same_true : (matched : Bool) (luck other : Option LuckyChallenge) → product_finding matched true luck ≡ product_finding matched true other
 same_true false luck other = refl
 same_true true luck other = refl
 
@@ -78,7 +78,7 @@ module _ (k : ProductCase) where
   first-luck f turn is = ap (option_map (luck_in k.ops)) is
 
   -- it is needed only where the claimed sum is not the true one
-  pub figures-found : (f : ProductFigures) (luck : Option Luck) → (f.claimed ≢ true_sum k → luck ≡ product_luck k f) →
+  pub figures-found : (f : ProductFigures) (luck : Option LuckyChallenge) → (f.claimed ≢ true_sum k → luck ≡ product_luck k f) →
       product_finding (f.residual == f.product) (f.claimed == true_sum k) luck ≡ figures_finding k f
   figures-found f luck needed =
       let matched = f.residual == f.product in
@@ -146,21 +146,21 @@ module _ (k : ProductCase) where
         all_witnesses g.came.messages g.came.witnesses (count ∙ sym rounds)
 
     -- there are as many challenges as variables
-    pub given-count : (rs : List ℕ) (end : Footing) → IsCounted (replay_for g.claimed g.came) → IsWalked (replay_for g.claimed g.came).walk rs end →
+    pub given-count : (rs : List ℕ) (end : VerifierState) → IsCounted (replay_for g.claimed g.came) → IsWalked (replay_for g.claimed g.came).walk rs end →
         length rs ≡ k.variables
     given-count rs end counts replayed =
         ap length replayed.replays.drawn ∙ length-challenges k.channel.rules k.channel.extension k.channel.bits (product_start k g.claimed) (rounds_given g)
         ∙ length-given_rounds g.came.messages g.came.witnesses ∙ counts.as_rounds
 
     -- each round sends as many values as there are tables
-    pub given-wide : (rs : List ℕ) (end : Footing) → IsWalked (replay_for g.claimed g.came).walk rs end →
+    pub given-wide : (rs : List ℕ) (end : VerifierState) → IsWalked (replay_for g.claimed g.came).walk rs end →
         All (λ values. length values ≡ length k.tables) g.came.messages
     given-wide rs end replayed =
         subst (All (λ values. length values ≡ length k.tables)) (messages-given_rounds g.came.messages g.came.witnesses) replayed.wide
 
     -- they were replayed whole
     pub given-told : (residual product : ℕ) (rs : List ℕ) (h' : List Event) (finding : Finding) → IsCounted (replay_for g.claimed g.came) →
-        IsWalked (replay_for g.claimed g.came).walk rs (footing h' residual) → product ≡ values_product k.ops k.tables rs →
+        IsWalked (replay_for g.claimed g.came).walk rs (verifier_state h' residual) → product ≡ values_product k.ops k.tables rs →
         finding ≡ figures_finding k
         (record { claimed = g.claimed; messages = g.came.messages; witnesses = g.came.witnesses; challenges = rs; residual = residual; product = product }) →
         task_result k (to_check g) ≡ Ok
@@ -270,7 +270,7 @@ module _ (k : ProductCase) where
         left.1.1.1
 
     -- they were replayed whole, and no report came of it
-    pub given-broken : (rs : List ℕ) (end : Footing) → IsWalked (replay_for g.claimed g.came).walk rs end → LeavesHistory k (to_check g) (Err NoMemory) end.history
+    pub given-broken : (rs : List ℕ) (end : VerifierState) → IsWalked (replay_for g.claimed g.came).walk rs end → LeavesHistory k (to_check g) (Err NoMemory) end.history
     given-broken rs end replayed =
         inr (
           length (rounds_given g),
@@ -310,7 +310,7 @@ module _ (k : ProductCase) where
 
     -- they were replayed whole, and hold
     pub built-told : IsField k.ops → 1 ≤ length k.tables → length k.tables < k.ops.size → (residual : ℕ) (rs : List ℕ) (h' : List Event) →
-        IsWalked (replay_for claimed came).walk rs (footing h' residual) →
+        IsWalked (replay_for claimed came).walk rs (verifier_state h' residual) →
         task_result k to_build ≡ Ok
         (record {
           figures = record { claimed = claimed; messages = came.messages; witnesses = came.witnesses; challenges = rs; residual = residual; product = product };
@@ -322,10 +322,10 @@ module _ (k : ProductCase) where
         let bits = k.channel.bits in
         let next = next_through k.ops in
         let start = product_start k (true_sum k) in
-        let from_claimed : IsReplayed next k.channel (replay_for claimed came).walk.start (footing h' residual) b.rounds rs =
-        subst (λ rounds. IsReplayed next k.channel (replay_for claimed came).walk.start (footing h' residual) rounds rs) built-rounds replayed.replays in
-        let moved : IsReplayed next k.channel (footing start (true_sum k)) (footing h' residual) b.rounds rs =
-        subst (λ n. IsReplayed next k.channel (footing (product_start k n) n) (footing h' residual) b.rounds rs) b.claim from_claimed in
+        let from_claimed : IsReplayed next k.channel (replay_for claimed came).walk.start (verifier_state h' residual) b.rounds rs =
+        subst (λ rounds. IsReplayed next k.channel (replay_for claimed came).walk.start (verifier_state h' residual) rounds rs) built-rounds replayed.replays in
+        let moved : IsReplayed next k.channel (verifier_state start (true_sum k)) (verifier_state h' residual) b.rounds rs =
+        subst (λ n. IsReplayed next k.channel (verifier_state (product_start k n) n) (verifier_state h' residual) b.rounds rs) b.claim from_claimed in
         let same : ◌≡◌ {A = ProductFigures} (product_figures k (true_sum k) b.rounds)
         (record { claimed = claimed; messages = came.messages; witnesses = came.witnesses; challenges = rs; residual = residual; product = product }) =
         rw (b.claim, b.wire, moved.drawn, moved.claim, b.value) refl in

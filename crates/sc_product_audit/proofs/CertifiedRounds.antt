@@ -11,13 +11,13 @@ use Rattle.sc_definitions.specs.Transcript.{Round, messages_of, round_events}
 use Rattle.sc_definitions.specs.Channels.{Channel}
 use Rattle.sc_definitions.specs.Interpolation.{next_through}
 use Rattle.sc_definitions.specs.Products.{values_product, product_claim}
-use Rattle.sc_definitions.specs.Lucky.{Luck, luck_in, product_course}
+use Rattle.sc_definitions.specs.Lucky.{LuckyChallenge, luck_in, product_course}
 use Rattle.sc_definitions.proofs.RingLaws.{element-small}
 use Rattle.sc_definitions.proofs.BuiltLaws.{length-messages, length-challenges}
 use Rattle.sc_definitions.proofs.ReplayLaws.{length-given_rounds}
 use Rattle.sc_definitions.proofs.ProductLaws.{product_claim-end}
 use Rattle.sc_definitions.proofs.LuckyLaws.{AllSend, turns, products_certify, IsWide}
-use Rattle.sc_verdicts.specs.Findings.{lucky, named}
+use Rattle.sc_audit_errors.specs.Findings.{lucky, named}
 use Rattle.sc_definitions.specs.Replays.{round_passes}
 use Rattle.sc_transcript.specs.Data.{witness_count}
 use Rattle.sc_product_audit.specs.declared.error.ProductError.{ProductError}
@@ -76,7 +76,7 @@ module _ (q : ProductCase) where
 -- ---- what is found
 
 -- where a challenge is named lucky what is left is the product, the claimed sum is false, and it is the first one
-lucky_by : (matched true_claimed : Bool) (luck : Option Luck) (l : Luck) → product_finding matched true_claimed luck ≡ lucky l →
+lucky_by : (matched true_claimed : Bool) (luck : Option LuckyChallenge) (l : LuckyChallenge) → product_finding matched true_claimed luck ≡ lucky l →
     (matched ≡ true) × (true_claimed ≡ false) × (luck ≡ Some l)
 lucky_by false true_claimed luck l e = cc
 lucky_by true true luck l e = cc
@@ -87,7 +87,7 @@ module _ (q : ProductCase) (field : IsField q.ops) (some : 1 ≤ length q.tables
   -- the first turn is lucky, and is certified
   first-certified : (f : ProductFigures) → f.claimed < q.ops.size → length f.messages ≡ q.variables → length f.challenges ≡ q.variables →
       AllSend (λ values. length values ≡ length q.tables) f.messages → claim_along (next_through q.ops) f.claimed f.messages f.challenges ≡ values_product q.ops q.tables f.challenges →
-      (f.claimed ≡ true_sum q → ⊥) → (l : Luck) × (product_luck q f ≡ Some l) × IsProductCertified q f.challenges l
+      (f.claimed ≡ true_sum q → ⊥) → (l : LuckyChallenge) × (product_luck q f ≡ Some l) × IsProductCertified q f.challenges l
   unfolding product_luck
   first-certified f low count drawn wide right wrong =
       let o = q.ops in

@@ -9,7 +9,7 @@ use Rattle.sc_definitions.specs.Tables.{rows_of}
 use Rattle.sc_definitions.specs.Transcript.{Round}
 use Rattle.sc_definitions.specs.Products.{honest_values}
 use Rattle.sc_definitions.proofs.WitnessLaws.{IsBuiltOr, honest_rounds-built}
-use Rattle.sc_verdicts.specs.Findings.{holds, lucky}
+use Rattle.sc_audit_errors.specs.Findings.{holds, lucky}
 use Rattle.sc_product_audit.specs.declared.error.ProductError.{ProductError}
 use Rattle.sc_product_audit.specs.declared.error.ProductError.TheVariants.{TableLength, TableCount, Difficulty, NoMemory}
 use Rattle.sc_product_audit.specs.ProductCases.{ProductGiven, ProductTask, to_build, to_check, ProductAsked, ProductCase, case_over, true_sum, product_start}

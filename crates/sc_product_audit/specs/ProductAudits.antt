@@ -5,8 +5,8 @@ use Rattle.sc_definitions.specs.declared.events.Event.{Event}
 use Rattle.sc_definitions.specs.Ring.{Ops}
 use Rattle.sc_definitions.specs.Transcript.{Round, before_draw, rounds_events}
 use Rattle.sc_definitions.specs.Replays.{given_rounds}
-use Rattle.sc_definitions.specs.Lucky.{IsCertificate, Luck, in_batch, in_round}
-use Rattle.sc_verdicts.specs.Findings.{holds, lucky}
+use Rattle.sc_definitions.specs.Lucky.{IsCertificate, LuckyChallenge, in_batch, in_round}
+use Rattle.sc_audit_errors.specs.Findings.{holds, lucky}
 use Rattle.sc_product_audit.specs.declared.error.ProductError.{ProductError}
 use Rattle.sc_product_audit.specs.declared.error.ProductError.TheVariants.{PolyEvalCountMismatch, InvalidPowWitness, NoWitness, NoMemory}
 use Rattle.sc_product_audit.specs.ProductCases.{ProductTask, to_build, to_check, ProductAsked, ProductCase, true_sum, product_start}
@@ -82,11 +82,11 @@ pub record IsProductLuck (o : Ops) (degree : ℕ) (rs : List ℕ) (round : ℕ) 
   pub coefficients : length polynomial ≡ suc degree
 
 -- It is certified, by the polynomial of a round. There is no batch.
-abbrev pub IsProductCertified : ProductCase → List ℕ → Luck → Type 0
+abbrev pub IsProductCertified : ProductCase → List ℕ → LuckyChallenge → Type 0
 IsProductCertified k rs (in_batch polynomial roots) = ⊥
 IsProductCertified k rs (in_round round polynomial roots) = IsProductLuck k.ops (length k.tables) rs round polynomial roots
 
 -- A challenge that is named lucky is certified; and where the residual is the product although the claimed sum is false, one is named.
 pub record CertifiesProduct (k : ProductCase) (r : ProductReported) : Type 0 where
-  pub named : (l : Luck) → r.finding ≡ lucky l → IsProductCertified k r.figures.challenges l
-  pub no_other : r.figures.residual ≡ r.figures.product → (r.figures.claimed ≡ true_sum k → ⊥) → (l : Luck) × (r.finding ≡ lucky l)
+  pub named : (l : LuckyChallenge) → r.finding ≡ lucky l → IsProductCertified k r.figures.challenges l
+  pub no_other : r.figures.residual ≡ r.figures.product → (r.figures.claimed ≡ true_sum k → ⊥) → (l : LuckyChallenge) × (r.finding ≡ lucky l)

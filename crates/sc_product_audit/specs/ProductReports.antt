@@ -6,11 +6,11 @@ use Rattle.sc_definitions.specs.Transcript.{Round, messages_of, challenges}
 use Rattle.sc_definitions.specs.Channels.{witnesses_of}
 use Rattle.sc_definitions.specs.Interpolation.{next_through}
 use Rattle.sc_definitions.specs.Products.{values_product}
-use Rattle.sc_definitions.specs.Lucky.{Luck, in_round, luck_in, first_turn, product_course}
+use Rattle.sc_definitions.specs.Lucky.{LuckyChallenge, in_round, luck_in, first_turn, product_course}
 use Rattle.sc_degree.specs.Proofs.{proof_wire}
 use Rattle.sc_degree.specs.declared.turns.FoundTurn.{FoundTurn}
 use Rattle.sc_degree.specs.Turns.{product_turn}
-use Rattle.sc_verdicts.specs.Findings.{Finding, holds, refuted, lucky, named}
+use Rattle.sc_audit_errors.specs.Findings.{Finding, holds, refuted, lucky, named}
 use Rattle.sc_product_audit.specs.declared.error.ProductError.{ProductError}
 use Rattle.sc_product_audit.specs.declared.error.ProductError.TheVariants.{NoWitness}
 use Rattle.sc_product_audit.specs.declared.report.ProductReport.{ProductReport}
@@ -52,12 +52,12 @@ product_figures k claimed rounds =
     figures_at k claimed rounds (challenges k.channel.rules k.channel.extension k.channel.bits (product_start k claimed) rounds)
 
 -- the first lucky challenge of figures: that of the first round after which the claim is the true one
-unfoldable pub product_luck : ProductCase → ProductFigures → Option Luck
+unfoldable pub product_luck : ProductCase → ProductFigures → Option LuckyChallenge
 product_luck k f = option_map (luck_in k.ops) (first_turn (product_course k.ops k.tables) 0 f.claimed f.messages [] f.challenges)
 
 -- What rounds say of a claimed sum, as what they leave of it is the product of the tables' values or not, as it is the true sum or not, and this is the
 -- first lucky challenge, if one is.
-abbrev pub product_finding : Bool → Bool → Option Luck → Finding
+abbrev pub product_finding : Bool → Bool → Option LuckyChallenge → Finding
 product_finding false true_claimed luck = refuted
 product_finding true true luck = holds
 product_finding true false luck = named luck
@@ -124,5 +124,5 @@ result_in base number (Ok r) = Ok (reported_in base number r)
 result_in base number (Err e) = Err e
 
 -- the luck of the turn that was found, if one was
-abbrev pub luck_found : {EF : Type 0} → Ops → (EF → ℕ) → Option (FoundTurn EF) → Option Luck
+abbrev pub luck_found : {EF : Type 0} → Ops → (EF → ℕ) → Option (FoundTurn EF) → Option LuckyChallenge
 luck_found o number found = option_map (luck_in o) (option_map (product_turn number) found)

@@ -1,7 +1,7 @@
 -- Whether the tables and the difficulty of what is asked fit, and how many variables the tables have.
 use Rattle.std.specs.Prelude.{ℕ, ◌-◌, ◌==◌, ◌^◌, List, [], ◌∷◌, length, map, nat_lt, if◌then◌else◌, Option, Some, None, Result, Ok, Err}
 use Rattle.sc_definitions.specs.Tables.{rows_of}
-use Rattle.sc_verdicts.specs.Arities.{arity_of}
+use Rattle.sc_audit_errors.specs.Arities.{arity_of}
 use Rattle.sc_product_audit.specs.declared.error.ProductError.{ProductError}
 use Rattle.sc_product_audit.specs.declared.error.ProductError.TheVariants.{TableLength, TableCount, Difficulty}
 use Rattle.sc_product_audit.specs.ProductCases.{ProductAsked, ProductCase, case_over}

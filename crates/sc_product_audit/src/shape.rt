@@ -1,13 +1,13 @@
 //! Whether the tables and the difficulty of a job fit.
 ghost use Rattle.std.specs.Prelude.{◌≡◌, ◌<◌, ◌≤◌, ◌^◌, All, IfOk, OnOk, length, map};
-ghost use Rattle.sc_verdicts.specs.Arities.{arity_of};
+ghost use Rattle.sc_audit_errors.specs.Arities.{arity_of};
 ghost use Rattle.sc_product_audit.specs.ProductShapes.{arity_over, shape_from};
 ghost use Rattle.sc_product_audit.specs.ProductPlays.{IsDegree};
 
 use crate::error::ProductError;
+use sc_audit_errors::arity;
 use sc_degree::nodes_distinct;
 use sc_field::Field;
-use sc_verdicts::arity;
 
 // How many variables the tables have, where their lengths and their number fit, and the difficulty
 // is at most this bound.

@@ -2,14 +2,14 @@
 use Rattle.std.proofs.Common.{◌≡◌, ℕ, zero, suc, ◌-◌, ◌^◌, ◌<◌, List, [], ◌∷◌, length, map, Option, Some, None, refl, ap, sym, ◌∙◌, subst, arith}
 use Rattle.std.proofs.lemmas.List.{length-map}
 use Rattle.sc_definitions.specs.Ring.{Ops, IsRing, IsRingMap, IsRepresentation}
-use Rattle.sc_definitions.specs.Tables.{Basis, evaluation, projective, Order, prefix, suffix, entries, rows_of, bound, bound_low, bound_coefficients, bound_in}
-use Rattle.sc_definitions.specs.Standings.{entries_of}
+use Rattle.sc_definitions.specs.Tables.{Basis, evaluation, projective, Order, prefix, suffix, entries, rows_of, bound, bound_low, bound_coefficients, folded_in}
+use Rattle.sc_definitions.specs.ProverStates.{entries_of}
 use Rattle.sc_definitions.proofs.RingLaws.{size_pos, plus_below}
-use Rattle.sc_definitions.proofs.StandingLaws.{length-entries_of, rows-entries_of, entries-is}
+use Rattle.sc_definitions.proofs.ProverStateLaws.{length-entries_of, rows-entries_of, entries-is}
 use Rattle.sc_rounds.specs.declared.product_polynomial.ProductPolynomial.{ProductPolynomial}
 use Rattle.sc_rounds.specs.Products.{numbers_of, variables_in, basis_in, order_in}
 use Rattle.sc_rounds.specs.Provers.{number_if_some, IsLeftFor, left_of, bound_now, held_shown}
-use Rattle.sc_definitions.specs.Shown.{Shown, imaged, IsTrueClaim}
+use Rattle.sc_definitions.specs.ProverViews.{ProverView, imaged, IsTrueClaim}
 use Rattle.sc_definitions.proofs.MappedRounds.{image_rows, image_bound, below_entries, represented_sum}
 use Rattle.sc_definitions.proofs.ImagedRounds.{IsBelow}
 
@@ -20,15 +20,15 @@ rows_below size positive [] all k = positive
 rows_below size positive (x ∷ xs) all zero = all zero (omega arith)
 rows_below size positive (x ∷ xs) all (suc k) = rows_below size positive xs (λ j low. all (suc j) (omega (arith, low))) k
 
-bound_below : (o : Ops) → IsRing o → (basis : Basis) (order : Order) (m r : ℕ) (f : ℕ → ℕ) (k : ℕ) → bound_in basis order o m r f k < o.size
+bound_below : (o : Ops) → IsRing o → (basis : Basis) (order : Order) (m r : ℕ) (f : ℕ → ℕ) (k : ℕ) → folded_in basis order o m r f k < o.size
 unfolding bound bound_low bound_coefficients
 bound_below o ring evaluation prefix m r f k = plus_below o ring _ _
 bound_below o ring evaluation suffix m r f k = plus_below o ring _ _
 bound_below o ring projective order m r f k = plus_below o ring _ _
 
-bound_rows_below : (o : Ops) → IsRing o → (basis : Basis) (order : Order) (m r : ℕ) (f : ℕ → ℕ) (k : ℕ) → rows_of (entries_of m (bound_in basis order o m r f)) k < o.size
+bound_rows_below : (o : Ops) → IsRing o → (basis : Basis) (order : Order) (m r : ℕ) (f : ℕ → ℕ) (k : ℕ) → rows_of (entries_of m (folded_in basis order o m r f)) k < o.size
 bound_rows_below o ring basis order m r f =
-    let g = bound_in basis order o m r f in
+    let g = folded_in basis order o m r f in
     rows_below o.size (size_pos o ring) (entries_of m g)
     (λ k low. let row : k < 2 ^ m = subst (λ n. k < n) (length-entries_of m g) low in
     subst (λ n. n < o.size) (sym (rows-entries_of m g k row)) (bound_below o ring basis order m r f k))
@@ -50,9 +50,9 @@ held_below o ring h b rb image number below p s (Some r) = record {
 
 -- the list of the images of a bound table
 image_entries : (a b : Ops) → (ra : IsRing a) (rb : IsRing b) (h : ℕ → ℕ) (image : IsRingMap a b h) (basis : Basis) (order : Order) (n r : ℕ) (xs : List ℕ) → ((k : ℕ) → rows_of xs k < a.size) → r < a.size →
-    map h (entries_of n (bound_in basis order a n r (rows_of xs))) ≡ entries_of n (bound_in basis order b n (h r) (rows_of (map h xs)))
+    map h (entries_of n (folded_in basis order a n r (rows_of xs))) ≡ entries_of n (folded_in basis order b n (h r) (rows_of (map h xs)))
 image_entries a b ra rb h image basis order n r xs below low =
-    let ys = entries_of n (bound_in basis order a n r (rows_of xs)) in
+    let ys = entries_of n (folded_in basis order a n r (rows_of xs)) in
     entries-is n (map h ys) _ (length-map ys h ∙ length-entries_of n _)
     (image_bound a b ra rb h image basis order n r (h r) (rows_of xs) (rows_of ys) _ _ below low refl (image_rows a b ra rb h image xs) (image_rows a b ra rb h image ys) (rows-entries_of n _))
 
@@ -65,7 +65,7 @@ module _ (a b : Ops) (ra : IsRing a) (rb : IsRing b) (h : ℕ → ℕ) (image : 
   image_now number other low basis order n (Some r) (Some r') xs below same =
       let r_is : h (number r) ≡ other r' = cc same in
       image_entries a b ra rb h image basis order (n - 1) (number r) xs below (low r)
-      ∙ ap (λ t. entries_of (n - 1) (bound_in basis order b (n - 1) t (rows_of (map h xs)))) r_is
+      ∙ ap (λ t. entries_of (n - 1) (folded_in basis order b (n - 1) t (rows_of (map h xs)))) r_is
   image_now number other low basis order n None (Some r') xs below same = cc
   image_now number other low basis order n (Some r) None xs below same = cc
 
@@ -96,7 +96,7 @@ module _ (a b : Ops) (ra : IsRing a) (rb : IsRing b) (h : ℕ → ℕ) (image : 
       λ i. record { basis = basis i; order = order i; variables = V i; evals = E i; weights = W i; claim = claim i }
 
 -- a claim whose image is true is true
-pub true_back : (e r : Ops) (ring_e : IsRing e) (ring : IsRing r) (from to : ℕ → ℕ) → (rep : IsRepresentation e r from to) → (s : Shown) → IsBelow r s →
+pub true_back : (e r : Ops) (ring_e : IsRing e) (ring : IsRing r) (from to : ℕ → ℕ) → (rep : IsRepresentation e r from to) → (s : ProverView) → IsBelow r s →
     IsTrueClaim e (imaged to s) → IsTrueClaim r s
 true_back e r ring_e ring from to rep s below true_claim =
     represented_sum e r ring_e ring from to rep s.variables (rows_of s.evals) (rows_of s.weights) (rows_of (map to s.evals)) (rows_of (map to s.weights)) (to s.claim) s.claim

@@ -1,29 +1,29 @@
 -- A pair of tables under a claim, where a challenge is held or none.
 use Rattle.std.proofs.Common.{◌≡◌, ℕ, suc, ◌+◌, ◌-◌, ◌^◌, ◌<◌, List, [], ◌∷◌, length, Option, Some, None, refl, ap, sym, ◌∙◌, subst, arith}
 use Rattle.sc_definitions.specs.Ring.{Ops, IsRing, plus, times}
-use Rattle.sc_definitions.specs.Tables.{Basis, Order, IsOffered, entries, rows_of, inner, bound_in}
+use Rattle.sc_definitions.specs.Tables.{Basis, Order, IsOffered, entries, rows_of, inner_product, folded_in}
 use Rattle.sc_definitions.specs.Messages.{message_of}
 use Rattle.sc_definitions.specs.Rounds.{next_claim}
-use Rattle.sc_definitions.specs.Standings.{half_rows, entries_of}
-use Rattle.sc_definitions.proofs.StandingLaws.{length-entries_of, rows-entries_of, entries-is}
+use Rattle.sc_definitions.specs.ProverStates.{half_rows, entries_of}
+use Rattle.sc_definitions.proofs.ProverStateLaws.{length-entries_of, rows-entries_of, entries-is}
 use Rattle.sc_rounds.specs.declared.product_polynomial.ProductPolynomial.{ProductPolynomial}
 use Rattle.sc_rounds.specs.Products.{numbers_of, variables_in, basis_in, order_in, pair_message, BindsPair}
 use Rattle.sc_rounds.specs.Provers.{shown_of, IsLeftFor, left_of, held_shown, stored_of, number_if_some}
-use Rattle.sc_definitions.specs.Shown.{Shown, settled_as, message_shown, with_bound, sum_with, IsTrueClaim, with_added, with_scaled, honest_shown, imaged}
-use Rattle.sc_table.proofs.HonestLaws.{honest_pair-first}
+use Rattle.sc_definitions.specs.ProverViews.{ProverView, settled_as, message_shown, with_bound, sum_with, IsTrueClaim, with_added, with_scaled, honest_shown, imaged}
+use Rattle.sc_table.proofs.HonestLaws.{honest_message-first}
 use mathlib.Core.List.{map-id}
 use Rattle.sc_definitions.proofs.Sums.{sum-same, times-sum}
 use Rattle.sc_definitions.proofs.Identity.{atom, ◌⊗◌, Agree, identity}
 use Rattle.sc_rounds.proofs.PairRounds.{pair_rows}
 use Rattle.sc_definitions.proofs.PairMoves.{sum_after}
-use Rattle.sc_definitions.proofs.StatementLaws.{inner-parts_of}
+use Rattle.sc_definitions.proofs.StatementLaws.{inner_product-parts_of}
 
 pub bound_list : (o : Ops) (basis : Basis) (order : Order) (n m r : ℕ) (xs ys : List ℕ) → n ≡ m + 1 → length ys ≡ 2 ^ m →
-    ((b : ℕ) → b < 2 ^ m → rows_of ys b ≡ bound_in basis order o m r (rows_of xs) b) →
-    ys ≡ entries_of (n - 1) (bound_in basis order o (n - 1) r (rows_of xs))
+    ((b : ℕ) → b < 2 ^ m → rows_of ys b ≡ folded_in basis order o m r (rows_of xs) b) →
+    ys ≡ entries_of (n - 1) (folded_in basis order o (n - 1) r (rows_of xs))
 bound_list o basis order n m r xs ys fewer size bound =
     let less : m ≡ n - 1 = omega (arith, fewer) in
-    entries-is m ys _ size bound ∙ ap (λ k. entries_of k (bound_in basis order o k r (rows_of xs))) less
+    entries-is m ys _ size bound ∙ ap (λ k. entries_of k (folded_in basis order o k r (rows_of xs))) less
 
 module _ {F EF : Type 0} (o : Ops) (number : EF → ℕ) where
   -- what is shown where none is held
@@ -51,7 +51,7 @@ module _ {F EF : Type 0} (o : Ops) (number : EF → ℕ) where
   held_sized p s (Some r) = (length-entries_of _ _, length-entries_of _ _)
 
   -- the message of a pair
-  pub message_pair : (p : ProductPolynomial F EF) (s : EF) (t : Shown) (message : List ℕ) → message ≡ pair_message o number p → shown_of number p s ≡ t →
+  pub message_pair : (p : ProductPolynomial F EF) (s : EF) (t : ProverView) (message : List ℕ) → message ≡ pair_message o number p → shown_of number p s ≡ t →
       message ≡ message_shown o t
   unfolding entries rows_of
   message_pair p s t message is shown = is ∙ ap (message_shown o) shown
@@ -69,7 +69,7 @@ module _ {F EF : Type 0} (o : Ops) (number : EF → ℕ) where
       bound ∙ ap (λ t. with_bound o t (number r)) (sym (none_held p s held none))
 
 -- the claim with the next variable bound is true
-pub true_bound : (o : Ops) → IsRing o → (s : Shown) → IsOffered s.basis s.order → (r : ℕ) → 0 < s.variables → IsTrueClaim o s → IsTrueClaim o (with_bound o s r)
+pub true_bound : (o : Ops) → IsRing o → (s : ProverView) → IsOffered s.basis s.order → (r : ℕ) → 0 < s.variables → IsTrueClaim o s → IsTrueClaim o (with_bound o s r)
 true_bound o ring s offered r left true_claim =
     let m = s.variables - 1 in
     let more : s.variables ≡ m + 1 = omega (arith, left) in
@@ -91,7 +91,7 @@ pub nothing_held : {X : Type 0} {A : Type 0} (r : X) → None ≡ Some r → A
 nothing_held r e = cc
 
 -- the pair that is left shows what was shown, where none is held any more
-pub settled_pair : {F EF : Type 0} (o : Ops) (number : EF → ℕ) (p : ProductPolynomial F EF) (s : EF) (held : Option EF) (t : Shown) →
+pub settled_pair : {F EF : Type 0} (o : Ops) (number : EF → ℕ) (p : ProductPolynomial F EF) (s : EF) (held : Option EF) (t : ProverView) →
     held ≡ None → held_shown o number p held s ≡ t → shown_of number p s ≡ t
 settled_pair o number p s held t none kept = sym (none_held o number p s held none) ∙ kept
 
@@ -100,7 +100,7 @@ pub none_wanted : {X : Type 0} (n : ℕ) (held : Option X) → held ≡ None →
 none_wanted n held none r is = nothing_held r (sym none ∙ is)
 
 -- what is kept where no challenge is held
-pub stored_settled : {F EF : Type 0} (o : Ops) (number : EF → ℕ) (p : ProductPolynomial F EF) (s : EF) (held : Option EF) (t : Shown) →
+pub stored_settled : {F EF : Type 0} (o : Ops) (number : EF → ℕ) (p : ProductPolynomial F EF) (s : EF) (held : Option EF) (t : ProverView) →
     held ≡ None → held_shown o number p held s ≡ t → stored_of number p held ≡ settled_as t
 stored_settled o number p s held t none kept = ap (stored_of number p) none ∙ ap settled_as (settled_pair o number p s held t none kept)
 
@@ -108,14 +108,14 @@ stored_settled o number p s held t none kept = ap (stored_of number p) none ∙ 
 
 module _ (o : Ops) (ring : IsRing o) where
   -- with values added to the weights, and their sum to the claim
-  pub true_added : (s : Shown) (v : ℕ → ℕ) (c : ℕ) → IsTrueClaim o s → c ≡ sum_with o s v → IsTrueClaim o (with_added o s v c)
+  pub true_added : (s : ProverView) (v : ℕ → ℕ) (c : ℕ) → IsTrueClaim o s → c ≡ sum_with o s v → IsTrueClaim o (with_added o s v c)
   true_added s v c true_claim is =
       ap (λ x. plus o x c) true_claim ∙ ap (plus o (sum_with o s (rows_of s.weights))) is
-      ∙ sym (inner-parts_of o ring s.variables (rows_of s.evals) (rows_of s.weights) v _ (rows-entries_of s.variables _))
+      ∙ sym (inner_product-parts_of o ring s.variables (rows_of s.evals) (rows_of s.weights) v _ (rows-entries_of s.variables _))
 
   -- with the weights and the claim multiplied
-  pub true_scaled : (s : Shown) (k : ℕ) → IsTrueClaim o s → IsTrueClaim o (with_scaled o s k)
-  unfolding inner Agree
+  pub true_scaled : (s : ProverView) (k : ℕ) → IsTrueClaim o s → IsTrueClaim o (with_scaled o s k)
+  unfolding inner_product Agree
   true_scaled s k true_claim =
       let f = rows_of s.evals in
       let w = rows_of s.weights in
@@ -130,15 +130,15 @@ module _ (o : Ops) (ring : IsRing o) where
 -- ---- what readers ask
 
 -- what an honest round sends is the message of what is shown
-pub honest_message : (o : Ops) → IsRing o → (s : Shown) → IsOffered s.basis s.order → 0 < s.variables → honest_shown o s ≡ message_shown o s
-honest_message o ring s offered left =
+pub honest_shown-message : (o : Ops) → IsRing o → (s : ProverView) → IsOffered s.basis s.order → 0 < s.variables → honest_shown o s ≡ message_shown o s
+honest_shown-message o ring s offered left =
     let m = s.variables - 1 in
     let next : suc m ≡ s.variables = omega (arith, left) in
-    honest_pair-first s.basis s.order offered o ring (rows_of s.evals) (rows_of s.weights) m
+    honest_message-first s.basis s.order offered o ring (rows_of s.evals) (rows_of s.weights) m
     ∙ ap (λ k. message_of s.basis s.order o (half_rows k) (rows_of s.evals) (rows_of s.weights)) next
 
 -- images under no map
-pub imaged_same : (s : Shown) → imaged (λ n. n) s ≡ s
+pub imaged_same : (s : ProverView) → imaged (λ n. n) s ≡ s
 imaged_same s = λ i. record s { evals = map-id s.evals i; weights = map-id s.weights i }
 
 -- a number that is there is one of a value

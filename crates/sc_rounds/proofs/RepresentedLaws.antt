@@ -3,7 +3,7 @@ use Rattle.std.proofs.Common.{◌≡◌, ◌↔◌, ℕ, List, length, map, IsTr
 use Rattle.std.proofs.lemmas.Bool.{eqb-true, eq-eqb}
 use Rattle.std.proofs.lemmas.List.{length-map}
 use Rattle.sc_definitions.specs.Ring.{Ops}
-use Rattle.sc_definitions.specs.Tables.{inner}
+use Rattle.sc_definitions.specs.Tables.{inner_product}
 use Rattle.sc_table.specs.Polys.{variables_of, table_of}
 use Rattle.sc_table.specs.declared.poly.Poly.{Poly}
 use Rattle.sc_rounds.specs.Represented.{TablesAgree}
@@ -14,7 +14,7 @@ same_length f g xs ys e = sym (length-map xs f) ∙ ap length e ∙ length-map y
 
 -- whether tables agree, by the sum that was computed
 pub agree : {A B : Type 0} (o : Ops) {number : A → ℕ} {represented : B → ℕ} {evals : Poly A} {weights : Poly B} {sum a b : ℕ} →
-    variables_of evals ≡ variables_of weights → a ≡ inner o (variables_of evals) (table_of number evals) (table_of represented weights) → b ≡ sum →
+    variables_of evals ≡ variables_of weights → a ≡ inner_product o (variables_of evals) (table_of number evals) (table_of represented weights) → b ≡ sum →
     IsTrue (nat_eq a b) ↔ TablesAgree o number represented evals weights sum
 agree o {a} {b} same a_is b_is = (
   λ t. let e : a ≡ b = eqb-true a b t in record { variables = same; true_sum = sym b_is ∙ sym e ∙ a_is },

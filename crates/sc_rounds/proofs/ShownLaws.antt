@@ -4,15 +4,15 @@ use Rattle.std.proofs.lemmas.Bool.{eqb-true, eq-eqb}
 use Rattle.std.proofs.lemmas.List.{length-map}
 use Rattle.std.proofs.lemmas.Grind.{same_number_lists}
 use Rattle.sc_definitions.specs.Ring.{Ops, plus, times}
-use Rattle.sc_definitions.specs.Tables.{entries, rows_of, inner}
-use Rattle.sc_definitions.proofs.StandingLaws.{entries-is}
+use Rattle.sc_definitions.specs.Tables.{entries, rows_of, inner_product}
+use Rattle.sc_definitions.proofs.ProverStateLaws.{entries-is}
 use Rattle.sc_table.specs.Polys.{variables_of, table_of}
 use Rattle.sc_table.specs.declared.poly.Poly.{Poly}
-use Rattle.sc_claims.specs.Batches.{gathered, AddsBatch}
+use Rattle.sc_statements.specs.Batches.{gathered, AddsBatch}
 use Rattle.sc_rounds.specs.declared.product_polynomial.ProductPolynomial.{ProductPolynomial}
 use Rattle.sc_rounds.specs.Products.{numbers_of, variables_in, basis_in, order_in, evals_in, weights_in, sum_in}
 use Rattle.sc_rounds.specs.Provers.{Stated, shown_of, weight_of, claim_of}
-use Rattle.sc_definitions.specs.Shown.{sum_with, IsTrueClaim, with_added, with_scaled}
+use Rattle.sc_definitions.specs.ProverViews.{sum_with, IsTrueClaim, with_added, with_scaled}
 use Rattle.sc_rounds.proofs.PairRounds.{pair_rows}
 use Rattle.sc_definitions.proofs.PairMoves.{sized, same_lists}
 
@@ -68,18 +68,18 @@ module _ {F EF : Type 0} (number : EF → ℕ) where
   shown_taken o p p' s s' c variables basis order evals added = shown_added o p p' s s' (weight_of o c) (claim_of o c) variables basis order evals added.weights added.sum
 
   -- sums by the tables as functions
-  pub sum_shown : (o : Ops) (p : ProductPolynomial F EF) (s : EF) (w : ℕ → ℕ) → sum_with o (shown_of number p s) w ≡ inner o (variables_in p) (evals_in number p) w
-  sum_shown o p s w = ap (λ f. inner o (variables_in p) f w) (rows-numbers number p.evals.evals.items)
+  pub sum_shown : (o : Ops) (p : ProductPolynomial F EF) (s : EF) (w : ℕ → ℕ) → sum_with o (shown_of number p s) w ≡ inner_product o (variables_in p) (evals_in number p) w
+  sum_shown o p s w = ap (λ f. inner_product o (variables_in p) f w) (rows-numbers number p.evals.evals.items)
 
   -- a sum that is true
   pub true_shown : (o : Ops) (p : ProductPolynomial F EF) (s : EF) → number s ≡ sum_in o number p → IsTrueClaim o (shown_of number p s)
   true_shown o p s true_sum =
-      true_sum ∙ sym (sum_shown o p s (rows_of (numbers_of number p.weights)) ∙ ap (inner o (variables_in p) (evals_in number p)) (rows-numbers number p.weights.evals.items))
+      true_sum ∙ sym (sum_shown o p s (rows_of (numbers_of number p.weights)) ∙ ap (inner_product o (variables_in p) (evals_in number p)) (rows-numbers number p.weights.evals.items))
 
   -- and back
   pub true_of : (o : Ops) (p : ProductPolynomial F EF) (s : EF) → IsTrueClaim o (shown_of number p s) → number s ≡ sum_in o number p
   true_of o p s true_claim =
-      true_claim ∙ sum_shown o p s (rows_of (numbers_of number p.weights)) ∙ ap (inner o (variables_in p) (evals_in number p)) (rows-numbers number p.weights.evals.items)
+      true_claim ∙ sum_shown o p s (rows_of (numbers_of number p.weights)) ∙ ap (inner_product o (variables_in p) (evals_in number p)) (rows-numbers number p.weights.evals.items)
 
 -- the numbers of a table that a call answers
 pub numbers_if_ok : {A B E : Type 0} (number : A → ℕ) (image : B → ℕ) (p : Poly A) (r : Result (Poly B) E) → IfOk r (λ q. variables_of q ≡ variables_of p) →

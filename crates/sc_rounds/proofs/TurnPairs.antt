@@ -2,7 +2,7 @@
 use Rattle.std.proofs.Common.{◌≡◌, ◌≢◌, ℕ, ◌<◌, List, [], ◌∷◌, length, map, Some, None, refl, sym, ◌∙◌, ap, subst}
 use Rattle.std.proofs.lemmas.List.{length-map}
 use Rattle.sc_definitions.specs.Ring.{Ops, IsField, element}
-use Rattle.sc_definitions.specs.Tables.{Basis, Order, IsOffered, inner}
+use Rattle.sc_definitions.specs.Tables.{Basis, Order, IsOffered, inner_product}
 use Rattle.sc_definitions.specs.Rounds.{next_claim, claim_along}
 use Rattle.sc_definitions.specs.TwoTables.{TwoTables, true_claim_on, end_of}
 use Rattle.sc_definitions.specs.Lucky.{course_on, Turn, first_turn, IsTurn}
@@ -29,7 +29,7 @@ all-pairs sends two (m ∷ ms) = (two m, all-pairs sends two ms)
 
 -- rounds on two tables of n variables, under a claim that is false
 module _ (o : Ops) (field : IsField o) (t : TwoTables) (offered : IsOffered t.basis t.order) (n : ℕ) {Y : Type 0} (sends : Y → List ℕ) (two : (y : Y) → length (sends y) ≡ 2)
-    (claim : ℕ) (ms : List Y) (rs : List ℕ) (low : claim < o.size) (count : length ms ≡ n) (wrong : claim ≢ inner o n t.table t.weights) where
+    (claim : ℕ) (ms : List Y) (rs : List ℕ) (low : claim < o.size) (count : length ms ≡ n) (wrong : claim ≢ inner_product o n t.table t.weights) where
   false-first : element o claim ≢ true_claim_on o t [] (length (map sends ms))
   false-first = λ e.
       let begun = walks-begin o field.ring t offered n t.table t.weights _ (λ b _. refl) (λ b _. refl) refl in

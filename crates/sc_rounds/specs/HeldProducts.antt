@@ -4,7 +4,7 @@ use Rattle.std.specs.declared.cmp.PartialEq.{Ghosts as PartialEqOf}
 use Rattle.sc_definitions.specs.Ring.{Ops}
 use Rattle.sc_definitions.specs.Events.{Extension}
 use Rattle.sc_definitions.specs.Channels.{Channel, Wire}
-use Rattle.sc_definitions.specs.Standings.{Setting, Standing}
+use Rattle.sc_definitions.specs.ProverStates.{Setting, ProverState}
 use Rattle.sc_field.specs.declared.field.Field.{Ghosts as FieldOf}
 use Rattle.sc_challenger.specs.Parties.{Party}
 use Rattle.sc_challenger.specs.declared.challenger.Challenger.{Ghosts as ChallengerOf}
@@ -18,7 +18,7 @@ use Rattle.sc_rounds.specs.declared.held_product.HeldProduct.{HeldProduct}
 use Rattle.sc_rounds.specs.declared.product_polynomial.ProductPolynomial.{ProductPolynomial}
 use Rattle.sc_transcript.specs.Batches.{Batch, batch_at, UnderWay}
 use Rattle.sc_rounds.specs.Provers.{held_shown, stored_of}
-use Rattle.sc_definitions.specs.Shown.{Shown, Stored, imaged, setting_at, standing_at}
+use Rattle.sc_definitions.specs.ProverViews.{ProverView, Stored, imaged, setting_at, prover_state_at}
 
 module _ {F EF : Type 0} {e : FieldOf EF} {q : PartialEqOf EF} where
   -- its pair, and the challenge that this is not bound at yet
@@ -29,11 +29,11 @@ module _ {F EF : Type 0} {e : FieldOf EF} {q : PartialEqOf EF} where
   held_in t = t.held
 
   -- what it shows
-  abbrev pub shown_in : HeldProduct F EF e q → Shown
+  abbrev pub shown_in : HeldProduct F EF e q → ProverView
   shown_in t = held_shown e.ops e.number t.poly t.held t.sum
 
   -- what it shows, by the images of its numbers
-  abbrev pub image_in : (ℕ → ℕ) → HeldProduct F EF e q → Shown
+  abbrev pub image_in : (ℕ → ℕ) → HeldProduct F EF e q → ProverView
   image_in h t = imaged h (shown_in t)
 
   -- what is kept of it, by the images of its numbers
@@ -41,24 +41,24 @@ module _ {F EF : Type 0} {e : FieldOf EF} {q : PartialEqOf EF} where
   image_stored_in h t = stored_of (λ x. h (e.number x)) t.poly t.held
 
 -- the batch of so many rounds that is asked of it, over a channel and an extension of a degree, from a challenger's history and a wire on
-abbrev pub batch_asked : Channel → Ops → Shown → Party → Wire → ℕ → ℕ → Batch
-batch_asked c o s party sent degree rounds = batch_at (setting_at c o s) (standing_at s party.history sent) degree rounds
+abbrev pub batch_asked : Channel → Ops → ProverView → Party → Wire → ℕ → ℕ → Batch
+batch_asked c o s party sent degree rounds = batch_at (setting_at c o s) (prover_state_at s party.history sent) degree rounds
 
 module _ {C F EG S P : Type 0} {c : ChallengerOf C F} {f : FieldOf F} {q : PartialEqOf F} {r : RoundShapeOf S} where
   -- what stays where it is played in a transcript
-  abbrev pub setting_over : Extension → Ops → Shown → Transcript C F EG S P c f q r → Setting
+  abbrev pub setting_over : Extension → Ops → ProverView → Transcript C F EG S P c f q r → Setting
   setting_over E o s t = setting_at (channel_of E (driver_in t)) o s
 
   -- where its rounds stand in a transcript, with data
-  abbrev pub standing_over : (EG → ℕ) → Shown → Transcript C F EG S P c f q r → SumcheckData F EG → Standing
-  standing_over sent s t d = standing_at s (driver_in t).history (wire_in f.number sent d)
+  abbrev pub prover_state_over : (EG → ℕ) → ProverView → Transcript C F EG S P c f q r → SumcheckData F EG → ProverState
+  prover_state_over sent s t d = prover_state_at s (driver_in t).history (wire_in f.number sent d)
 
   -- the rounds that are under way there, with the challenges of those before
-  abbrev pub course_over : Extension → Ops → (EG → ℕ) → Shown → Transcript C F EG S P c f q r → SumcheckData F EG → List EG → UnderWay
-  course_over E o sent s t d rs = record { setting = setting_over E o s t; now = standing_over sent s t d; drawn = map sent rs }
+  abbrev pub course_over : Extension → Ops → (EG → ℕ) → ProverView → Transcript C F EG S P c f q r → SumcheckData F EG → List EG → UnderWay
+  course_over E o sent s t d rs = record { setting = setting_over E o s t; now = prover_state_over sent s t d; drawn = map sent rs }
 
 -- A round has drawn r: its tables are kept as they were before it, and r is held.
-pub record Holds (before : Shown) (r : ℕ) (stored : Stored) : Type 0 where
+pub record Holds (before : ProverView) (r : ℕ) (stored : Stored) : Type 0 where
   pub evals : stored.evals ≡ before.evals
   pub weights : stored.weights ≡ before.weights
   pub held : stored.held ≡ Some r

@@ -1,5 +1,5 @@
 pub mod Products
-pub mod Standings
+pub mod ProverStates
 pub mod Placed
 pub mod Provers
 pub mod HeldProducts

@@ -1,9 +1,9 @@
 -- A pair of tables, by the numbers of its entries.
 use Rattle.std.specs.Prelude.{◌≡◌, ℕ, ◌+◌, ◌^◌, ◌<◌, List, map}
 use Rattle.sc_definitions.specs.Ring.{Ops}
-use Rattle.sc_definitions.specs.Tables.{Basis, Order, inner, bound_in}
+use Rattle.sc_definitions.specs.Tables.{Basis, Order, inner_product, folded_in}
 use Rattle.sc_definitions.specs.Messages.{message_of}
-use Rattle.sc_definitions.specs.Standings.{half_rows}
+use Rattle.sc_definitions.specs.ProverStates.{half_rows}
 use Rattle.sc_table.specs.Polys.{variables_of, table_of}
 use Rattle.sc_table.specs.Strategy.{basis_of, order_of}
 use Rattle.sc_table.specs.declared.poly.Poly.{Poly}
@@ -35,7 +35,7 @@ weights_in number p = table_of number p.weights
 
 -- the sum over all rows of the product of the two
 abbrev pub sum_in : {F EF : Type 0} → Ops → (EF → ℕ) → ProductPolynomial F EF → ℕ
-sum_in o number p = inner o (variables_in p) (evals_in number p) (weights_in number p)
+sum_in o number p = inner_product o (variables_in p) (evals_in number p) (weights_in number p)
 
 -- the message of a round on the two
 abbrev pub pair_message : {F EF : Type 0} → Ops → (EF → ℕ) → ProductPolynomial F EF → List ℕ
@@ -47,6 +47,6 @@ pub record BindsPair {F EF : Type 0} (o : Ops) (number : EF → ℕ) (r : ℕ) (
   pub order : order_in new ≡ order_in old
   pub fewer : variables_in old ≡ variables_in new + 1
   pub evals : (b : ℕ) → b < 2 ^ variables_in new →
-      evals_in number new b ≡ bound_in (basis_in old) (order_in old) o (variables_in new) r (evals_in number old) b
+      evals_in number new b ≡ folded_in (basis_in old) (order_in old) o (variables_in new) r (evals_in number old) b
   pub weights : (b : ℕ) → b < 2 ^ variables_in new →
-      weights_in number new b ≡ bound_in (basis_in old) (order_in old) o (variables_in new) r (weights_in number old) b
+      weights_in number new b ≡ folded_in (basis_in old) (order_in old) o (variables_in new) r (weights_in number old) b

@@ -1,17 +1,17 @@
 -- What a prover shows, and constraints that it takes in.
 use Rattle.std.specs.Prelude.{◌≡◌, ℕ, ◌-◌, ◌<◌, List, Option, Some, None}
 use Rattle.sc_definitions.specs.Ring.{Ops, ◌+⟨◌⟩◌, ◌*⟨◌⟩◌}
-use Rattle.sc_definitions.specs.Tables.{Basis, Order, rows_of, bound_in}
+use Rattle.sc_definitions.specs.Tables.{Basis, Order, rows_of, folded_in}
 use Rattle.sc_definitions.specs.Statements.{Statement, batched_weight, batched_claim}
-use Rattle.sc_definitions.specs.Standings.{entries_of}
-use Rattle.sc_statements.specs.declared.constraint.Constraint.{Constraint}
-use Rattle.sc_statements.specs.Constraints.{constraint_arity, constraint_challenge, constraint_power, constraint_statements}
+use Rattle.sc_definitions.specs.ProverStates.{entries_of}
+use Rattle.sc_constraints.specs.declared.constraint.Constraint.{Constraint}
+use Rattle.sc_constraints.specs.Constraints.{constraint_arity, constraint_challenge, constraint_power, constraint_statements}
 use Rattle.sc_rounds.specs.declared.product_polynomial.ProductPolynomial.{ProductPolynomial}
 use Rattle.sc_rounds.specs.Products.{numbers_of, variables_in, basis_in, order_in}
-use Rattle.sc_definitions.specs.Shown.{Shown, Stored, sum_with, weights_plus}
+use Rattle.sc_definitions.specs.ProverViews.{ProverView, Stored, sum_with, weights_plus}
 
 -- what a pair of tables and a claim show
-abbrev pub shown_of : {F EF : Type 0} → (EF → ℕ) → ProductPolynomial F EF → EF → Shown
+abbrev pub shown_of : {F EF : Type 0} → (EF → ℕ) → ProductPolynomial F EF → EF → ProverView
 shown_of number p claim = record {
   basis = basis_in p;
   order = order_in p;
@@ -40,10 +40,10 @@ left_of n (Some r) = n - 1
 -- the entries of a table of n variables, with a challenge bound that is held
 abbrev pub bound_now : {X : Type 0} → Ops → (X → ℕ) → Basis → Order → ℕ → Option X → List ℕ → List ℕ
 bound_now o number basis order n None xs = xs
-bound_now o number basis order n (Some r) xs = entries_of (n - 1) (bound_in basis order o (n - 1) (number r) (rows_of xs))
+bound_now o number basis order n (Some r) xs = entries_of (n - 1) (folded_in basis order o (n - 1) (number r) (rows_of xs))
 
 -- what a pair of tables and a claim show where a challenge is held or none
-abbrev pub held_shown : {F EF : Type 0} → Ops → (EF → ℕ) → ProductPolynomial F EF → Option EF → EF → Shown
+abbrev pub held_shown : {F EF : Type 0} → Ops → (EF → ℕ) → ProductPolynomial F EF → Option EF → EF → ProverView
 held_shown o number p held claim = record {
   basis = basis_in p;
   order = order_in p;
@@ -93,17 +93,17 @@ abbrev pub claim_of : Ops → Stated → ℕ
 claim_of o c = batched_claim o c.challenge c.power c.statements
 
 -- It is on tables of as many variables as are left, and its batched claim is the sum over all rows of evaluation times its batched weights.
-pub record IsTrueConstraint (o : Ops) (s : Shown) (c : Stated) : Type 0 where
+pub record IsTrueConstraint (o : Ops) (s : ProverView) (c : Stated) : Type 0 where
   pub arity : c.arity ≡ s.variables
   pub claim : sum_with o s (weight_of o c) ≡ claim_of o c
 
 -- so is a constraint, if there is one
-abbrev pub IsTrueIfSome : Ops → Shown → Option Stated → Type 0
+abbrev pub IsTrueIfSome : Ops → ProverView → Option Stated → Type 0
 IsTrueIfSome o s None = Unit {0}
 IsTrueIfSome o s (Some c) = IsTrueConstraint o s c
 
 -- the weights with a constraint taken in, if there is one
-abbrev pub weights_with : Ops → Shown → Option Stated → List ℕ
+abbrev pub weights_with : Ops → ProverView → Option Stated → List ℕ
 weights_with o s None = s.weights
 weights_with o s (Some c) = weights_plus o s (weight_of o c)
 
@@ -113,5 +113,5 @@ claim_with o claim None = claim
 claim_with o claim (Some c) = claim +⟨ o ⟩ claim_of o c
 
 -- both
-abbrev pub with_taken : Ops → Shown → Option Stated → Shown
+abbrev pub with_taken : Ops → ProverView → Option Stated → ProverView
 with_taken o s c = record s { weights = weights_with o s c; claim = claim_with o s.claim c }

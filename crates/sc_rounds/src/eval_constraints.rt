@@ -1,12 +1,12 @@
 //! The value of constraints' weights where the challenges end.
 ghost use Rattle.std.specs.Prelude.{◌≡◌, ◌≤◌, All, IfOk, length, map};
 ghost use Rattle.sc_definitions.specs.Tables.{Order, point_of};
-ghost use Rattle.sc_statements.specs.Constraints.{constraint_arity};
+ghost use Rattle.sc_constraints.specs.Constraints.{constraint_arity};
 ghost use Rattle.sc_table.specs.Strategy.{order_of};
-ghost use Rattle.sc_statements.specs.ConstraintValues.{last_of, constraints_value};
+ghost use Rattle.sc_constraints.specs.ConstraintValues.{last_of, constraints_value};
 
+use sc_constraints::Constraint;
 use sc_field::{ExtensionField, Field, NoMemory};
-use sc_statements::Constraint;
 use sc_table::{Basis, Point, VariableOrder};
 use std::alloc::Global;
 

@@ -22,12 +22,12 @@ ghost use Rattle.std.specs.Prelude.{
 ghost use Rattle.sc_definitions.specs.Tables.{entries};
 ghost use Rattle.sc_rounds.specs.Products.{variables_in, sum_in};
 ghost use Rattle.sc_rounds.specs.Provers.{IsLeftFor, shown_of, held_shown};
-ghost use Rattle.sc_definitions.specs.Shown.{KeepsForm, sum_with, IsTrueClaim, with_added};
+ghost use Rattle.sc_definitions.specs.ProverViews.{KeepsForm, sum_with, IsTrueClaim, with_added};
 
 use crate::product_polynomial::ProductPolynomial;
 use sc_challenger::Challenger;
+use sc_constraints::Constraint;
 use sc_field::{ExtensionField, Field, IntoTranscriptField, with_room};
-use sc_statements::Constraint;
 use sc_table::{Point, RoundMessage};
 use sc_transcript::{ProverTranscript, SumcheckData, SumcheckError, SumcheckShape};
 use std::alloc::Global;
@@ -59,12 +59,12 @@ impl<F: Field, EF: ExtensionField<F>> HeldProduct<F, EF> {
       HoldsIfMore,
     };
     ghost use Rattle.sc_rounds.specs.Provers.{stated, IsTrueConstraint, with_taken};
-    ghost use Rattle.sc_definitions.specs.Shown.{
+    ghost use Rattle.sc_definitions.specs.ProverViews.{
       message_shown,
       with_bound,
       with_scaled,
       setting_at,
-      standing_at,
+      prover_state_at,
     };
     ghost use Rattle.sc_rounds.specs.HeldProducts.{
       pair_in,
@@ -73,7 +73,7 @@ impl<F: Field, EF: ExtensionField<F>> HeldProduct<F, EF> {
       image_in,
       image_stored_in,
       setting_over,
-      standing_over,
+      prover_state_over,
       course_over,
       batch_asked,
       Holds,
@@ -205,9 +205,9 @@ impl<F: Field, EF: ExtensionField<F>> HeldProduct<F, EF> {
         ensures counts { CountsOne (driver_in transcript.old) (driver_in transcript.new) result }
         ensures round { Moves EG.number
             (setting_over EG.extension EG.ops (shown_in self.old) transcript.old)
-            (standing_over EG.number
+            (prover_state_over EG.number
             (image_in EF.to_number self.old) transcript.old sumcheck_data.old)
-            (standing_over EG.number
+            (prover_state_over EG.number
             (image_in EF.to_number self.new) transcript.new sumcheck_data.new)
             (driver_in transcript.old).played result }
         ensures kept { OnErr result (shown_in self.new ≡ shown_in self.old) }
@@ -287,7 +287,7 @@ impl<F: Field, EF: ExtensionField<F>> HeldProduct<F, EF> {
             (batch_asked (channel_by (C.party challenger.old) EG.extension G.ops.size pow_bits)
             EG.ops (image_in EF.to_number self.old) (C.party challenger.old)
             (wire_in G.number EG.number sumcheck_data.old) EG.DEGREE rounds)
-            (standing_at (image_in EF.to_number self.new) (C.party challenger.new).history
+            (prover_state_at (image_in EF.to_number self.new) (C.party challenger.new).history
             (wire_in G.number EG.number sumcheck_data.new)) result }
         ensures holds { IfOk result (λ rs. HoldsBatch
             (batch_asked (channel_by (C.party challenger.old) EG.extension G.ops.size pow_bits)

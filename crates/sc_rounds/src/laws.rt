@@ -2,16 +2,16 @@
 ghost use Rattle.std.specs.Prelude.{◌≡◌, ◌≤◌, map};
 ghost use Rattle.sc_definitions.specs.Channels.{empty_wire};
 ghost use Rattle.sc_transcript.specs.Data.{wire_in};
-ghost use Rattle.sc_definitions.specs.Shown.{KeepsForm};
+ghost use Rattle.sc_definitions.specs.ProverViews.{KeepsForm};
 ghost use Rattle.sc_rounds.specs.Placed.{PlayedArePlaced};
 ghost use Rattle.sc_rounds.specs.Provers.{claim_with, stated_if_some};
-ghost use Rattle.sc_rounds.specs.ProverViews.{shown_by, IsNoneOrTrueOf, standing_of, batch_of};
+ghost use Rattle.sc_rounds.specs.ProverViews.{shown_by, IsNoneOrTrueOf, prover_state_of, batch_of};
 ghost use Rattle.sc_transcript.specs.Steps.{BatchesReplay, ReplaysAgree, NoneIsInvalid, LeavesStep};
 
 use crate::strategy::SumcheckProver;
 use sc_challenger::Challenger;
+use sc_constraints::Constraint;
 use sc_field::{ExtensionField, Field};
-use sc_statements::Constraint;
 use sc_table::Point;
 use sc_transcript::{SumcheckData, SumcheckError};
 use std::alloc::Global;
@@ -68,7 +68,7 @@ pub fn batch_in_step<F: Field, EF: ExtensionField<F>, C: Challenger<F>>(
     requires empty { wire_in F.number EF.number sumcheck_data.old ≡ empty_wire }
     ensures step { LeavesStep (map EF.number) EF.number
         (batch_of prover.old constraint sumcheck_data.old (C.party prover_challenger.old) folding_factor pow_bits)
-        (standing_of prover.new sumcheck_data.new (C.party prover_challenger.new).history) (C.party verifier_challenger.old).history (C.party verifier_challenger.new).history result }
+        (prover_state_of prover.new sumcheck_data.new (C.party prover_challenger.new).history) (C.party verifier_challenger.old).history (C.party verifier_challenger.new).history result }
     ensures prover_rules { (C.party prover_challenger.new).rules ≡ (C.party prover_challenger.old).rules }
     ensures verifier_rules { (C.party verifier_challenger.new).rules ≡ (C.party verifier_challenger.old).rules }
     ensures form { KeepsForm (shown_by prover.old) (shown_by prover.new) }

@@ -1,16 +1,16 @@
 //! A table and its weights, on which rounds are played.
 ghost use Rattle.std.specs.Prelude.{◌≡◌, ◌≢◌, ◌⊎◌, ℕ, Err, suc, ◌+◌, ◌<◌, ◌≤◌, ◌^◌, [], ◌∷◌, ◌++◌, IsOk, IfOk, IfErr, OnOk, OnErr, length, map, vec_capacity};
 ghost use Rattle.sc_definitions.specs.Ring.{◌+⟨◌⟩◌, ◌*⟨◌⟩◌};
-ghost use Rattle.sc_definitions.specs.Tables.{evaluation, projective, prefix, IsOffered, entries, value_in, sum_below, inner};
+ghost use Rattle.sc_definitions.specs.Tables.{evaluation, projective, prefix, IsOffered, entries, value_in, sum_below, inner_product};
 ghost use Rattle.sc_definitions.specs.Offers.{IsOffered-prop};
 ghost use Rattle.sc_table.specs.Polys.{variables_of, table_of};
 ghost use Rattle.sc_table.specs.Strategy.{basis_of, order_of};
-ghost use Rattle.sc_statements.specs.Constraints.{constraint_arity, constraint_challenge, constraint_power, constraint_statements};
-ghost use Rattle.sc_claims.specs.Batches.{gathered, AddsBatch};
+ghost use Rattle.sc_constraints.specs.Constraints.{constraint_arity, constraint_challenge, constraint_power, constraint_statements};
+ghost use Rattle.sc_statements.specs.Batches.{gathered, AddsBatch};
 
 use sc_challenger::Challenger;
+use sc_constraints::Constraint;
 use sc_field::{ExtensionField, Field, IntoTranscriptField, NoMemory};
-use sc_statements::Constraint;
 use sc_table::{Basis, Point, Poly, RoundMessage, VariableOrder};
 use sc_transcript::{ProverTranscript, SumcheckData, SumcheckError};
 use std::alloc::Global;
@@ -44,7 +44,7 @@ impl<F: Field, EF: ExtensionField<F>> ProductPolynomial<F, EF> {
       pair_message,
       BindsPair,
     };
-    ghost use Rattle.sc_rounds.specs.Standings.{setting_on, standing_on};
+    ghost use Rattle.sc_rounds.specs.ProverStates.{setting_on, prover_state_on};
     ghost use Rattle.sc_transcript.specs.Batches.{Moves, MovesHonestly, CountsOne, TakesItsRoom};
 
     /// The pair of these tables of values, which have as many variables.
@@ -223,7 +223,7 @@ impl<F: Field, EF: ExtensionField<F>> ProductPolynomial<F, EF> {
     // The sum over all rows of evaluation times another weight.
     pub(crate) fn dot_with(&self, weights: &[EF]) -> EF
         requires { length weights.now ≡ 2 ^ variables_in self.now }
-        ensures { EF.number result ≡ inner EF.ops (variables_in self.now) (evals_in EF.number self.now) (entries EF.number weights.now) }
+        ensures { EF.number result ≡ inner_product EF.ops (variables_in self.now) (evals_in EF.number self.now) (entries EF.number weights.now) }
     {
         dot::<EF, EF>(self.evals.as_slice(), weights)
     }
@@ -250,11 +250,11 @@ impl<F: Field, EF: ExtensionField<F>> ProductPolynomial<F, EF> {
         ensures sum { EF.number sum.new ≡ sum_in EF.ops EF.number self.new }
         ensures counts { CountsOne (driver_in transcript.old) (driver_in transcript.new) result }
 
-        // The message that is sent is the honest pair of the tables before, and the value of a
+        // The message that is sent is the honest message of the tables before, and the value of a
         // bound table is theirs with the challenge placed.
         ensures round { MovesHonestly EF.number (setting_on EF.extension EF.ops self.old transcript.old)
-            (standing_on EF.number EF.number self.old sum.old transcript.old sumcheck_data.old)
-            (standing_on EF.number EF.number self.new sum.new transcript.new sumcheck_data.new) (driver_in transcript.old).played result }
+            (prover_state_on EF.number EF.number self.old sum.old transcript.old sumcheck_data.old)
+            (prover_state_on EF.number EF.number self.new sum.new transcript.new sumcheck_data.new) (driver_in transcript.old).played result }
         ensures kept { OnErr result ((self.new ≡ self.old) × (sum.new ≡ sum.old)) }
         ensures has_room { 1 ≤ spare_in sumcheck_data.old → HasRoom EF.DEGREE (driver_in transcript.old) → result ≢ Err SumcheckError.NoMemory }
         ensures room { TakesItsRoom EF.DEGREE (driver_in transcript.old) (driver_in transcript.new) (spare_in sumcheck_data.old) (spare_in sumcheck_data.new) result }
@@ -281,8 +281,8 @@ impl<F: Field, EF: ExtensionField<F>> ProductPolynomial<F, EF> {
         ensures sum { EF.number sum.new ≡ sum_in EF.ops EF.number self.new }
         ensures counts { CountsOne (driver_in transcript.old) (driver_in transcript.new) result }
         ensures round { Moves EG.number (setting_on EG.extension EG.ops self.old transcript.old)
-            (standing_on (λ x. EF.to_number (EF.number x)) EG.number self.old sum.old transcript.old sumcheck_data.old)
-            (standing_on (λ x. EF.to_number (EF.number x)) EG.number self.new sum.new transcript.new sumcheck_data.new) (driver_in transcript.old).played result }
+            (prover_state_on (λ x. EF.to_number (EF.number x)) EG.number self.old sum.old transcript.old sumcheck_data.old)
+            (prover_state_on (λ x. EF.to_number (EF.number x)) EG.number self.new sum.new transcript.new sumcheck_data.new) (driver_in transcript.old).played result }
         ensures kept { OnErr result ((self.new ≡ self.old) × (sum.new ≡ sum.old)) }
         ensures has_room { 1 ≤ spare_in sumcheck_data.old → HasRoom EG.DEGREE (driver_in transcript.old) → result ≢ Err SumcheckError.NoMemory }
         ensures room { TakesItsRoom EG.DEGREE (driver_in transcript.old) (driver_in transcript.new) (spare_in sumcheck_data.old) (spare_in sumcheck_data.new) result }

@@ -25,7 +25,7 @@ ghost use Rattle.sc_table.specs.Polys.{variables_of};
 ghost use Rattle.sc_table.specs.Strategy.{basis_of, order_of};
 ghost use Rattle.sc_rounds.specs.Products.{sum_in, numbers_of};
 ghost use Rattle.sc_rounds.specs.Provers.{shown_of, held_shown, number_if_some};
-ghost use Rattle.sc_definitions.specs.Shown.{
+ghost use Rattle.sc_definitions.specs.ProverViews.{
   KeepsForm,
   honest_shown,
   with_bound,
@@ -38,8 +38,8 @@ ghost use Rattle.sc_definitions.specs.Shown.{
 use crate::held_product::HeldProduct;
 use crate::product_polynomial::ProductPolynomial;
 use sc_challenger::Challenger;
+use sc_constraints::Constraint;
 use sc_field::{ExtensionField, Field, NoMemory};
-use sc_statements::Constraint;
 use sc_table::{Basis, Point, Poly, RoundMessage, VariableOrder};
 use sc_transcript::{SumcheckData, SumcheckError};
 use std::alloc::Global;
@@ -72,7 +72,7 @@ impl<F: Field, EF: ExtensionField<F>> SumcheckProver<F, EF> {
       IsNoneOrTrueOf,
       shown_with,
       stored_with,
-      standing_of,
+      prover_state_of,
       batch_of,
     };
     ghost use Rattle.sc_rounds.specs.contracts.strategy.SumcheckProver.{the_row};
@@ -296,7 +296,7 @@ impl<F: Field, EF: ExtensionField<F>> SumcheckProver<F, EF> {
         ensures form { KeepsForm (shown_by self.old) (shown_by self.new) }
         ensures batch { LeavesBatch (map EF.number)
             (batch_of self.old constraint sumcheck_data.old (C.party challenger.old) folding_factor pow_bits)
-            (standing_of self.new sumcheck_data.new (C.party challenger.new).history) result }
+            (prover_state_of self.new sumcheck_data.new (C.party challenger.new).history) result }
 
         // The last challenge is held, and the stored tables have all others bound. Where no round
         // is asked for, all that is kept stays, but for a constraint that is taken in.

@@ -4,7 +4,7 @@ use Rattle.std.proofs.lemmas.List.{append-nil}
 use Rattle.sc_definitions.specs.Ring.{Ops, IsRing, IsField, element, plus, minus}
 use Rattle.sc_definitions.specs.Polynomials.{poly_at, poly_minus, AllZero}
 use Rattle.sc_definitions.specs.Roots.{root_count}
-use Rattle.sc_definitions.specs.Rounds.{honest_pair, claim_along}
+use Rattle.sc_definitions.specs.Rounds.{honest_message, claim_along}
 use Rattle.sc_definitions.specs.Transcript.{messages_of, round_events, challenge, challenges}
 use Rattle.sc_definitions.specs.Tables.{IsOffered}
 use Rattle.sc_definitions.specs.TwoTables.{TwoTables}
@@ -61,7 +61,7 @@ two_tables-sound o field t offered =
     let c = pairs_certify o field t offered in
     record { next_element = c.next_element; true_element = c.true_element; certifies = c.round }
 
-pub two_tables-keep : (o : Ops) → IsRing o → (t : TwoTables) → IsOffered t.basis t.order → KeepsTrue (course_on o t) (honest_pair t.basis t.order o t.table t.weights)
+pub two_tables-keep : (o : Ops) → IsRing o → (t : TwoTables) → IsOffered t.basis t.order → KeepsTrue (course_on o t) (honest_message t.basis t.order o t.table t.weights)
 two_tables-keep o ring t offered = record { next = λ rs m r. sym (true_claim-next o ring t.basis t.order offered t.table t.weights rs r m) }
 
 -- a claim on which no rounds are played is turned by none

@@ -2,15 +2,15 @@
 use Rattle.std.proofs.Common.{◌≡◌, ℕ, suc, ◌^◌, List, [], ◌∷◌, ◌++◌, length, map, sym, ◌∙◌, ap, refl, arith}
 use Rattle.std.proofs.lemmas.List.{append-nil}
 use Rattle.sc_definitions.specs.Ring.{Ops, IsRing, IsField, element, plus, times, minus}
-use Rattle.sc_definitions.specs.Tables.{evaluation, prefix, value, inner, bound_in, bound_by}
+use Rattle.sc_definitions.specs.Tables.{evaluation, prefix, value, inner_product, folded_in, folded_by}
 use Rattle.sc_definitions.specs.Messages.{message_first, message_leading}
 use Rattle.sc_definitions.specs.Polynomials.{poly_at}
-use Rattle.sc_definitions.specs.Rounds.{true_claim, slow_leading, slow_round, honest_pair, sent_pair, sent_polynomial, next_claim}
+use Rattle.sc_definitions.specs.Rounds.{true_claim, slow_leading, round_polynomial, honest_message, sent_pair, sent_polynomial, next_claim}
 use Rattle.sc_definitions.proofs.RingLaws.{element-plus, element-zero}
 use Rattle.sc_definitions.proofs.Identity.{atom, nought, unit, ◌⊕◌, ◌⊗◌, ◌⊖◌, Agree, identity, same_element}
 use Rattle.sc_definitions.proofs.PolyLaws.{poly_at-plus, length-plus}
-use Rattle.sc_definitions.proofs.PlacedLaws.{bound_by-append}
-use Rattle.sc_definitions.proofs.RoundLaws.{true_claim-next, true_claim-inner, slow_round-values, honest_pair-message}
+use Rattle.sc_definitions.proofs.PlacedLaws.{folded_by-append}
+use Rattle.sc_definitions.proofs.RoundLaws.{true_claim-next, true_claim-inner, round_polynomial-values, honest_message-message}
 use Rattle.sc_definitions.proofs.BuildLaws.{true_claim-end}
 use Rattle.sc_definitions.proofs.LuckyLaws.{element-true}
 use Rattle.sc_soundness.specs.Courses.{AreSumcheckRounds, IsSound, KeepsTrue}
@@ -46,8 +46,8 @@ module _ (o : Ops) (ring : IsRing o) where
 
   pair-both : (f w : ℕ → ℕ) (rs : List ℕ) (m : ℕ) →
       true_claim evaluation prefix o f w rs (suc m)
-      ≡ plus o (poly_at o (slow_round evaluation prefix o f w rs m) 0) (poly_at o (slow_round evaluation prefix o f w rs m) 1)
-  unfolding next_claim honest_pair sent_polynomial sent_pair poly_at Agree
+      ≡ plus o (poly_at o (round_polynomial evaluation prefix o f w rs m) 0) (poly_at o (round_polynomial evaluation prefix o f w rs m) 1)
+  unfolding next_claim honest_message sent_polynomial sent_pair poly_at Agree
   pair-both f w rs m =
       let t = true_claim evaluation prefix o f w rs (suc m) in
       let a = true_claim evaluation prefix o f w (rs ++ 0 ∷ []) m in
@@ -57,8 +57,8 @@ module _ (o : Ops) (ring : IsRing o) where
       same_element o ring (t ∷ a ∷ l ∷ []) (atom 0) (atom 1 ⊕ (atom 1 ⊕ unit ⊗ ((((atom 0 ⊖ atom 1) ⊖ atom 1) ⊖ atom 2) ⊕ unit ⊗ (atom 2 ⊕ unit ⊗ nought)))) refl
       ∙ ap (λ x. element o (plus o a x)) (sym (true_claim-next o ring evaluation prefix tt f w rs 1 m)) in
       sym (element-true o ring evaluation prefix f w rs (suc m)) ∙ sum ∙ element-plus o ring a b
-      ∙ ap (λ x. plus o x b) (slow_round-values o ring evaluation prefix tt f w rs m 0)
-      ∙ ap (plus o (poly_at o (slow_round evaluation prefix o f w rs m) 0)) (slow_round-values o ring evaluation prefix tt f w rs m 1)
+      ∙ ap (λ x. plus o x b) (round_polynomial-values o ring evaluation prefix tt f w rs m 0)
+      ∙ ap (plus o (poly_at o (round_polynomial evaluation prefix o f w rs m) 0)) (round_polynomial-values o ring evaluation prefix tt f w rs m 1)
 
   -- with no variable left the true claim is the product of the values
   pub pair-end : (f w : ℕ → ℕ) (rs : List ℕ) → true_claim evaluation prefix o f w rs 0 ≡ times o (value o f rs) (value o w rs)
@@ -70,9 +70,9 @@ module _ (o : Ops) (ring : IsRing o) where
   unfolding merged_round merged_claim poly_at Agree
   merged-at [] rs m x = identity o ring (x ∷ []) (nought ⊕ atom 0 ⊗ (nought ⊕ atom 0 ⊗ (nought ⊕ atom 0 ⊗ nought))) nought tt tt refl
   merged-at (p ∷ ps) rs m x =
-      let T = slow_round evaluation prefix o p.table p.weights rs m in
+      let T = round_polynomial evaluation prefix o p.table p.weights rs m in
       poly_at-plus o ring T (merged_round o ps rs m) x
-      ∙ ap (λ t. plus o t (poly_at o (merged_round o ps rs m) x)) (sym (slow_round-values o ring evaluation prefix tt p.table p.weights rs m x))
+      ∙ ap (λ t. plus o t (poly_at o (merged_round o ps rs m) x)) (sym (round_polynomial-values o ring evaluation prefix tt p.table p.weights rs m x))
       ∙ ap (plus o (true_claim evaluation prefix o p.table p.weights (rs ++ x ∷ []) m)) (merged-at ps rs m x)
 
   merged-both : (ps : List WeightedTable) (rs : List ℕ) (m : ℕ) →
@@ -86,17 +86,17 @@ module _ (o : Ops) (ring : IsRing o) where
       let B = merged_claim o ps (rs ++ 1 ∷ []) m in
       ap (λ t. plus o t (merged_claim o ps rs (suc m)))
       (pair-both p.table p.weights rs m
-      ∙ ap (λ x. plus o x (poly_at o (slow_round evaluation prefix o p.table p.weights rs m) 1)) (sym (slow_round-values o ring evaluation prefix tt p.table p.weights rs m 0))
-      ∙ ap (plus o a) (sym (slow_round-values o ring evaluation prefix tt p.table p.weights rs m 1)))
+      ∙ ap (λ x. plus o x (poly_at o (round_polynomial evaluation prefix o p.table p.weights rs m) 1)) (sym (round_polynomial-values o ring evaluation prefix tt p.table p.weights rs m 0))
+      ∙ ap (plus o a) (sym (round_polynomial-values o ring evaluation prefix tt p.table p.weights rs m 1)))
       ∙ ap (plus o (plus o a b)) (merged-both ps rs m)
       ∙ identity o ring (a ∷ b ∷ A ∷ B ∷ []) ((atom 0 ⊕ atom 1) ⊕ (atom 2 ⊕ atom 3)) ((atom 0 ⊕ atom 2) ⊕ (atom 1 ⊕ atom 3)) tt tt refl
 
   length-merged : (ps : List WeightedTable) (rs : List ℕ) (m : ℕ) → length (merged_round o ps rs m) ≡ 3
-  unfolding merged_round slow_round
+  unfolding merged_round round_polynomial
   length-merged [] rs m = refl
   length-merged (p ∷ ps) rs m =
       let three = length-merged ps rs m in
-      length-plus o ring (slow_round evaluation prefix o p.table p.weights rs m) (merged_round o ps rs m) (omega (arith, three)) ∙ three
+      length-plus o ring (round_polynomial evaluation prefix o p.table p.weights rs m) (merged_round o ps rs m) (omega (arith, three)) ∙ three
 
   pub element-merged : (ps : List WeightedTable) (rs : List ℕ) (m : ℕ) → element o (merged_claim o ps rs m) ≡ merged_claim o ps rs m
   unfolding merged_claim
@@ -123,7 +123,7 @@ module _ (o : Ops) (ring : IsRing o) where
   -- what is sent under a sum of claims by a sum of pairs is the sum of what each sends
   merged-next : (ps : List WeightedTable) (rs : List ℕ) (m r : ℕ) →
       next_claim evaluation o (merged_claim o ps rs (suc m)) (honest_merged o ps rs m) r ≡ merged_claim o ps (rs ++ r ∷ []) m
-  unfolding merged_claim merged_leading honest_merged next_claim sent_polynomial sent_pair honest_pair poly_at Agree
+  unfolding merged_claim merged_leading honest_merged next_claim sent_polynomial sent_pair honest_message poly_at Agree
   merged-next [] rs m r =
       let X = atom 0 in
       identity o ring (r ∷ []) (nought ⊕ X ⊗ ((((nought ⊖ nought) ⊖ nought) ⊖ nought) ⊕ X ⊗ (nought ⊕ X ⊗ nought))) nought tt tt refl
@@ -154,14 +154,14 @@ module _ (o : Ops) (ring : IsRing o) where
   -- ---- tables as they stand, with challenges bound
 
   pub merged-message : (ps : List WeightedTable) (rs : List ℕ) (m : ℕ) → honest_merged o ps rs m ≡ merged_message o (2 ^ m) (map (bound_table o rs (suc m)) ps)
-  unfolding honest_merged merged_claim merged_leading merged_message_first merged_message_leading honest_pair
+  unfolding honest_merged merged_claim merged_leading merged_message_first merged_message_leading honest_message
   merged-message [] rs m = refl
   merged-message (p ∷ ps) rs m =
-      let F = bound_by evaluation prefix o rs (suc m) p.table in
-      let W = bound_by evaluation prefix o rs (suc m) p.weights in
+      let F = folded_by evaluation prefix o rs (suc m) p.table in
+      let W = folded_by evaluation prefix o rs (suc m) p.weights in
       let a = true_claim evaluation prefix o p.table p.weights (rs ++ 0 ∷ []) m in
       let l = slow_leading evaluation prefix o p.table p.weights rs m in
-      let pair = honest_pair-message o ring evaluation prefix tt p.table p.weights rs m in
+      let pair = honest_message-message o ring evaluation prefix tt p.table p.weights rs m in
       let first : a ≡ message_first evaluation prefix o (2 ^ m) F W = cc in
       let last : l ≡ message_leading evaluation prefix o (2 ^ m) F W = cc in
       let rest = merged-message ps rs m in
@@ -178,18 +178,18 @@ module _ (o : Ops) (ring : IsRing o) where
   merged-inner [] rs m = refl
   merged-inner (p ∷ ps) rs m =
       ap (λ x. plus o x (merged_claim o ps rs m)) (true_claim-inner o ring evaluation prefix p.table p.weights rs m)
-      ∙ ap (plus o (inner o m (bound_by evaluation prefix o rs m p.table) (bound_by evaluation prefix o rs m p.weights))) (merged-inner ps rs m)
+      ∙ ap (plus o (inner_product o m (folded_by evaluation prefix o rs m p.table) (folded_by evaluation prefix o rs m p.weights))) (merged-inner ps rs m)
 
   -- one challenge more binds each table as it stands
   pub bound-more : (p : WeightedTable) (rs : List ℕ) (r m : ℕ) →
       bound_table o (rs ++ r ∷ []) m p
       ≡ record {
-        table = bound_in evaluation prefix o m r (bound_by evaluation prefix o rs (suc m) p.table);
-        weights = bound_in evaluation prefix o m r (bound_by evaluation prefix o rs (suc m) p.weights);
+        table = folded_in evaluation prefix o m r (folded_by evaluation prefix o rs (suc m) p.table);
+        weights = folded_in evaluation prefix o m r (folded_by evaluation prefix o rs (suc m) p.weights);
       }
   bound-more p rs r m =
-      ap (λ f. record { table = f; weights = bound_by evaluation prefix o (rs ++ r ∷ []) m p.weights }) (bound_by-append evaluation prefix o rs r m p.table)
-      ∙ ap (λ w. record { table = bound_in evaluation prefix o m r (bound_by evaluation prefix o rs (suc m) p.table); weights = w }) (bound_by-append evaluation prefix o rs r m p.weights)
+      ap (λ f. record { table = f; weights = folded_by evaluation prefix o (rs ++ r ∷ []) m p.weights }) (folded_by-append evaluation prefix o rs r m p.table)
+      ∙ ap (λ w. record { table = folded_in evaluation prefix o m r (folded_by evaluation prefix o rs (suc m) p.table); weights = w }) (folded_by-append evaluation prefix o rs r m p.weights)
 
 module _ (o : Ops) (ring : IsRing o) where
   pub merged_rounds-are : (ps : List WeightedTable) → MergedRoundsAre o ps

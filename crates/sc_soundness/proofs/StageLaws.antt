@@ -7,7 +7,7 @@ use Rattle.sc_definitions.specs.Ring.{Ops, IsField, element}
 use Rattle.sc_definitions.specs.Rounds.{claim_along}
 use Rattle.sc_definitions.specs.Polynomials.{AllZero}
 use Rattle.sc_definitions.specs.Roots.{root_count}
-use Rattle.sc_definitions.specs.Lucky.{Course, Turn, first_turn, IsTurn, Luck, in_batch, luck_in, luck_of, IsRoundLuck}
+use Rattle.sc_definitions.specs.Lucky.{Course, Turn, first_turn, IsTurn, LuckyChallenge, in_batch, luck_in, luck_of, IsRoundLuck}
 use Rattle.sc_definitions.proofs.LuckyLaws.{certifies, first-certified, turns}
 use Rattle.sc_soundness.specs.Courses.{IsSound}
 use Rattle.sc_soundness.specs.Stages.{Stage, stage_residual, true_stage_residual, stage_luck, StageLuck, luck_or_later, stages_luck, IsCertifiedIn, IsCertifiedAmong, IsStage, AreLinked, AuditsAreStages}
@@ -43,7 +43,7 @@ module _ (o : Ops) (k : Course) (count width : ℕ) (s : IsSound o k count width
 module _ (o : Ops) (field : IsField o) where
   -- a stage whose claim was false before the challenge was drawn has a lucky challenge, certified, or leaves a false claim
   pub lucky_or_false : (s : Stage) → IsStage o s → (AllZero o s.excess → ⊥) →
-      ((l : Luck) × (stage_luck o s ≡ Some l) × IsCertifiedIn o s l) ⊎ ((stage_luck o s ≡ None) × (stage_residual s ≢ true_stage_residual s))
+      ((l : LuckyChallenge) × (stage_luck o s ≡ Some l) × IsCertifiedIn o s l) ⊎ ((stage_luck o s ≡ None) × (stage_residual s ≢ true_stage_residual s))
   unfolding stage_luck
   lucky_or_false s is some =
       let batch = in_batch s.excess (root_count o s.excess) in

@@ -1,10 +1,10 @@
 -- Rounds over several tables in one, each with its weights, in the order that binds the first variable that is left: their claim is the sum of the tables'.
 use Rattle.std.specs.Prelude.{◌≡◌, ℕ, suc, ◌^◌, List, [], ◌∷◌, ◌++◌, map}
 use Rattle.sc_definitions.specs.Ring.{Ops, ◌+⟨◌⟩◌, ◌*⟨◌⟩◌}
-use Rattle.sc_definitions.specs.Tables.{evaluation, prefix, value, inner, bound_by}
+use Rattle.sc_definitions.specs.Tables.{evaluation, prefix, value, inner_product, folded_by}
 use Rattle.sc_definitions.specs.Messages.{message_first, message_leading}
 use Rattle.sc_definitions.specs.Polynomials.{poly_plus, poly_minus}
-use Rattle.sc_definitions.specs.Rounds.{true_claim, slow_leading, slow_round, sent_polynomial, next_claim}
+use Rattle.sc_definitions.specs.Rounds.{true_claim, slow_leading, round_polynomial, sent_polynomial, next_claim}
 use Rattle.sc_definitions.specs.Lucky.{Course}
 use Rattle.sc_soundness.specs.Courses.{AreSumcheckRounds, KeepsTrue}
 
@@ -26,7 +26,7 @@ merged_leading o (p ∷ ps) rs m = slow_leading evaluation prefix o p.table p.we
 -- its polynomial: the sum of the tables' polynomials
 unfoldable pub merged_round : Ops → List WeightedTable → List ℕ → ℕ → List ℕ
 merged_round o [] rs m = 0 ∷ 0 ∷ 0 ∷ []
-merged_round o (p ∷ ps) rs m = poly_plus o (slow_round evaluation prefix o p.table p.weights rs m) (merged_round o ps rs m)
+merged_round o (p ∷ ps) rs m = poly_plus o (round_polynomial evaluation prefix o p.table p.weights rs m) (merged_round o ps rs m)
 
 -- what an honest round sends: its polynomial at 0, and its leading coefficient
 unfoldable pub honest_merged : Ops → List WeightedTable → List ℕ → ℕ → List ℕ
@@ -48,7 +48,7 @@ merged_course o ps = record { next = next_claim evaluation o; true_after = merge
 
 -- a table and its weights with challenges bound, m variables being left
 abbrev pub bound_table : Ops → List ℕ → ℕ → WeightedTable → WeightedTable
-bound_table o rs m p = record { table = bound_by evaluation prefix o rs m p.table; weights = bound_by evaluation prefix o rs m p.weights }
+bound_table o rs m p = record { table = folded_by evaluation prefix o rs m p.table; weights = folded_by evaluation prefix o rs m p.weights }
 
 -- the sums of the messages' two values, of tables whose halves have so many rows
 unfoldable pub merged_message_first : Ops → ℕ → List WeightedTable → ℕ
@@ -66,7 +66,7 @@ merged_message o half ps = merged_message_first o half ps ∷ merged_message_lea
 -- the sum over all rows of m variables of table times weight, over all tables
 unfoldable pub merged_inner : Ops → ℕ → List WeightedTable → ℕ
 merged_inner o m [] = 0
-merged_inner o m (p ∷ ps) = inner o m p.table p.weights +⟨ o ⟩ merged_inner o m ps
+merged_inner o m (p ∷ ps) = inner_product o m p.table p.weights +⟨ o ⟩ merged_inner o m ps
 
 -- ---- the laws
 

@@ -1,6 +1,9 @@
-pub mod GroupSteps
-pub mod GroupValues
-pub mod FalseGroups
-pub mod ClaimGroups
-pub mod ExcessGroups
-pub mod ConstraintPoints
+pub mod Places
+pub mod Evaluations
+pub mod FalseSteps
+pub mod BatchSteps
+pub mod BatchValues
+pub mod Selecting
+pub mod RowLaws
+pub mod ClaimLaws
+pub mod ExcessLaws

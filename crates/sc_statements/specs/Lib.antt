@@ -1,4 +1,11 @@
-pub mod Groups
-pub mod Constraints
-pub mod FalseClaims
-pub mod ConstraintValues
+pub mod Lists
+pub mod Weights
+pub mod EqStatements
+pub mod EqIterators
+pub mod NextStatements
+pub mod SelectStatements
+pub mod SelectIterators
+pub mod Batches
+pub mod Claimed
+pub mod Rows
+pub mod Gains

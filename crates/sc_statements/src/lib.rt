@@ -1,16 +1,22 @@
-//! Groups of statements on a table's values, and their batch under the powers of one challenge.
+//! Statements on a table's values, in lists of one kind, and what is taken from them one after the
+//! other.
 //!
-//! What a statement says, and the lists of one kind, are those of `sc_claims`, whose names are passed
-//! on. A group is such a list, of whichever kind; contracts see it as the list of its statements.
+//! A statement says that a table has a given value at a given point, or through the successor map, or
+//! that the sum of its entries times powers or products has a given value. Contracts see a statement
+//! as a `Statement` of the definitions, its elements by their numbers, and a list of one kind as the
+//! list of them.
 #![tactic(auto)]
 
-mod constraint;
-pub mod laws;
+mod claim;
+mod evaluated;
+pub mod list;
 mod statement;
+mod weights;
 
-pub use constraint::Constraint;
-pub use sc_claims::{
-    Claim, EqIter, EqStatement, EqWeights, NextStatement, NextWeights, SelectIter, SelectStatement,
-    SelectWeights, StatementList, Weights,
+pub use claim::Claim;
+pub use list::StatementList;
+pub use statement::{
+    EqIter, EqStatement, EqWeights, NextStatement, NextWeights, SelectIter, SelectStatement,
+    SelectWeights,
 };
-pub use statement::Statements;
+pub use weights::Weights;

@@ -6,10 +6,10 @@ use Rattle.std.proofs.lemmas.Nat.{pow_below}
 use Rattle.std.proofs.lemmas.List.Elements.{All-append}
 use Rattle.std.proofs.lemmas.Grind.{take_at_read}
 use Rattle.sc_definitions.specs.Ring.{Ops, IsRing, element, plus, times}
-use Rattle.sc_definitions.specs.Tables.{sum_below, inner, Order, prefix, suffix, evaluation, entries, rows_of, point_of}
+use Rattle.sc_definitions.specs.Tables.{sum_below, inner_product, Order, prefix, suffix, evaluation, entries, rows_of, point_of}
 use Rattle.sc_definitions.specs.Statements.{weight_of, true_value}
-use Rattle.sc_definitions.specs.Grids.{Digit, nought, infinity, ternary, grid_entry, grid_of, grids_of, place_weight, read_off, read_message}
-use Rattle.sc_definitions.specs.Rounds.{honest_pair}
+use Rattle.sc_definitions.specs.Grids.{Digit, digit_zero, infinity, ternary, grid_entry, grid_of, grids_of, place_weight, read_off, read_message}
+use Rattle.sc_definitions.specs.Rounds.{honest_message}
 use Rattle.sc_definitions.proofs.Sums.{sum-same, element-sum}
 use Rattle.sc_field.specs.Products.{products}
 use Rattle.sc_definitions.specs.Combined.{Scaled, combined_weight}
@@ -96,8 +96,8 @@ module _ {EF : Type 0} (number : EF → ℕ) (o : Ops) (ring : IsRing o) (order 
         length_nought = length-map after.zero.items number ∙ added.sized.zero;
         length_infinity = length-map after.infinity.items number ∙ added.sized.infinity;
         at_nought = λ k k_low. numbers-rows number after.zero.items k ∙ added.zero k k_low
-            ∙ value_at (ternary j k ++ nought ∷ []) (entries number before.zero.items k) _
-            (sym (numbers-rows number before.zero.items k) ∙ ap (λ (p : List ℕ × List ℕ). rows_of p.0 k) old_grid ∙ rows-grid_list order o f w nought j m k k_low)
+            ∙ value_at (ternary j k ++ digit_zero ∷ []) (entries number before.zero.items k) _
+            (sym (numbers-rows number before.zero.items k) ∙ ap (λ (p : List ℕ × List ℕ). rows_of p.0 k) old_grid ∙ rows-grid_list order o f w digit_zero j m k k_low)
             (whole.at_nought k k_low);
         at_infinity = λ k k_low. numbers-rows number after.infinity.items k ∙ added.infinity k k_low
             ∙ value_at (ternary j k ++ infinity ∷ []) (entries number before.infinity.items k) _
@@ -117,7 +117,7 @@ module _ {EF : Type 0} (number : EF → ℕ) (o : Ops) (ring : IsRing o) (order 
       refl refl many (length-map c.point number ∙ arity) is gains j low)
 
   entry-element : (u : ℕ → ℕ) (ds : List Digit) (m : ℕ) → element o (grid_entry order o f u ds m) ≡ grid_entry order o f u ds m
-  unfolding grid_entry inner
+  unfolding grid_entry inner_product
   entry-element u ds m = element-sum o ring (2 ^ m) _
 
   -- with the grids of weights added to those of none, they are the grids of these weights
@@ -148,8 +148,8 @@ module _ {EF : Type 0} (number : EF → ℕ) (o : Ops) (ring : IsRing o) (order 
         length_nought = length-map after.zero.items number ∙ added.sized.zero;
         length_infinity = length-map after.infinity.items number ∙ added.sized.infinity;
         at_nought = λ k k_low. numbers-rows number after.zero.items k ∙ added.zero k k_low
-            ∙ value_at (ternary j k ++ nought ∷ []) (entries number before.zero.items k) _
-            (sym (numbers-rows number before.zero.items k) ∙ ap (λ (p : List ℕ × List ℕ). rows_of p.0 k) old_grid ∙ rows-grid_list order o f w nought j m k k_low)
+            ∙ value_at (ternary j k ++ digit_zero ∷ []) (entries number before.zero.items k) _
+            (sym (numbers-rows number before.zero.items k) ∙ ap (λ (p : List ℕ × List ℕ). rows_of p.0 k) old_grid ∙ rows-grid_list order o f w digit_zero j m k k_low)
             (whole.at_nought k k_low);
         at_infinity = λ k k_low. numbers-rows number after.infinity.items k ∙ added.infinity k k_low
             ∙ value_at (ternary j k ++ infinity ∷ []) (entries number before.infinity.items k) _
@@ -293,11 +293,11 @@ message-read o grid shown rs x y same first second = cc (first, second, ap (λ (
 
 -- what is read off a grid that is one of a table's is what an honest round sends
 pub read-honest : (o : Ops) → IsRing o → (order : Order) (n : ℕ) (f w : ℕ → ℕ) (l : ℕ) (gs : List (List ℕ × List ℕ)) (d : List ℕ × List ℕ) (rs : List ℕ) (j : ℕ) →
-    gs ≡ grids_of order o n f w l → j < l → length rs ≡ j → read_message o (get_or gs j d) rs ≡ honest_pair evaluation order o f w rs (n - suc (length rs))
+    gs ≡ grids_of order o n f w l → j < l → length rs ≡ j → read_message o (get_or gs j d) rs ≡ honest_message evaluation order o f w rs (n - suc (length rs))
 read-honest o ring order n f w l gs d rs j is low count =
     ap (λ t. read_message o (get_or t j d) rs) is
     ∙ grids_of-honest o ring order n f w l j d rs low count
-    ∙ ap (λ k. honest_pair evaluation order o f w rs (n - suc k)) (sym count)
+    ∙ ap (λ k. honest_message evaluation order o f w rs (n - suc k)) (sym count)
 
 -- ---- the point that challenges make
 

@@ -6,15 +6,15 @@ use Rattle.std.proofs.lemmas.Bool.{cases_lt}
 use Rattle.std.specs.List.{take-map}
 use Rattle.std.proofs.lemmas.List.{length-map, drop-map, take-append-le, get_or_default, length-set, get_or-set_same, get_or-set_other}
 use Rattle.sc_definitions.specs.Ring.{Ops, IsRing, plus, times}
-use Rattle.sc_definitions.specs.Tables.{Order, prefix, suffix, entries, rows_of, weight, value, inner, digits}
+use Rattle.sc_definitions.specs.Tables.{Order, prefix, suffix, entries, rows_of, equality_weight, value, inner_product, digits}
 use Rattle.sc_definitions.specs.Statements.{successor_weight, weight_of, true_value}
-use Rattle.sc_definitions.specs.Grids.{Digit, nought, infinity, ternary, grid_value, grid_entry, grid_of}
+use Rattle.sc_definitions.specs.Grids.{Digit, digit_zero, infinity, ternary, grid_value, grid_entry, grid_of}
 use Rattle.sc_definitions.specs.Partials.{kept_of, partial}
 use Rattle.sc_definitions.specs.Parts.{Part, Equal, Carry, Done, Omega, part_weight, beside, next_partial, tables_by}
-use Rattle.sc_definitions.specs.Standings.{entries_of}
+use Rattle.sc_definitions.specs.ProverStates.{entries_of}
 use Rattle.sc_definitions.proofs.Lengths.{pow-same}
-use Rattle.sc_definitions.proofs.StandingLaws.{length-entries_of, rows-entries_of}
-use Rattle.sc_definitions.proofs.SameTables.{inner-same}
+use Rattle.sc_definitions.proofs.ProverStateLaws.{length-entries_of, rows-entries_of}
+use Rattle.sc_definitions.proofs.SameTables.{inner_product-same}
 use Rattle.sc_definitions.proofs.TableLaws.{length-digits, value-same}
 use Rattle.sc_definitions.proofs.Identity.{atom, nought as null, ◌⊕◌, ◌⊗◌, Agree, identity}
 use Rattle.sc_definitions.proofs.GridLaws.{length-ternary, grid_entry-same, grid_entry-sum, grid_entry-zero, grid_of-is, grid-is}
@@ -69,7 +69,7 @@ module _ (order : Order) (o : Ops) where
       grid-is order o g v j n (grid_of order o f w j m) (record {
         length_nought = is.length_nought;
         length_infinity = is.length_infinity;
-        at_nought = λ k low. is.at_nought k low ∙ same nought k;
+        at_nought = λ k low. is.at_nought k low ∙ same digit_zero k;
         at_infinity = λ k low. is.at_infinity k low ∙ same infinity k;
       })
 
@@ -98,15 +98,15 @@ module _ (o : Ops) (ring : IsRing o) (order : Order) where
 
   -- the entry under equality weights, times a number, is that of the partial table and the kept coordinates' weights
   pub entry-gained : (f : ℕ → ℕ) (zs : List ℕ) (x : ℕ) (ds : List Digit) (m : ℕ) → length zs ≡ length ds + m →
-      grid_entry order o (partial order o f zs (length ds)) (λ b. times o x (weight o (kept_of order (length ds) zs) b)) ds 0
-      ≡ grid_entry order o f (λ b. times o x (weight o zs b)) ds m
+      grid_entry order o (partial order o f zs (length ds)) (λ b. times o x (equality_weight o (kept_of order (length ds) zs) b)) ds 0
+      ≡ grid_entry order o f (λ b. times o x (equality_weight o zs b)) ds m
   entry-gained f zs x ds m whole =
       let l = length ds in
       let P = partial order o f zs l in
-      let W = weight o (kept_of order l zs) in
+      let W = equality_weight o (kept_of order l zs) in
       grid_entry-times x P W ds 0
       ∙ ap (times o x) (one-product {EF = ℕ} (λ k. k) o ring order P W ds ∙ sym (grid_entry-partial o ring order f zs ds m whole))
-      ∙ sym (grid_entry-times x f (weight o zs) ds m)
+      ∙ sym (grid_entry-times x f (equality_weight o zs) ds m)
 
   -- the entry under successor weights, times a number, is the sum of those of the three tables, each with the weights beside it
   pub entry-gained_next : (f : ℕ → ℕ) (zs : List ℕ) (x : ℕ) (ds : List Digit) (m : ℕ) → length zs ≡ length ds + m →
@@ -154,7 +154,7 @@ poly-length number xs p n is size = length-numbers number xs (variables_of p) (t
 
 -- the equality weights of a point, times a number, are those of its part Equal
 pub equal-has : {EF : Type 0} (number : EF → ℕ) (o : Ops) (x n : ℕ) (zs : List ℕ) (p : Poly EF) → variables_of p ≡ n → length zs ≡ n →
-    ((b : ℕ) → b < 2 ^ n → table_of number p b ≡ times o x (weight o zs b)) → HasRows number (length zs) (λ b. times o x (part_weight o Equal zs b)) p
+    ((b : ℕ) → b < 2 ^ n → table_of number p b ≡ times o x (equality_weight o zs b)) → HasRows number (length zs) (λ b. times o x (part_weight o Equal zs b)) p
 equal-has number o x n zs p many size table = record {
   variables = many ∙ sym size;
   rows = λ b low. table b (subst (λ k. b < 2 ^ k) size low) ∙ ap (times o x) (sym (part-equal o zs b));
@@ -163,7 +163,7 @@ equal-has number o x n zs p many size table = record {
 -- the weights beside three tables are those of the coordinates that a round keeps
 pub beside-has : {EF : Type 0} (number : EF → ℕ) (o : Ops) (order : Order) (x j : ℕ) (near kept : List EF) (equal : Poly EF) (weights : NextPartials EF) →
     length kept ≡ j + 1 → map number kept ≡ kept_of order (j + 1) (map number near) → variables_of equal ≡ length kept →
-    ((b : ℕ) → b < 2 ^ length kept → table_of number equal b ≡ times o x (weight o (map number kept) b)) →
+    ((b : ℕ) → b < 2 ^ length kept → table_of number equal b ≡ times o x (equality_weight o (map number kept) b)) →
     ((y : ℕ) (zs : List ℕ) → HasRows number (length zs) (λ b. times o y (part_weight o Equal zs b)) equal →
     HaveRows number (length zs) (λ part b. times o y (part_weight o (beside order part) zs b)) weights) →
     HaveRows number (suc j) (λ part b. times o x (part_weight o (beside order part) (kept_of order (suc j) (map number near)) b)) weights
@@ -228,25 +228,25 @@ module _ {EF : Type 0} (number : EF → ℕ) (o : Ops) where
 
     -- by its partial table, it gains the grid of a table and equality weights
     equality-gained : (table : ℕ → ℕ) → ((b : ℕ) → b < 2 ^ suc j → table b ≡ partial order o f all (suc j) b) →
-        AddsGrid number o j (grid_of order o table (λ b. times o x (weight o (kept_of order (suc j) near) b)) j 0) old new →
-        AddsGrid number o j (grid_of order o f (λ b. times o x (weight o all b)) j left) old new
+        AddsGrid number o j (grid_of order o table (λ b. times o x (equality_weight o (kept_of order (suc j) near) b)) j 0) old new →
+        AddsGrid number o j (grid_of order o f (λ b. times o x (equality_weight o all b)) j left) old new
     equality-gained table same is =
         let none : suc j + 0 ≡ suc j = omega arith in
         adds-as j _ _ old new
-        (grid-same order o table (partial order o f all (suc j)) _ (λ b. times o x (weight o (kept_of order (suc j) all) b)) j 0
-        (λ b small. same b (subst (λ n. b < 2 ^ n) none small)) (λ b small. ap (λ t. times o x (weight o t b)) kept_all)
+        (grid-same order o table (partial order o f all (suc j)) _ (λ b. times o x (equality_weight o (kept_of order (suc j) all) b)) j 0
+        (λ b small. same b (subst (λ n. b < 2 ^ n) none small)) (λ b small. ap (λ t. times o x (equality_weight o t b)) kept_all)
         ∙ grid-by order o _ _ _ _ j 0 left (λ d k.
         let ds = ternary j k ++ d ∷ [] in
-        ap (λ n. grid_entry order o (partial order o f all n) (λ b. times o x (weight o (kept_of order n all) b)) ds 0) (sym (length-place order o j k d))
+        ap (λ n. grid_entry order o (partial order o f all n) (λ b. times o x (equality_weight o (kept_of order n all) b)) ds 0) (sym (length-place order o j k d))
         ∙ entry-gained o ring order f all x ds left (digits_split k d))) is
 
     -- the same by other names of the order and of the kept coordinates
     pub round-gained : (place : Order) (kept : List ℕ) (table : ℕ → ℕ) → place ≡ order → kept ≡ near → ((b : ℕ) → b < 2 ^ suc j → table b ≡ partial order o f all (suc j) b) →
-        AddsGrid number o j (grid_of place o table (λ b. times o x (weight o (kept_of place (suc j) kept) b)) j 0) old new →
-        AddsGrid number o j (grid_of order o f (λ b. times o x (weight o all b)) j left) old new
+        AddsGrid number o j (grid_of place o table (λ b. times o x (equality_weight o (kept_of place (suc j) kept) b)) j 0) old new →
+        AddsGrid number o j (grid_of order o f (λ b. times o x (equality_weight o all b)) j left) old new
     round-gained place kept table same kept_is tables is = equality-gained table tables
-        (subst (λ t. AddsGrid number o j (grid_of t o table (λ b. times o x (weight o (kept_of t (suc j) near) b)) j 0) old new) same
-        (subst (λ ns. AddsGrid number o j (grid_of place o table (λ b. times o x (weight o (kept_of place (suc j) ns) b)) j 0) old new) kept_is is))
+        (subst (λ t. AddsGrid number o j (grid_of t o table (λ b. times o x (equality_weight o (kept_of t (suc j) near) b)) j 0) old new) same
+        (subst (λ ns. AddsGrid number o j (grid_of place o table (λ b. times o x (equality_weight o (kept_of place (suc j) ns) b)) j 0) old new) kept_is is))
 
     -- by its three tables, the grid of a table and successor weights
     successor-gained : (table : Part → ℕ → ℕ) →
@@ -284,7 +284,7 @@ module _ {EF : Type 0} (number : EF → ℕ) (o : Ops) where
                 (at Done).at_nought k small,
                 (at Carry).at_nought k small,
                 (at Omega).at_nought k small,
-                entry nought k,
+                entry digit_zero k,
                 whole.at_nought k small,
               ));
           infinity = λ k small. is.infinity k small ∙ ap (plus o (entries number old.infinity.items k))
@@ -367,7 +367,7 @@ module _ {EF : Type 0} (number : EF → ℕ) (o : Ops) where
 
 module _ (o : Ops) (ring : IsRing o) where
   -- the weights of a claim on a value
-  pub kind-equality : (on : Bool) (zs : List ℕ) (b : ℕ) → on ≡ false → weight_of o (kind_by on zs) b ≡ weight o zs b
+  pub kind-equality : (on : Bool) (zs : List ℕ) (b : ℕ) → on ≡ false → weight_of o (kind_by on zs) b ≡ equality_weight o zs b
   unfolding weight_of
   kind-equality on zs b is = ap (λ t. weight_of o (kind_by t zs) b) is
 
@@ -388,13 +388,13 @@ module _ (o : Ops) (ring : IsRing o) where
         (subst (λ t. AddsWeights number o (opened t f zs) (λ b. times o (number c.coefficient) (w zs b)) old new) same is))
 
     -- the sum of the entries times these is the value that the claim is on
-    pub value-true : (v : ℕ) → v ≡ inner o (length zs) f (w zs) → v ≡ true_value o (length c.point) f (kind_by c.successor (map number c.point))
+    pub value-true : (v : ℕ) → v ≡ inner_product o (length zs) f (w zs) → v ≡ true_value o (length c.point) f (kind_by c.successor (map number c.point))
     unfolding true_value
     value-true v is =
         let ys = map number c.point in
-        is ∙ ap (λ t. inner o (length t) f (w t)) whole
-        ∙ inner-same o (length ys) f f (w ys) _ (λ b _. refl) (λ b low. sym (kind b low))
-        ∙ ap (λ k. inner o k f (weight_of o (kind_by c.successor ys))) (length-map c.point number)
+        is ∙ ap (λ t. inner_product o (length t) f (w t)) whole
+        ∙ inner_product-same o (length ys) f f (w ys) _ (λ b _. refl) (λ b low. sym (kind b low))
+        ∙ ap (λ k. inner_product o k f (weight_of o (kind_by c.successor ys))) (length-map c.point number)
 
   -- the value that is answered with partial tables
   pub sums-value : {EF : Type 0} (number : EF → ℕ) (order : Order) (f : ℕ → ℕ) (zs : List ℕ) (l : ℕ) (r : EF × EqSvoPartials EF) →
@@ -403,8 +403,8 @@ module _ (o : Ops) (ring : IsRing o) where
   sums-value number order f zs l r is = ap (λ (s : PartialSums). s.value) is
 
   -- the value at a point is the sum of the entries times equality weights
-  pub value-inner : (f : ℕ → ℕ) (zs : List ℕ) → value o f zs ≡ inner o (length zs) f (weight o zs)
-  unfolding value inner
+  pub value-inner : (f : ℕ → ℕ) (zs : List ℕ) → value o f zs ≡ inner_product o (length zs) f (equality_weight o zs)
+  unfolding value inner_product
   value-inner f zs = refl
 
 -- ---- claims at bound points

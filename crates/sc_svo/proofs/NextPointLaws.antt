@@ -5,7 +5,7 @@ use Rattle.std.proofs.Common.{pow-add, Option, None, Some, IfSome}
 use Rattle.std.proofs.lemmas.Nat.{mul-le, pow_pos}
 use Rattle.sc_definitions.specs.Ring.{Ops, IsRing, plus, times}
 use Rattle.std.proofs.lemmas.Bool.{cases_eq}
-use Rattle.sc_definitions.specs.Tables.{Order, prefix, suffix, entries, weight, value, digits}
+use Rattle.sc_definitions.specs.Tables.{Order, prefix, suffix, entries, equality_weight, value, digits}
 use Rattle.sc_definitions.specs.Statements.{successor_weight}
 use Rattle.sc_definitions.specs.Shifts.{shifted, only_at}
 use Rattle.sc_definitions.specs.Parts.{Part, Equal, Carry, Done, Omega, part_weight, part_at, under, next_partial}
@@ -45,16 +45,16 @@ module _ (o : Ops) (order : Order) (f : ℕ → ℕ) (near far : List ℕ) where
 
 module _ {EF : Type 0} (o : Ops) (ring : IsRing o) (number : EF → ℕ) (order : Order) (f : ℕ → ℕ) (near far : List ℕ) (p : Poly EF) where
   -- summed under weights that are moved up, it is the table of a part that is summed so
-  pub moved-rows : (part : Part) (w : ℕ → ℕ) → under order part ≡ Done → ((c : ℕ) → c < 2 ^ length far → w c ≡ weight o far c) →
+  pub moved-rows : (part : Part) (w : ℕ → ℕ) → under order part ≡ Done → ((c : ℕ) → c < 2 ^ length far → w c ≡ equality_weight o far c) →
       HasRows number (length near) (λ a. summed_behind order o (length near) (length far) (shifted 0 w) f a) p →
       HasRows number (length near) (λ a. next_partial order o part f (joined order near far) (length near) a) p
   moved-rows part w is same has = rows-as number (length near) _ _ p (λ a low.
       summed_behind-same order o (length near) (length far) (shifted 0 w) (part_weight o Done far) f a
-      (λ c small. shifted-same 0 (2 ^ length far) w (weight o far) same c small ∙ sym (part-done o far c))
+      (λ c small. shifted-same 0 (2 ^ length far) w (equality_weight o far) same c small ∙ sym (part-done o far c))
       ∙ sym (ap (λ k. summed_behind order o (length near) (length far) (part_weight o k far) f a) is) ∙ sym (part-table o order f near far part a)) has
 
   -- one row of each, times the last weight, is the table of a part that has one row
-  pub carried-rows : (part : Part) (factor : ℕ) (at : ℕ → ℕ) → under order part ≡ Carry → factor ≡ weight o far (2 ^ length far - 1) →
+  pub carried-rows : (part : Part) (factor : ℕ) (at : ℕ → ℕ) → under order part ≡ Carry → factor ≡ equality_weight o far (2 ^ length far - 1) →
       ((a : ℕ) → at a ≡ joined_row order (length near) (length far) a 0) → HasRows number (length near) (λ a. times o factor (f (at a))) p →
       HasRows number (length near) (λ a. next_partial order o part f (joined order near far) (length near) a) p
   carried-rows part factor at is factor_is there has = rows-as number (length near) _ _ p (λ a low.
@@ -62,7 +62,7 @@ module _ {EF : Type 0} (o : Ops) (ring : IsRing o) (number : EF → ℕ) (order 
       ∙ sym (summed_behind-carry o ring order (length near) (length far) far f a refl)
       ∙ sym (ap (λ k. summed_behind order o (length near) (length far) (part_weight o k far) f a) is) ∙ sym (part-table o order f near far part a)) has
 
-  pub last-rows : (part : Part) (factor : ℕ) (at : ℕ → ℕ) → under order part ≡ Omega → factor ≡ weight o far (2 ^ length far - 1) →
+  pub last-rows : (part : Part) (factor : ℕ) (at : ℕ → ℕ) → under order part ≡ Omega → factor ≡ equality_weight o far (2 ^ length far - 1) →
       ((a : ℕ) → at a ≡ joined_row order (length near) (length far) a (2 ^ length far - 1)) → HasRows number (length near) (λ a. times o factor (f (at a))) p →
       HasRows number (length near) (λ a. next_partial order o part f (joined order near far) (length near) a) p
   last-rows part factor at is factor_is there has = rows-as number (length near) _ _ p (λ a low.
@@ -135,7 +135,7 @@ given-as order known o number f h zs kept of (Some d) same table is =
 
 module _ (o : Ops) (ring : IsRing o) (far : List ℕ) where
   -- what is added at row 0 is the part that is carried
-  pub only-carried : (x d last b : ℕ) → last ≡ weight o far (2 ^ length far - 1) → only_at 0 (λ k. times o (times o x last) d) b ≡ times o x (times o d (part_weight o Carry far b))
+  pub only-carried : (x d last b : ℕ) → last ≡ equality_weight o far (2 ^ length far - 1) → only_at 0 (λ k. times o (times o x last) d) b ≡ times o x (times o d (part_weight o Carry far b))
   unfolding Agree
   only-carried x d last zero last_is =
       only_at-here 0 (λ k. times o (times o x last) d) 0 refl
@@ -147,28 +147,28 @@ module _ (o : Ops) (ring : IsRing o) (far : List ℕ) where
       ∙ ap (λ k. times o x (times o d k)) (sym (carry-suc o far b))
 
   -- what is added at the last row is the last row's own part
-  pub only-last : (x d last row b : ℕ) → last ≡ weight o far (2 ^ length far - 1) → row ≡ 2 ^ length far - 1 →
+  pub only-last : (x d last row b : ℕ) → last ≡ equality_weight o far (2 ^ length far - 1) → row ≡ 2 ^ length far - 1 →
       only_at row (λ k. times o (times o x last) d) b ≡ times o x (times o d (part_weight o Omega far b))
   unfolding Agree
   only-last x d last row b last_is row_is = ⊎_elim
       (λ e. only_at-here row (λ k. times o (times o x last) d) b e
       ∙ identity o ring (x ∷ last ∷ d ∷ []) ((atom 0 ⊗ atom 1) ⊗ atom 2) (atom 0 ⊗ (atom 2 ⊗ atom 1)) tt tt refl
-      ∙ ap (λ k. times o x (times o d k)) (last_is ∙ ap (weight o far) (sym (e ∙ row_is)) ∙ sym (omega-last o far b (e ∙ row_is))))
+      ∙ ap (λ k. times o x (times o d k)) (last_is ∙ ap (equality_weight o far) (sym (e ∙ row_is)) ∙ sym (omega-last o far b (e ∙ row_is))))
       (λ n. only_at-elsewhere row (λ k. times o (times o x last) d) b n
       ∙ identity o ring (x ∷ d ∷ []) nought (atom 0 ⊗ (atom 1 ⊗ nought)) tt tt refl
       ∙ ap (λ k. times o x (times o d k)) (sym (omega-before o far b (λ e. n (e ∙ sym row_is)))))
       (cases_eq b row)
 
   -- weights that are moved up by one row are the part that is done
-  pub moved-done : (x d : ℕ) (w : ℕ → ℕ) (b : ℕ) → b < 2 ^ length far → ((c : ℕ) → c < 2 ^ length far → w c ≡ weight o far c) →
+  pub moved-done : (x d : ℕ) (w : ℕ → ℕ) (b : ℕ) → b < 2 ^ length far → ((c : ℕ) → c < 2 ^ length far → w c ≡ equality_weight o far c) →
       times o (times o x d) (shifted 0 w b) ≡ times o x (times o d (part_weight o Done far b))
   unfolding Agree
   moved-done x d w b low same =
-      ap (times o (times o x d)) (shifted-same 0 (2 ^ length far) w (weight o far) same b low ∙ sym (part-done o far b))
+      ap (times o (times o x d)) (shifted-same 0 (2 ^ length far) w (equality_weight o far) same b low ∙ sym (part-done o far b))
       ∙ identity o ring (x ∷ d ∷ part_weight o Done far b ∷ []) ((atom 0 ⊗ atom 1) ⊗ atom 2) (atom 0 ⊗ (atom 1 ⊗ atom 2)) tt tt refl
 
   -- weights as they are are the equality part
-  pub own-done : (x d : ℕ) (w : ℕ → ℕ) (b : ℕ) → b < 2 ^ length far → ((c : ℕ) → c < 2 ^ length far → w c ≡ weight o far c) →
+  pub own-done : (x d : ℕ) (w : ℕ → ℕ) (b : ℕ) → b < 2 ^ length far → ((c : ℕ) → c < 2 ^ length far → w c ≡ equality_weight o far c) →
       times o (times o x d) (w b) ≡ times o x (times o d (part_weight o Equal far b))
   unfolding Agree
   own-done x d w b low same =

@@ -3,7 +3,7 @@ use Rattle.std.proofs.Common.{ℕ, ◌<◌, List, sym, ◌∙◌, ap}
 use Rattle.sc_definitions.specs.Ring.{Ops, IsRing, element}
 use Rattle.sc_definitions.specs.Tables.{evaluation}
 use Rattle.sc_definitions.proofs.RingLaws.{element-small}
-use Rattle.sc_definitions.proofs.PlacedLaws.{placed_entry-bound_by}
+use Rattle.sc_definitions.proofs.PlacedLaws.{partial_value-folded_by}
 use Rattle.sc_table.specs.declared.poly.Poly.{Poly}
 use Rattle.sc_table.specs.Polys.{variables_of, table_of}
 use Rattle.sc_table.proofs.EntryLaws.{entry-below}
@@ -16,5 +16,5 @@ placed_by o ring number below s f rs p is = record {
   rows = λ b low.
       sym (element-small o ring (table_of number p b) (entry-below o number ring below p.evals.items b))
       ∙ ap (element o) (is.rows b low)
-      ∙ sym (placed_entry-bound_by o ring evaluation s.order f rs (variables_of p) b low);
+      ∙ sym (partial_value-folded_by o ring evaluation s.order f rs (variables_of p) b low);
 }

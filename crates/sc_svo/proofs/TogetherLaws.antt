@@ -5,9 +5,9 @@ use Rattle.std.proofs.lemmas.List.{length-replicate}
 use Rattle.std.proofs.Math.Nat.{add-mul, mul-add}
 use Rattle.std.proofs.lemmas.Nat.{pow-add, pow_pos, pow_below, mul-le}
 use Rattle.sc_definitions.specs.Ring.{Ops, IsRing, plus, times}
-use Rattle.sc_definitions.specs.Tables.{Order, prefix, suffix, sum_below, entries, inner}
+use Rattle.sc_definitions.specs.Tables.{Order, prefix, suffix, sum_below, entries, inner_product}
 use Rattle.sc_definitions.specs.Messages.{low_entry, high_entry}
-use Rattle.sc_definitions.specs.Grids.{Digit, nought, one, infinity, ternary, low_row, high_row, grid_value, grid_entry, grid_of}
+use Rattle.sc_definitions.specs.Grids.{Digit, digit_zero, one, infinity, ternary, low_row, high_row, grid_value, grid_entry, grid_of}
 use Rattle.sc_definitions.proofs.RingLaws.{plus-zero, plus_assoc, element-small}
 use Rattle.sc_definitions.proofs.TableLaws.{two_halves}
 use Rattle.sc_definitions.proofs.GridLaws.{low_entry-row, high_entry-row, grid_value-same, grid_of-is}
@@ -80,7 +80,7 @@ module _ (order : Order) (o : Ops) where
   pub value-rest : (f : ℕ → ℕ) (ds : List Digit) (m b : ℕ) → grid_value order o f ds m b ≡ grid_value order o (λ a. f (row_at order (length ds) m b a)) ds 0 0
   unfolding grid_value
   value-rest f [] m b = ap f (sym (row_at-none order m b))
-  value-rest f (nought ∷ ds) m b =
+  value-rest f (digit_zero ∷ ds) m b =
       value-rest (low_entry order f) ds m b ∙ ap (λ t. grid_value order o t ds 0 0) (low-part f (length ds) m b)
   value-rest f (one ∷ ds) m b =
       let none : length ds ≡ length ds + 0 = omega arith in
@@ -105,17 +105,17 @@ module _ {EF : Type 0} (number : EF → ℕ) (o : Ops) (order : Order) (f w : �
   -- The sums have gained the products at the first r choices of the variables after the round's.
   pub record HasRests (r : ℕ) (old new : Sums EF) : Type 0 where
     pub sized : IsSumSized j new
-    pub zero : (k : ℕ) → k < 3 ^ j → entries number new.zero.items k ≡ plus o (entries number old.zero.items k) (sum_below o r (term nought k))
+    pub zero : (k : ℕ) → k < 3 ^ j → entries number new.zero.items k ≡ plus o (entries number old.zero.items k) (sum_below o r (term digit_zero k))
     pub infinity : (k : ℕ) → k < 3 ^ j → entries number new.infinity.items k ≡ plus o (entries number old.infinity.items k) (sum_below o r (term infinity k))
 
   -- all of them
   pub rests-all : (r : ℕ) (old new : Sums EF) → r ≡ 2 ^ m → HasRests r old new → AddsGrid number o j (grid_of order o f w j m) old new
-  unfolding grid_entry inner term
+  unfolding grid_entry inner_product term
   rests-all r old new all is =
       let grid = grid_of-is order o f w j m in
       record {
         sized = is.sized;
-        zero = λ k low. is.zero k low ∙ ap (plus o (entries number old.zero.items k)) (ap (λ n. sum_below o n (term nought k)) all ∙ sym (grid.at_nought k low));
+        zero = λ k low. is.zero k low ∙ ap (plus o (entries number old.zero.items k)) (ap (λ n. sum_below o n (term digit_zero k)) all ∙ sym (grid.at_nought k low));
         infinity = λ k low. is.infinity k low ∙ ap (plus o (entries number old.infinity.items k)) (ap (λ n. sum_below o n (term infinity k)) all ∙ sym (grid.at_infinity k low));
       }
 
@@ -156,8 +156,8 @@ module _ {EF : Type 0} (number : EF → ℕ) (o : Ops) (order : Order) (f w : �
         λ x y z s t x_is y_is e z_is. x_is ∙ ap (λ n. plus o n z) y_is ∙ ap (plus o (plus o t s)) z_is ∙ plus_assoc o ring t s e in
         record {
           sized = adds.sized;
-          zero = λ k low. gain _ _ _ _ _ (adds.zero k low) (so_far.zero k low) (term nought k r) (grid.at_nought k low ∙ term-is g h r k nought tables weights)
-              ∙ ap (λ n. plus o (entries number old.zero.items k) (sum_below o n (term nought k))) next;
+          zero = λ k low. gain _ _ _ _ _ (adds.zero k low) (so_far.zero k low) (term digit_zero k r) (grid.at_nought k low ∙ term-is g h r k digit_zero tables weights)
+              ∙ ap (λ n. plus o (entries number old.zero.items k) (sum_below o n (term digit_zero k))) next;
           infinity = λ k low. gain _ _ _ _ _ (adds.infinity k low) (so_far.infinity k low) (term infinity k r) (grid.at_infinity k low ∙ term-is g h r k infinity tables weights)
               ∙ ap (λ n. plus o (entries number old.infinity.items k) (sum_below o n (term infinity k))) next;
         }

@@ -2,8 +2,8 @@
 use Rattle.std.specs.Prelude.{◌≡◌, ℕ, suc, ◌+◌, ◌-◌, ◌^◌, ◌<◌, List, length}
 use Rattle.std.specs.declared.cmp.PartialEq.{Ghosts as PartialEqOf}
 use Rattle.sc_definitions.specs.Ring.{Ops}
-use Rattle.sc_definitions.specs.Tables.{evaluation, Order, bound_by}
-use Rattle.sc_definitions.specs.Rounds.{honest_pair, placed_entry}
+use Rattle.sc_definitions.specs.Tables.{evaluation, Order, folded_by}
+use Rattle.sc_definitions.specs.Rounds.{honest_message, partial_value}
 use Rattle.sc_definitions.specs.Grids.{grids_of}
 use Rattle.sc_definitions.specs.Combined.{Scaled, combined_weight}
 use Rattle.sc_field.specs.declared.field.Field.{Ghosts as FieldOf}
@@ -46,14 +46,14 @@ pub record IsMadeOn (o : Ops) (order : Order) (f : ℕ → ℕ) (rows : ℕ) (cs
 
 -- what an honest round sends after these challenges, of a table and the weights of the claims
 abbrev pub honest_of : Ops → GridBatch → (ℕ → ℕ) → List ℕ → List ℕ
-honest_of o s f rs = honest_pair evaluation s.order o f (combined_weight o s.claims) rs (s.variables - suc (length rs))
+honest_of o s f rs = honest_message evaluation s.order o f (combined_weight o s.claims) rs (s.variables - suc (length rs))
 
 -- a table of the batch's variables with these challenges' variables bound
 pub record IsBoundBy {EF : Type 0} (o : Ops) (number : EF → ℕ) (s : GridBatch) (f : ℕ → ℕ) (rs : List ℕ) (p : Poly EF) : Type 0 where
   pub variables : length rs + variables_of p ≡ s.variables
-  pub rows : (b : ℕ) → b < 2 ^ variables_of p → table_of number p b ≡ bound_by evaluation s.order o rs (variables_of p) f b
+  pub rows : (b : ℕ) → b < 2 ^ variables_of p → table_of number p b ≡ folded_by evaluation s.order o rs (variables_of p) f b
 
 -- the same by the original table: each entry is that of the table with all these challenges placed
 pub record IsPlacedBy {EF : Type 0} (o : Ops) (number : EF → ℕ) (s : GridBatch) (f : ℕ → ℕ) (rs : List ℕ) (p : Poly EF) : Type 0 where
   pub variables : length rs + variables_of p ≡ s.variables
-  pub rows : (b : ℕ) → b < 2 ^ variables_of p → table_of number p b ≡ placed_entry evaluation s.order o f rs (variables_of p) b
+  pub rows : (b : ℕ) → b < 2 ^ variables_of p → table_of number p b ≡ partial_value evaluation s.order o f rs (variables_of p) b

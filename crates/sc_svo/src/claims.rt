@@ -2,7 +2,13 @@
 
 ghost use Rattle.std.specs.Prelude.{◌≡◌, ℕ, suc, ◌+◌, ◌^◌, ◌<◌, ◌≤◌, List, length, map, IfOk, OnOk};
 ghost use Rattle.sc_definitions.specs.Ring.{◌*⟨◌⟩◌};
-ghost use Rattle.sc_definitions.specs.Tables.{entries, weight, value, inner, digits};
+ghost use Rattle.sc_definitions.specs.Tables.{
+  entries,
+  equality_weight,
+  value,
+  inner_product,
+  digits,
+};
 ghost use Rattle.sc_definitions.specs.Statements.{successor_weight, true_value};
 ghost use Rattle.sc_definitions.specs.Grids.{grid_of};
 ghost use Rattle.sc_definitions.specs.Parts.{Equal, part_weight, beside};
@@ -109,7 +115,7 @@ fn add_equality<F: Field, EF: ExtensionField<F>>(
     requires sized { AreSumsSized sums.old }
     ensures adds { OnOk result (AddsWeights EF.number EF.ops (opened (order_in point.now)
         (entries (λ x. EF.embedding (F.number x)) table.now) (point_in point.now))
-        (λ b. EF.number coefficient *⟨ EF.ops ⟩ weight EF.ops (point_in point.now) b)
+        (λ b. EF.number coefficient *⟨ EF.ops ⟩ equality_weight EF.ops (point_in point.now) b)
         sums.old sums.new) }
     ensures value { IfOk result (λ v. EF.number v ≡ value EF.ops
         (entries (λ x. EF.embedding (F.number x)) table.now) (point_in point.now)) }
@@ -139,7 +145,8 @@ fn add_successor<F: Field, EF: ExtensionField<F>>(
         (entries (λ x. EF.embedding (F.number x)) table.now) (point_in point.now))
         (λ b. EF.number coefficient *⟨ EF.ops ⟩ successor_weight EF.ops (point_in point.now) b)
         sums.old sums.new) }
-    ensures value { IfOk result (λ v. EF.number v ≡ inner EF.ops (length (point_in point.now))
+    ensures value { IfOk result (λ v. EF.number v
+        ≡ inner_product EF.ops (length (point_in point.now))
         (entries (λ x. EF.embedding (F.number x)) table.now)
         (successor_weight EF.ops (point_in point.now))) }
 {
@@ -169,7 +176,7 @@ fn add_round<EF: Field>(
     requires sized { IsSumSized before sums.old }
     ensures { OnOk result (AddsGrid EF.number EF.ops before
         (grid_of (order_of order) EF.ops (entries EF.number partial.now)
-        (λ b. EF.number coefficient *⟨ EF.ops ⟩ weight EF.ops
+        (λ b. EF.number coefficient *⟨ EF.ops ⟩ equality_weight EF.ops
         (coordinates_of (order_of order) (suc before) (map EF.number near.now)) b) before 0)
         sums.old sums.new) }
 {

@@ -2,7 +2,7 @@
 
 ghost use Rattle.std.specs.Prelude.{◌≡◌, ℕ, ◌+◌, ◌^◌, ◌<◌, ◌≤◌, length, map, IfOk};
 ghost use Rattle.sc_definitions.specs.Ring.{◌+⟨◌⟩◌, ◌*⟨◌⟩◌};
-ghost use Rattle.sc_definitions.specs.Tables.{entries, weight, value, digits};
+ghost use Rattle.sc_definitions.specs.Tables.{entries, equality_weight, value, digits};
 ghost use Rattle.sc_table.specs.Polys.{variables_of, table_of};
 ghost use Rattle.sc_table.specs.Strategy.{order_of};
 ghost use Rattle.sc_table.specs.SplitEqs.{split_variables, split_weight};
@@ -25,7 +25,7 @@ pub struct SvoPoint<F: Field, EF: ExtensionField<F>> {
     ghost few: { length near + length far ≤ 40 },
     ghost sized: { split_variables split ≡ length far },
     ghost weighs: { (b : ℕ) → b < 2 ^ length far →
-        split_weight EF.number EF.ops split b ≡ weight EF.ops (map EF.number far) b },
+        split_weight EF.number EF.ops split b ≡ equality_weight EF.ops (map EF.number far) b },
 }
 
 impl<F: Field, EF: ExtensionField<F>> SvoPoint<F, EF> {
@@ -82,7 +82,8 @@ impl<F: Field, EF: ExtensionField<F>> SvoPoint<F, EF> {
     pub fn z_split(&self) -> &SplitEq<F, EF>
         ensures size { split_variables result.now ≡ length (far_in self.now) }
         ensures weights { (b : ℕ) → b < 2 ^ length (far_in self.now) →
-            split_weight EF.number EF.ops result.now b ≡ weight EF.ops (far_in self.now) b }
+            split_weight EF.number EF.ops result.now b
+            ≡ equality_weight EF.ops (far_in self.now) b }
     {
         &self.split
     }
@@ -101,7 +102,8 @@ impl<F: Field, EF: ExtensionField<F>> SvoPoint<F, EF> {
         requires size { length out.old ≡ 2 ^ length (far_in self.now) }
         requires bound { length rs.now ≡ length (near_in self.now) }
         ensures { (b : ℕ) → b < length out.old → entries EF.number out.new b ≡ entries EF.number out.old b
-            +⟨ EF.ops ⟩ EF.number scale *⟨ EF.ops ⟩ value EF.ops (weight EF.ops (point_in self.now))
+            +⟨ EF.ops ⟩ EF.number scale
+            *⟨ EF.ops ⟩ value EF.ops (equality_weight EF.ops (point_in self.now))
             (joined (order_in self.now) (map EF.number rs.now) (digits (length (far_in self.now)) b)) }
     {
         let bound = Point::eval_eq(self.near.as_slice(), rs.as_slice());

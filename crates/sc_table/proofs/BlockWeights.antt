@@ -4,12 +4,12 @@ use Rattle.std.proofs.lemmas.List.{take_all, length-take-le, length-drop, length
 use Rattle.std.proofs.Math.Nat.{mod-lt, mod-eq_of_lt}
 use Rattle.std.proofs.lemmas.Nat.{div_below, pow_pos, div-mul-add, mod-mul-add}
 use Rattle.sc_definitions.specs.Ring.{Ops, IsRing, plus, times, minus}
-use Rattle.sc_definitions.specs.Tables.{sum_below, entries, weight, value}
+use Rattle.sc_definitions.specs.Tables.{sum_below, entries, equality_weight, value}
 use Rattle.sc_definitions.proofs.RingLaws.{times_assoc}
 use Rattle.sc_definitions.proofs.Sums.{sum-same, sum-split, sum-plus}
 use Rattle.sc_definitions.proofs.Identity.{atom, unit, ◌⊕◌, ◌⊗◌, ◌⊖◌, Agree, identity}
-use Rattle.sc_definitions.proofs.TableLaws.{two_halves, weight-low, weight-high, lines-weighted}
-use Rattle.sc_definitions.proofs.BlockLaws.{sum-blocks, sum-times, weight-append}
+use Rattle.sc_definitions.proofs.TableLaws.{two_halves, equality_weight-low, equality_weight-high, lines-weighted}
+use Rattle.sc_definitions.proofs.BlockLaws.{sum-blocks, sum-times, equality_weight-append}
 use Rattle.sc_field.specs.Products.{products}
 use Rattle.sc_table.specs.Blocks.{block_weight}
 use Rattle.sc_table.proofs.EntryLaws.{entry-take, entry-drop}
@@ -99,9 +99,9 @@ pub record IsSplit (o : Ops) (z n : ℕ) (w all : ℕ → ℕ) : Type 0 where
   pub high : (b : ℕ) → b < n → all (n + b) ≡ times o z (w b)
 
 module _ (o : Ops) (ring : IsRing o) where
-  pub split-weight : (z : ℕ) (zs all : List ℕ) → all ≡ z ∷ zs → IsSplit o z (2 ^ length zs) (weight o zs) (weight o all)
-  split-weight z zs all is = subst (λ l. IsSplit o z (2 ^ length zs) (weight o zs) (weight o l)) (sym is)
-      (record { low = weight-low o ring z zs; high = weight-high o ring z zs })
+  pub split-weight : (z : ℕ) (zs all : List ℕ) → all ≡ z ∷ zs → IsSplit o z (2 ^ length zs) (equality_weight o zs) (equality_weight o all)
+  split-weight z zs all is = subst (λ l. IsSplit o z (2 ^ length zs) (equality_weight o zs) (equality_weight o l)) (sym is)
+      (record { low = equality_weight-low o ring z zs; high = equality_weight-high o ring z zs })
 
   -- the sum over both halves is the line through the halves' sums
   pub split-line : (f w all : ℕ → ℕ) (z n : ℕ) → IsSplit o z n w all →
@@ -127,14 +127,14 @@ module _ (o : Ops) (ring : IsRing o) where
     parts b = omega arith
 
     -- row c of block a
-    pub block-at : (zs : List ℕ) (a c : ℕ) → c < n → block_weight o zs n w (a * n + c) ≡ times o (weight o zs a) (w c)
+    pub block-at : (zs : List ℕ) (a c : ℕ) → c < n → block_weight o zs n w (a * n + c) ≡ times o (equality_weight o zs a) (w c)
     unfolding block_weight
     block-at zs a c low =
-        ap (λ k. times o (weight o zs k) (w ((a * n + c) % n))) (div-mul-add a n c low) ∙ ap (λ k. times o (weight o zs a) (w k)) (mod-mul-add a n c low)
+        ap (λ k. times o (equality_weight o zs k) (w ((a * n + c) % n))) (div-mul-add a n c low) ∙ ap (λ k. times o (equality_weight o zs a) (w k)) (mod-mul-add a n c low)
 
     -- the one block of no coordinate
     pub blocks-none : (b : ℕ) → b < n → block_weight o [] n w b ≡ times o 1 (w b)
-    unfolding block_weight weight
+    unfolding block_weight equality_weight
     blocks-none b low = ap (λ k. times o 1 (w k)) (mod-eq_of_lt low)
 
     pub blocks-alone : (zs : List ℕ) (f : ℕ → ℕ) (rows : ℕ) → length zs < 1 → rows ≡ n → products o rows f w ≡ products o rows f (block_weight o zs n w)
@@ -148,17 +148,17 @@ module _ (o : Ops) (ring : IsRing o) where
     unfolding block_weight
     split-blocks z zs all is = subst (λ l. IsSplit o z (2 ^ length zs * n) (block_weight o zs n w) (block_weight o l n w)) (sym is) (record {
       low = λ b below.
-          ap (λ k. times o k (w (b % n))) (weight-low o ring z zs (b / n) (div_below b n (2 ^ length zs) some below))
-          ∙ times_assoc o ring (minus o 1 z) (weight o zs (b / n)) (w (b % n));
+          ap (λ k. times o k (w (b % n))) (equality_weight-low o ring z zs (b / n) (div_below b n (2 ^ length zs) some below))
+          ∙ times_assoc o ring (minus o 1 z) (equality_weight o zs (b / n)) (w (b % n));
       high = λ b below.
           let q = 2 ^ length zs in
           let within : b % n < n = mod-lt b some in
           let row : q * n + b ≡ (q + b / n) * n + b % n = omega (arith, parts b) in
-          ap (λ k. times o (weight o (z ∷ zs) (k / n)) (w (k % n))) row
-          ∙ ap (λ k. times o (weight o (z ∷ zs) k) (w (((q + b / n) * n + b % n) % n))) (div-mul-add (q + b / n) n (b % n) within)
-          ∙ ap (λ k. times o (weight o (z ∷ zs) (q + b / n)) (w k)) (mod-mul-add (q + b / n) n (b % n) within)
-          ∙ ap (λ k. times o k (w (b % n))) (weight-high o ring z zs (b / n) (div_below b n q some below))
-          ∙ times_assoc o ring z (weight o zs (b / n)) (w (b % n));
+          ap (λ k. times o (equality_weight o (z ∷ zs) (k / n)) (w (k % n))) row
+          ∙ ap (λ k. times o (equality_weight o (z ∷ zs) k) (w (((q + b / n) * n + b % n) % n))) (div-mul-add (q + b / n) n (b % n) within)
+          ∙ ap (λ k. times o (equality_weight o (z ∷ zs) (q + b / n)) (w k)) (mod-mul-add (q + b / n) n (b % n) within)
+          ∙ ap (λ k. times o k (w (b % n))) (equality_weight-high o ring z zs (b / n) (div_below b n q some below))
+          ∙ times_assoc o ring z (equality_weight o zs (b / n)) (w (b % n));
     })
 
     -- the sum over all rows is the line through those of the two halves
@@ -188,17 +188,17 @@ module _ (o : Ops) (ring : IsRing o) where
         ∙ ap (λ k. sum_below o k (λ b. times o (f b) (block_weight o all n w b))) (sym size)
 
   -- with the equality weights of the last coordinates, the blocks' weights are those of all coordinates
-  module _ (xs ys : List ℕ) (n : ℕ) (is : n ≡ 2 ^ length ys) (w : ℕ → ℕ) (inner : (c : ℕ) → c < n → w c ≡ weight o ys c) where
-    pub blocks-joined : (b : ℕ) → b < 2 ^ length xs * n → block_weight o xs n w b ≡ weight o (xs ++ ys) b
+  module _ (xs ys : List ℕ) (n : ℕ) (is : n ≡ 2 ^ length ys) (w : ℕ → ℕ) (inner : (c : ℕ) → c < n → w c ≡ equality_weight o ys c) where
+    pub blocks-joined : (b : ℕ) → b < 2 ^ length xs * n → block_weight o xs n w b ≡ equality_weight o (xs ++ ys) b
     unfolding block_weight
     blocks-joined b low =
         let some : 0 < n = omega (arith, is, pow_pos (length ys)) in
         let within : b % n < n = mod-lt b some in
         let back : b / n * n + b % n ≡ b = omega arith in
         let row : b / n * 2 ^ length ys + b % n ≡ b = ap (λ k. b / n * k + b % n) (sym is) ∙ back in
-        ap (times o (weight o xs (b / n))) (inner (b % n) within)
-        ∙ sym (weight-append o ring xs ys (b / n) (b % n) (div_below b n (2 ^ length xs) some low) (subst (λ k. b % n < k) is within))
-        ∙ ap (weight o (xs ++ ys)) row
+        ap (times o (equality_weight o xs (b / n))) (inner (b % n) within)
+        ∙ sym (equality_weight-append o ring xs ys (b / n) (b % n) (div_below b n (2 ^ length xs) some low) (subst (λ k. b % n < k) is within))
+        ∙ ap (equality_weight o (xs ++ ys)) row
 
     pub blocks-value : (f : ℕ → ℕ) (rows : ℕ) → rows ≡ 2 ^ length xs * n → products o rows f (block_weight o xs n w) ≡ value o f (xs ++ ys)
     unfolding products value
@@ -206,7 +206,7 @@ module _ (o : Ops) (ring : IsRing o) where
         let whole : rows ≡ 2 ^ length (xs ++ ys) =
         size ∙ ap (λ k. 2 ^ length xs * k) is ∙ sym (pow-add 2 (length xs) (length ys)) ∙ ap (λ k. 2 ^ k) (sym (length-append xs ys)) in
         sum-same o rows _ _ (λ b low. ap (times o (f b)) (blocks-joined b (subst (λ k. b < k) size low)))
-        ∙ ap (λ k. sum_below o k (λ b. times o (f b) (weight o (xs ++ ys) b))) whole
+        ∙ ap (λ k. sum_below o k (λ b. times o (f b) (equality_weight o (xs ++ ys) b))) whole
 
   -- the value at a point of two parts, of a table that is seen as blocks
   pub value-parts : (f : ℕ → ℕ) (xs ys : List ℕ) → value o f (xs ++ ys) ≡ value o (λ a. value o (λ c. f (a * 2 ^ length ys + c)) ys) xs
@@ -214,9 +214,9 @@ module _ (o : Ops) (ring : IsRing o) where
   value-parts f xs ys =
       let Q = 2 ^ length xs in let P = 2 ^ length ys in
       let big : 2 ^ length (xs ++ ys) ≡ Q * P = ap (λ k. 2 ^ k) (length-append xs ys) ∙ pow-add 2 (length xs) (length ys) in
-      ap (λ k. sum_below o k (λ b. times o (f b) (weight o (xs ++ ys) b))) big
-      ∙ sum-blocks o ring Q P (λ b. times o (f b) (weight o (xs ++ ys) b))
+      ap (λ k. sum_below o k (λ b. times o (f b) (equality_weight o (xs ++ ys) b))) big
+      ∙ sum-blocks o ring Q P (λ b. times o (f b) (equality_weight o (xs ++ ys) b))
       ∙ sum-same o Q _ _ (λ a la.
-      sum-same o P _ _ (λ c lc. ap (times o (f (a * P + c))) (weight-append o ring xs ys a c la lc)
-      ∙ identity o ring (f (a * P + c) ∷ weight o xs a ∷ weight o ys c ∷ []) (atom 0 ⊗ (atom 1 ⊗ atom 2)) ((atom 0 ⊗ atom 2) ⊗ atom 1) tt tt refl)
-      ∙ sym (sum-times o ring P (weight o xs a) (λ c. times o (f (a * P + c)) (weight o ys c))))
+      sum-same o P _ _ (λ c lc. ap (times o (f (a * P + c))) (equality_weight-append o ring xs ys a c la lc)
+      ∙ identity o ring (f (a * P + c) ∷ equality_weight o xs a ∷ equality_weight o ys c ∷ []) (atom 0 ⊗ (atom 1 ⊗ atom 2)) ((atom 0 ⊗ atom 2) ⊗ atom 1) tt tt refl)
+      ∙ sym (sum-times o ring P (equality_weight o xs a) (λ c. times o (f (a * P + c)) (equality_weight o ys c))))

@@ -3,7 +3,7 @@ use Rattle.std.proofs.Common.{◌≡◌, ℕ, zero, suc, ◌+◌, ◌-◌, ◌^�
 use Rattle.std.proofs.lemmas.Bool.{cases_eq}
 use Rattle.std.proofs.lemmas.List.{length-append, length-set, length-take-le, length-drop}
 use Rattle.sc_definitions.specs.Ring.{Ops, IsRing, plus}
-use Rattle.sc_definitions.specs.Tables.{entries, weight}
+use Rattle.sc_definitions.specs.Tables.{entries, equality_weight}
 use Rattle.sc_definitions.specs.Shifts.{shifted, only_at}
 use Rattle.sc_definitions.specs.Statements.{successor_weight}
 use Rattle.sc_definitions.proofs.RingLaws.{element-small, plus-zero}
@@ -85,14 +85,14 @@ module _ (n : ℕ) (f g : ℕ → ℕ) (same : (b : ℕ) → b < n → f b ≡ g
 
 -- they are the successor weights
 pub successor-moved : (o : Ops) → IsRing o → {X : Type 0} (number : X → ℕ) (rows : List X) (table : ℕ → ℕ) (zs : List ℕ) (n : ℕ) → length zs ≡ n → entries number rows ≡ table → length rows ≡ 2 ^ n →
-    ((b : ℕ) → b < 2 ^ n → table b ≡ weight o zs b) → (b : ℕ) → b < 2 ^ n →
+    ((b : ℕ) → b < 2 ^ n → table b ≡ equality_weight o zs b) → (b : ℕ) → b < 2 ^ n →
     plus o (shifted 0 (entries number rows) b) (only_at (length rows - 1) (entries number rows) b) ≡ successor_weight o zs b
 successor-moved o ring number rows table zs n arity is size weights b low =
     let N = 2 ^ n in
     let sized : 2 ^ length zs ≡ N = ap (λ k. 2 ^ k) arity in
     ap (λ f. plus o (shifted 0 f b) (only_at (length rows - 1) f b)) is
     ∙ ap (λ k. plus o (shifted 0 table b) (only_at (k - 1) table b)) size
-    ∙ ap (λ k. plus o k (only_at (N - 1) table b)) (shifted-same N table (weight o zs) weights b low)
-    ∙ ap (plus o (shifted 0 (weight o zs) b)) (only_at-same N table (weight o zs) weights (N - 1) b low)
-    ∙ ap (λ k. plus o (shifted 0 (weight o zs) b) (only_at (k - 1) (weight o zs) b)) (sym sized)
+    ∙ ap (λ k. plus o k (only_at (N - 1) table b)) (shifted-same N table (equality_weight o zs) weights b low)
+    ∙ ap (plus o (shifted 0 (equality_weight o zs) b)) (only_at-same N table (equality_weight o zs) weights (N - 1) b low)
+    ∙ ap (λ k. plus o (shifted 0 (equality_weight o zs) b) (only_at (k - 1) (equality_weight o zs) b)) (sym sized)
     ∙ sym (successor-parts o ring zs b (omega (arith, low, sized)))

@@ -6,14 +6,14 @@ use Rattle.std.proofs.Math.Nat.{mod-lt, mul-div_cancel_left, add-mul}
 use Rattle.std.proofs.Math.Pow.{pow_mono}
 use Rattle.std.proofs.lemmas.Nat.{pow_pos, mul-le, div_below, div-mul-add, mod-mul-add}
 use Rattle.sc_definitions.specs.Ring.{Ops, IsRing, plus, times}
-use Rattle.sc_definitions.specs.Tables.{sum_below, entries, weight}
+use Rattle.sc_definitions.specs.Tables.{sum_below, entries, equality_weight}
 use Rattle.sc_definitions.specs.Shifts.{shifted}
 use Rattle.sc_definitions.specs.Partials.{summed_first, summed_last}
 use Rattle.sc_definitions.proofs.Lengths.{pow-same}
 use Rattle.sc_definitions.proofs.RingLaws.{times_assoc, times_comm, times-one, times-zero, plus_comm, plus-zero, element-small}
 use Rattle.sc_definitions.proofs.Sums.{sum-same, times-sum, element-sum}
 use Rattle.sc_definitions.proofs.SuccessorLaws.{element-weight, sum-first, shifted-zero, shifted-suc}
-use Rattle.sc_definitions.proofs.BlockLaws.{weight-append}
+use Rattle.sc_definitions.proofs.BlockLaws.{equality_weight-append}
 use Rattle.sc_definitions.proofs.Identity.{atom, nought, unit, ◌⊕◌, ◌⊗◌, Agree, identity}
 use Rattle.sc_field.specs.Products.{products}
 use Rattle.sc_field.specs.Written.{HasWritten}
@@ -43,9 +43,9 @@ module _ (o : Ops) (ring : IsRing o) where
   -- The products of two tables are the weights of a point, of which the first has those of the front, with a scale, and the second those of the back.
   pub parts-weigh : {X : Type 0} (number : X → ℕ) (front back z : List X) (scale one k : ℕ) (u v : ℕ → ℕ) → front ++ back ≡ z → k ≡ length back →
       one ≡ 1 →
-      ((a : ℕ) → a < 2 ^ length front → u a ≡ times o scale (weight o (map number front) a)) →
-      ((c : ℕ) → c < 2 ^ length back → v c ≡ times o one (weight o (map number back) c)) →
-      (b : ℕ) → b < 2 ^ length z → times o (u (b / 2 ^ k)) (v (b % 2 ^ k)) ≡ times o scale (weight o (map number z) b)
+      ((a : ℕ) → a < 2 ^ length front → u a ≡ times o scale (equality_weight o (map number front) a)) →
+      ((c : ℕ) → c < 2 ^ length back → v c ≡ times o one (equality_weight o (map number back) c)) →
+      (b : ℕ) → b < 2 ^ length z → times o (u (b / 2 ^ k)) (v (b % 2 ^ k)) ≡ times o scale (equality_weight o (map number z) b)
   parts-weigh number front back z scale one k u v joined k_is one_is first second b low =
       let n = length front in
       let xs = map number front in
@@ -57,15 +57,15 @@ module _ (o : Ops) (ring : IsRing o) where
       let size : length z ≡ n + k = ap length (sym joined) ∙ length-append front back ∙ ap (λ m. n + m) (sym k_is) in
       let a_low : a < 2 ^ n = high-digits n k b (subst (λ m. b < 2 ^ m) size low) in
       let c_low : c < 2 ^ k = low-digits k b in
-      let w = weight o ys c in
+      let w = equality_weight o ys c in
       let row : a * 2 ^ length ys + c ≡ b = ap (λ m. a * 2 ^ m + c) backs ∙ omega arith in
       let plain : v c ≡ w = second c (subst (λ m. c < 2 ^ m) k_is c_low) ∙ ap (λ m. times o m w) one_is ∙ times_comm o ring 1 w
       ∙ times-one o ring w ∙ element-weight o ring ys c in
-      ap (λ m. times o m (v c)) (first a a_low) ∙ ap (times o (times o scale (weight o xs a))) plain ∙ times_assoc o ring scale (weight o xs a) w
-      ∙ ap (times o scale) (sym (weight-append o ring xs ys a c (subst (λ m. a < 2 ^ m) (sym fronts) a_low)
+      ap (λ m. times o m (v c)) (first a a_low) ∙ ap (times o (times o scale (equality_weight o xs a))) plain ∙ times_assoc o ring scale (equality_weight o xs a) w
+      ∙ ap (times o scale) (sym (equality_weight-append o ring xs ys a c (subst (λ m. a < 2 ^ m) (sym fronts) a_low)
       (subst (λ m. c < 2 ^ m) (sym backs) c_low))
-      ∙ ap (weight o (xs ++ ys)) row
-      ∙ ap (λ l. weight o l b) (sym (map-append number front back) ∙ ap (map number) joined))
+      ∙ ap (equality_weight o (xs ++ ys)) row
+      ∙ ap (λ l. equality_weight o l b) (sym (map-append number front back) ∙ ap (map number) joined))
 
 -- ---- blocks of rows, as many as the outer table has, each of as many as the inner one
 

@@ -5,10 +5,10 @@ use Rattle.std.proofs.lemmas.List.{length-map, append-nil}
 use Rattle.std.proofs.Math.Pow.{pow_mono}
 use lib.ListN.{length-set}
 use Rattle.sc_definitions.specs.Ring.{Ops, IsRing, element, times, minus}
-use Rattle.sc_definitions.specs.Tables.{entries, weight}
+use Rattle.sc_definitions.specs.Tables.{entries, equality_weight}
 use Rattle.sc_definitions.proofs.RingLaws.{times-one}
 use Rattle.sc_definitions.proofs.Identity.{atom, unit, ◌⊗◌, ◌⊖◌, Agree, identity}
-use Rattle.sc_definitions.proofs.TableLaws.{two_halves, weight-low, weight-high}
+use Rattle.sc_definitions.proofs.TableLaws.{two_halves, equality_weight-low, equality_weight-high}
 use Rattle.sc_table.proofs.EntryLaws.{entry-set_same, entry-set_other, entry-append_left, entry-append_last}
 
 -- The first i of the old entries are split: what z leaves of each stands in its place, and what z takes
@@ -63,12 +63,12 @@ pub record IsWeighted {X : Type 0} (number : X → ℕ) (o : Ops) (scale : ℕ) 
   pub done : List X
   pub parts : all ≡ rest ++ done
   pub size : length items ≡ 2 ^ length done
-  pub weights : (b : ℕ) → b < 2 ^ length done → entries number items b ≡ times o scale (weight o (map number done) b)
+  pub weights : (b : ℕ) → b < 2 ^ length done → entries number items b ≡ times o scale (equality_weight o (map number done) b)
 
 module _ {X : Type 0} (number : X → ℕ) (o : Ops) (ring : IsRing o) (scale : ℕ) (all : List X) where
   -- the one entry `scale`, where no coordinate has been taken
   pub weighted-none : (x : X) (items : List X) → items ≡ x ∷ [] → number x ≡ scale → element o scale ≡ scale → IsWeighted number o scale all all items
-  unfolding weight entries
+  unfolding equality_weight entries
   weighted-none x items is x_is small = record {
     done = [];
     parts = sym (append-nil all);
@@ -108,8 +108,8 @@ module _ {X : Type 0} (number : X → ℕ) (o : Ops) (ring : IsRing o) (scale : 
             (λ less.
             low b (omega (arith, so_far.size, less))
             ∙ ap (λ k. minus o k (times o k (number z))) (so_far.weights b less)
-            ∙ low_weight (weight o numbers b) (number z)
-            ∙ ap (times o scale) (sym (weight-low o ring (number z) numbers b (omega (arith, p_is, less)))))
+            ∙ low_weight (equality_weight o numbers b) (number z)
+            ∙ ap (times o scale) (sym (equality_weight-low o ring (number z) numbers b (omega (arith, p_is, less)))))
             (λ more.
             let c = b - p in
             let top : b < p + p = subst (λ k. b < k) (two_halves (length done)) below in
@@ -119,9 +119,9 @@ module _ {X : Type 0} (number : X → ℕ) (o : Ops) (ring : IsRing o) (scale : 
             ap (entries number items') (sym back)
             ∙ high c (omega (arith, so_far.size, c_low))
             ∙ ap (λ k. times o k (number z)) (so_far.weights c c_low)
-            ∙ high_weight (weight o numbers c) (number z)
-            ∙ ap (times o scale) (sym (weight-high o ring (number z) numbers c (omega (arith, p_is, c_low))))
-            ∙ ap (λ k. times o scale (weight o (number z ∷ numbers) k)) back')
+            ∙ high_weight (equality_weight o numbers c) (number z)
+            ∙ ap (times o scale) (sym (equality_weight-high o ring (number z) numbers c (omega (arith, p_is, c_low))))
+            ∙ ap (λ k. times o scale (equality_weight o (number z ∷ numbers) k)) back')
             (cases_lt b p);
       }
 
@@ -138,10 +138,10 @@ module _ {X : Type 0} (number : X → ℕ) (o : Ops) (scale : ℕ) (all : List X
 
   -- where all coordinates have been taken
   pub weighted-all : (rest items : List X) → length rest ≡ 0 → IsWeighted number o scale all rest items →
-      (length items ≡ 2 ^ length all) × ((b : ℕ) → b < 2 ^ length all → entries number items b ≡ times o scale (weight o (map number all) b))
+      (length items ≡ 2 ^ length all) × ((b : ℕ) → b < 2 ^ length all → entries number items b ≡ times o scale (equality_weight o (map number all) b))
   weighted-all [] items none so_far =
       let same : so_far.done ≡ all = sym so_far.parts in (
         so_far.size ∙ ap (λ l. 2 ^ length l) same,
-        subst (λ l. (b : ℕ) → b < 2 ^ length l → entries number items b ≡ times o scale (weight o (map number l) b)) same so_far.weights,
+        subst (λ l. (b : ℕ) → b < 2 ^ length l → entries number items b ≡ times o scale (equality_weight o (map number l) b)) same so_far.weights,
       )
   weighted-all (x ∷ rest) items none so_far = absurd (omega (arith, none))

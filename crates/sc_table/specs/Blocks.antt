@@ -4,7 +4,7 @@ use prog.Memory.{size}
 use denote.RattleType.{RattleType}
 use denote.Param.{layout}
 use Rattle.sc_definitions.specs.Ring.{Ops, ◌*⟨◌⟩◌}
-use Rattle.sc_definitions.specs.Tables.{sum_below, weight}
+use Rattle.sc_definitions.specs.Tables.{sum_below, equality_weight}
 pub use Rattle.sc_field.specs.Written.{HasWritten}
 
 -- A block of 256 values of a type has so few bytes that it is an array.
@@ -17,4 +17,4 @@ sum_from o from n f = sum_below o n (λ k. f (from + k))
 
 -- The weights of rows in blocks of n: the equality weight of the block, at a point, times the weight w of the row in its block.
 unfoldable pub block_weight : Ops → List ℕ → ℕ → (ℕ → ℕ) → ℕ → ℕ
-block_weight o zs n w b = weight o zs (b / n) *⟨ o ⟩ w (b % n)
+block_weight o zs n w b = equality_weight o zs (b / n) *⟨ o ⟩ w (b % n)

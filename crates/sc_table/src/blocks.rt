@@ -5,7 +5,7 @@
 
 ghost use Rattle.std.specs.Prelude.{◌≡◌, ℕ, ◌+◌, ◌*◌, ◌^◌, ◌<◌, ◌≤◌, ◌++◌, true, length, map};
 ghost use Rattle.sc_definitions.specs.Ring.{◌+⟨◌⟩◌, ◌*⟨◌⟩◌};
-ghost use Rattle.sc_definitions.specs.Tables.{entries, weight, value};
+ghost use Rattle.sc_definitions.specs.Tables.{entries, equality_weight, value};
 ghost use Rattle.sc_field.specs.Products.{products};
 ghost use Rattle.sc_table.specs.Blocks.{block_weight, FitsInBlocks};
 
@@ -33,7 +33,8 @@ pub fn fits_in_blocks<E: Field>() -> bool
 pub fn block_weights<E: Field>(z: &[E]) -> [E; 256]
     requires fits { FitsInBlocks E.row }
     requires coordinates { length z.now ≡ 8 }
-    ensures { (b : ℕ) → b < 256 → entries E.number result b ≡ weight E.ops (map E.number z.now) b }
+    ensures { (b : ℕ) → b < 256
+        → entries E.number result b ≡ equality_weight E.ops (map E.number z.now) b }
 {
     let mut weights = [E::ZERO; 256];
     add_equality(&mut weights, z, E::ONE);
@@ -46,7 +47,7 @@ pub fn joined_block_weights<E: Field>(front: &[E], back: &[E]) -> [E; 256]
     requires fits { FitsInBlocks E.row }
     requires coordinates { length front.now + length back.now ≡ 8 }
     ensures { (b : ℕ) → b < 256 → entries E.number result b
-        ≡ weight E.ops (map E.number front.now ++ map E.number back.now) b }
+        ≡ equality_weight E.ops (map E.number front.now ++ map E.number back.now) b }
 {
     let mut z = [E::ZERO; BLOCK_COORDINATES];
     write_joined(&mut z, front, back);
@@ -130,7 +131,7 @@ pub fn add_equality<EF: Field>(rows: &mut [EF], z: &[EF], scale: EF)
     ensures { (b : ℕ) → b < 2 ^ length z.now →
         entries EF.number rows.new b
         ≡ entries EF.number rows.old b +⟨ EF.ops ⟩ EF.number scale
-        *⟨ EF.ops ⟩ weight EF.ops (map EF.number z.now) b }
+        *⟨ EF.ops ⟩ equality_weight EF.ops (map EF.number z.now) b }
 {
     match z {
         [] => rows[0] = rows[0].add(scale),

@@ -3,7 +3,7 @@
 ghost use Rattle.std.specs.Prelude.{◌≡◌, ℕ, ◌+◌, ◌-◌, ◌*◌, ◌/◌, ◌^◌, ◌<◌, ◌≤◌, [], ◌∷◌, ◌++◌, List, length, map, IfOk, vec_len, vec_capacity};
 ghost use Rattle.std.specs.Borrow.{sem};
 ghost use Rattle.sc_definitions.specs.Ring.{◌+⟨◌⟩◌, ◌-⟨◌⟩◌, ◌*⟨◌⟩◌};
-ghost use Rattle.sc_definitions.specs.Tables.{entries, weight, value, bound, bound_low};
+ghost use Rattle.sc_definitions.specs.Tables.{entries, equality_weight, value, bound, bound_low};
 ghost use Rattle.sc_definitions.specs.Statements.{successor_weight};
 ghost use Rattle.sc_definitions.specs.Shifts.{shifted, only_at};
 ghost use Rattle.sc_table.specs.Blocks.{HasWritten};
@@ -58,7 +58,8 @@ impl<A: Field> Poly<A> {
         requires { length z.now ≤ most_table_variables }
         ensures variables { IfOk result (λ p. variables_of p ≡ length z.now) }
         ensures table { IfOk result (λ p. (b : ℕ) → b < 2 ^ length z.now →
-            table_of A.number p b ≡ A.number scale *⟨ A.ops ⟩ weight A.ops (map A.number z.now) b) }
+            table_of A.number p b
+            ≡ A.number scale *⟨ A.ops ⟩ equality_weight A.ops (map A.number z.now) b) }
     {
         let variables = z.len();
         let mut evals = Vec::with_capacity(alloc, 1 << variables)?;

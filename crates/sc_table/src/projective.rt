@@ -2,7 +2,7 @@
 //! table in either basis.
 
 ghost use Rattle.std.specs.Prelude.{◌≡◌, ◌↔◌, IsTrue, ℕ, suc, ◌+◌, ◌^◌, ◌<◌, ◌≤◌, List, ◌∷◌, length, map, IfOk};
-ghost use Rattle.sc_definitions.specs.Tables.{IsOffered, entries, coefficient_value, value_in, bound_coefficients, bound_in};
+ghost use Rattle.sc_definitions.specs.Tables.{IsOffered, entries, coefficient_value, value_in, bound_coefficients, folded_in};
 ghost use Rattle.sc_table.specs.Blocks.{HasWritten};
 ghost use Rattle.sc_table.specs.Polys.{variables_of, table_of, IsFixedIn};
 ghost use Rattle.sc_table.specs.Strategy.{basis_of, order_of};
@@ -147,7 +147,7 @@ impl Basis {
         requires offered { IsOffered (basis_of self) (order_of order) }
         ensures fewer { IfOk result (λ p. length evals.now ≡ 2 ^ (variables_of p + 1)) }
         ensures rows { IfOk result (λ p. (b : ℕ) → b < 2 ^ variables_of p → table_of A.number p b
-            ≡ bound_in (basis_of self) (order_of order) A.ops (variables_of p) (A.number r) (λ b. A.embedding (entries B.number evals.now b)) b) }
+            ≡ folded_in (basis_of self) (order_of order) A.ops (variables_of p) (A.number r) (λ b. A.embedding (entries B.number evals.now b)) b) }
     {
         match self {
             Basis::Evaluation => order.fix_var_slice(alloc, evals, r),

@@ -2,7 +2,7 @@
 
 ghost use Rattle.std.specs.Prelude.{◌≡◌, ℕ, ◌+◌, ◌-◌, ◌*◌, ◌/◌, ◌^◌, ◌<◌, ◌≤◌, length, map, IfOk};
 ghost use Rattle.sc_definitions.specs.Ring.{◌+⟨◌⟩◌, ◌*⟨◌⟩◌};
-ghost use Rattle.sc_definitions.specs.Tables.{entries, sum_below, weight};
+ghost use Rattle.sc_definitions.specs.Tables.{entries, sum_below, equality_weight};
 ghost use Rattle.sc_definitions.specs.Shifts.{shifted};
 ghost use Rattle.sc_definitions.specs.Partials.{summed_first, summed_last};
 ghost use Rattle.sc_field.specs.Products.{products};
@@ -48,7 +48,7 @@ impl<F, EF: Field> SplitEq<F, EF> {
         ensures outer { IfOk result (λ s. outer_variables s ≡ length z.now / 2) }
         ensures weights { IfOk result (λ s. (b : ℕ) → b < 2 ^ length z.now →
             split_weight EF.number EF.ops s b
-            ≡ EF.number scale *⟨ EF.ops ⟩ weight EF.ops (map EF.number z.now) b) }
+            ≡ EF.number scale *⟨ EF.ops ⟩ equality_weight EF.ops (map EF.number z.now) b) }
     {
         let (front, back) = z.as_slice().split_at(z.num_variables() / 2);
         let outer = Poly::new_from_point(alloc, front, scale)?;

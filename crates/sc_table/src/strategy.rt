@@ -2,9 +2,9 @@
 
 ghost use Rattle.std.specs.Prelude.{◌≡◌, ℕ, suc, ◌+◌, ◌*◌, ◌/◌, ◌%◌, ◌^◌, ◌<◌, ◌≤◌, [], ◌∷◌, ◌++◌, List, length};
 ghost use Rattle.sc_definitions.specs.Ring.{◌+⟨◌⟩◌, ◌*⟨◌⟩◌};
-ghost use Rattle.sc_definitions.specs.Tables.{evaluation, projective, Order, prefix, suffix, IsOffered, entries, value, placed, bound_in};
+ghost use Rattle.sc_definitions.specs.Tables.{evaluation, projective, Order, prefix, suffix, IsOffered, entries, value, placed, folded_in};
 ghost use Rattle.sc_definitions.specs.Messages.{first_term, leading_term, message_first, message_leading};
-ghost use Rattle.sc_definitions.specs.Rounds.{true_claim, honest_pair, next_claim};
+ghost use Rattle.sc_definitions.specs.Rounds.{true_claim, honest_message, next_claim};
 ghost use Rattle.sc_table.specs.Blocks.{sum_from};
 ghost use Rattle.sc_table.specs.Strategy.{basis_of, order_of};
 ghost use Rattle.sc_table.specs.Polys.{variables_of, table_of};
@@ -158,7 +158,7 @@ pub fn sumcheck_coefficients_prefix<B: Field, A: Algebra<B>>(
     // Of two tables of so many variables it is what an honest first round sends.
     ensures honest { (m : ℕ) → length evals.now ≡ 2 ^ suc m →
         A.number result.c_a ∷ A.number result.c_inf ∷ []
-        ≡ honest_pair evaluation prefix A.ops (entries (λ x. A.embedding (B.number x)) evals.now) (entries A.number weights.now) [] m }
+        ≡ honest_message evaluation prefix A.ops (entries (λ x. A.embedding (B.number x)) evals.now) (entries A.number weights.now) [] m }
 {
     let half = evals.len() / 2;
     let mut message = RoundMessage::zero();
@@ -190,7 +190,7 @@ pub fn sumcheck_coefficients_suffix<B: Field, A: Algebra<B>>(
     // Of two tables of so many variables it is what an honest first round sends.
     ensures honest { (m : ℕ) → length evals.now ≡ 2 ^ suc m →
         A.number result.c_a ∷ A.number result.c_inf ∷ []
-        ≡ honest_pair evaluation suffix A.ops (entries (λ x. A.embedding (B.number x)) evals.now) (entries A.number weights.now) [] m }
+        ≡ honest_message evaluation suffix A.ops (entries (λ x. A.embedding (B.number x)) evals.now) (entries A.number weights.now) [] m }
 {
     let half = evals.len() / 2;
     let mut message = RoundMessage::zero();
@@ -223,7 +223,7 @@ pub fn sumcheck_coefficients_prefix_projective<B: Field, A: Algebra<B>>(
     // Of two tables of so many variables it is what an honest first round sends.
     ensures honest { (m : ℕ) → length evals.now ≡ 2 ^ suc m →
         A.number result.c_a ∷ A.number result.c_inf ∷ []
-        ≡ honest_pair projective prefix A.ops (entries (λ x. A.embedding (B.number x)) evals.now) (entries A.number weights.now) [] m }
+        ≡ honest_message projective prefix A.ops (entries (λ x. A.embedding (B.number x)) evals.now) (entries A.number weights.now) [] m }
 {
     let half = evals.len() / 2;
     let mut message = RoundMessage::zero();
@@ -270,7 +270,7 @@ impl Basis {
         // Of two tables of so many variables it is what an honest first round sends.
         ensures honest { (m : ℕ) → length evals.now ≡ 2 ^ suc m →
             A.number result.c_a ∷ A.number result.c_inf ∷ []
-            ≡ honest_pair (basis_of self) (order_of order) A.ops (entries (λ x. A.embedding (B.number x)) evals.now) (entries A.number weights.now) [] m }
+            ≡ honest_message (basis_of self) (order_of order) A.ops (entries (λ x. A.embedding (B.number x)) evals.now) (entries A.number weights.now) [] m }
     {
         match self {
             Basis::Evaluation => order.sumcheck_coefficients(evals, weights),
@@ -288,10 +288,10 @@ impl Basis {
         ensures claim { EF.number result
             ≡ next_claim (basis_of self) EF.ops (EF.number claimed_sum) (EF.number c_a ∷ EF.number c_inf ∷ []) (EF.number r) }
 
-        // Of an honest pair under the true claim it is the value of the round's polynomial, the true
+        // Of an honest message under the true claim it is the value of the round's polynomial, the true
         // claim at one challenge more.
         ensures honest { (order : Order) → IsOffered (basis_of self) order → (f w : ℕ → ℕ) (rs : List ℕ) (m : ℕ) →
-            EF.number c_a ∷ EF.number c_inf ∷ [] ≡ honest_pair (basis_of self) order EF.ops f w rs m →
+            EF.number c_a ∷ EF.number c_inf ∷ [] ≡ honest_message (basis_of self) order EF.ops f w rs m →
             EF.number claimed_sum ≡ true_claim (basis_of self) order EF.ops f w rs (suc m) →
             EF.number result ≡ true_claim (basis_of self) order EF.ops f w (rs ++ EF.number r ∷ []) m }
     {
@@ -340,7 +340,7 @@ impl VariableOrder {
         // Of two tables of so many variables it is what an honest first round sends.
         ensures honest { (m : ℕ) → length evals.now ≡ 2 ^ suc m →
             A.number result.c_a ∷ A.number result.c_inf ∷ []
-            ≡ honest_pair evaluation (order_of self) A.ops (entries (λ x. A.embedding (B.number x)) evals.now) (entries A.number weights.now) [] m }
+            ≡ honest_message evaluation (order_of self) A.ops (entries (λ x. A.embedding (B.number x)) evals.now) (entries A.number weights.now) [] m }
     {
         match self {
             VariableOrder::Prefix => sumcheck_coefficients_prefix(evals, weights),
@@ -355,7 +355,7 @@ impl VariableOrder {
         ensures fewer { variables_of poly.old ≡ variables_of poly.new + 1 }
         ensures bound { (b : ℕ) → b < 2 ^ variables_of poly.new →
             table_of A.number poly.new b
-            ≡ bound_in evaluation (order_of self) A.ops (variables_of poly.new) (A.embedding (Ch.number r)) (table_of A.number poly.old) b }
+            ≡ folded_in evaluation (order_of self) A.ops (variables_of poly.new) (A.embedding (Ch.number r)) (table_of A.number poly.old) b }
 
         // The value at the other coordinates is the old value with `r` placed.
         ensures value { (zs : List ℕ) → length zs ≡ variables_of poly.new →

@@ -3,15 +3,15 @@ use Rattle.std.proofs.Common.{◌≡◌, ℕ, suc, ◌+◌, ◌<◌, List, [], �
 use Rattle.sc_definitions.specs.Ring.{Ops, IsRing}
 use Rattle.sc_definitions.specs.Tables.{Basis, Order, IsOffered}
 use Rattle.sc_definitions.specs.Channels.{Channel, NoWitnessFound}
-use Rattle.sc_definitions.specs.Standings.{Setting, Standing, IsRound, IsPlayed, IsRoundWithoutWitness, message_in}
-use Rattle.sc_definitions.proofs.StandingLaws.{played_more}
+use Rattle.sc_definitions.specs.ProverStates.{Setting, ProverState, IsRound, IsPlayed, IsRoundWithoutWitness, message_in}
+use Rattle.sc_definitions.proofs.ProverStateLaws.{played_more}
 use Rattle.sc_definitions.proofs.HonestRounds.{honest-round}
 use Rattle.sc_transcript.specs.Causes.{cause_of}
 use Rattle.sc_transcript.specs.Drivers.{IsRefused}
 use Rattle.sc_transcript.specs.Batches.{Moves, MovesHonestly, HoldsIfMore, HoldsBatch, IsHalted, IsStopped, Batch, BreaksOff, LeavesBatch}
 use Rattle.sc_transcript.specs.declared.error.SumcheckError.{SumcheckError}
 use Rattle.sc_transcript.specs.declared.error.SumcheckError.TheVariants.{NoMemory, NoWitness}
-use Rattle.sc_definitions.specs.Shown.{Stored, HoldsIfAny}
+use Rattle.sc_definitions.specs.ProverViews.{Stored, HoldsIfAny}
 
 -- ---- rounds, by other names of what they move
 
@@ -19,22 +19,22 @@ pub same_setting : {c c' : Channel} {o : Ops} {basis basis' : Basis} {order orde
     ◌≡◌ {A = Setting} (record { channel = c; ops = o; basis = basis; order = order }) (record { channel = c'; ops = o; basis = basis'; order = order' })
 same_setting ec eb eo = rw (ec, eb, eo) refl
 
-pub played_at : {s s' : Setting} {t t' : Standing} {u u' : Standing} {rs rs' : List ℕ} → s ≡ s' → t ≡ t' → u ≡ u' → rs ≡ rs' → IsPlayed s t u rs → IsPlayed s' t' u' rs'
+pub played_at : {s s' : Setting} {t t' : ProverState} {u u' : ProverState} {rs rs' : List ℕ} → s ≡ s' → t ≡ t' → u ≡ u' → rs ≡ rs' → IsPlayed s t u rs → IsPlayed s' t' u' rs'
 played_at es et eu er p = rw (← es, ← et, ← eu, ← er) p
 
 -- what is held, by other names of the rounds
-pub holds_at : {s s' : Setting} {t t' : Standing} {rs rs' : List ℕ} {before kept : Stored} → s ≡ s' → t ≡ t' → rs ≡ rs' →
+pub holds_at : {s s' : Setting} {t t' : ProverState} {rs rs' : List ℕ} {before kept : Stored} → s ≡ s' → t ≡ t' → rs ≡ rs' →
     HoldsIfAny s t before rs kept → HoldsIfAny s' t' before rs' kept
 holds_at es et er p = rw (← es, ← et, ← er) p
 
 -- a batch that got no memory before it began
-pub never_begun : {X : Type 0} (result : Result X SumcheckError) (challenges : X → List ℕ) (b : Batch) {u : Standing} →
+pub never_begun : {X : Type 0} (result : Result X SumcheckError) (challenges : X → List ℕ) (b : Batch) {u : ProverState} →
     IsErrAnd result (λ e. e ≡ NoMemory) → u ≡ b.taken → LeavesBatch challenges b u result
 never_begun (Ok x) challenges b memory none = elim memory [ ]
 never_begun (Err e) challenges b memory none = rw memory (inl none)
 
 -- a batch, by other names of it and of what it leaves
-pub batch_as : {X : Type 0} (result : Result X SumcheckError) (challenges : X → List ℕ) (b b' : Batch) (u u' : Standing) → b ≡ b' → u ≡ u' →
+pub batch_as : {X : Type 0} (result : Result X SumcheckError) (challenges : X → List ℕ) (b b' : Batch) (u u' : ProverState) → b ≡ b' → u ≡ u' →
     LeavesBatch challenges b u result → LeavesBatch challenges b' u' result
 batch_as result challenges b b' u u' eb eu p = subst (λ v. LeavesBatch challenges b' v result) eu (subst (λ d. LeavesBatch challenges d u result) eb p)
 
@@ -44,24 +44,24 @@ pub holds_as : (b b' : Batch) (before before' : Stored) (rs : List ℕ) (kept : 
 holds_as b b' before before' rs kept eb ek p = subst (λ k. HoldsBatch b' k rs kept) ek (subst (λ d. HoldsBatch d before rs kept) eb p)
 
 -- no challenge yet, by another name
-pub as_none : (s : Setting) (t : Standing) (rs : List ℕ) → rs ≡ [] → IsPlayed s t t [] → IsPlayed s t t rs
+pub as_none : (s : Setting) (t : ProverState) (rs : List ℕ) → rs ≡ [] → IsPlayed s t t [] → IsPlayed s t t rs
 as_none s t rs none p = rw none p
 
 -- one round more, in a setting by another name
-pub one_round_more : {s s₁ : Setting} → IsRing s.ops → IsOffered s.basis s.order → {t u v : Standing} {rs rs' : List ℕ} {r : ℕ} →
+pub one_round_more : {s s₁ : Setting} → IsRing s.ops → IsOffered s.basis s.order → {t u v : ProverState} {rs rs' : List ℕ} {r : ℕ} →
     s₁ ≡ s → rs' ≡ rs ++ r ∷ [] → IsPlayed s t u rs → IsRound s₁ u v r → IsPlayed s t v rs'
 one_round_more {s} ring offered {t} {u} {v} {rs} {r} same drawn p q =
     rw drawn (played_more s ring offered t u v rs r p (subst (λ k. IsRound k u v r) same q))
 
 -- a round that is refused stops the rounds
-pub stops : {s s₁ : Setting} {t u : Standing} (v : Standing) {rs : List ℕ} {i j : ℕ} (e : SumcheckError) → s₁ ≡ s → i ≡ j → IsPlayed s t u rs → IsHalted s₁ u v i e → IsStopped s t v j e
+pub stops : {s s₁ : Setting} {t u : ProverState} (v : ProverState) {rs : List ℕ} {i j : ℕ} (e : SumcheckError) → s₁ ≡ s → i ≡ j → IsPlayed s t u rs → IsHalted s₁ u v i e → IsStopped s t v j e
 stops v {rs} NoMemory same place p why = record { rs = rs; played = rw why p }
 stops {u} v {rs} (NoWitness k) same place p why =
     (why.0 ∙ place, record { rs = rs; last = u; played = p; ends = subst (λ k. IsRoundWithoutWitness k u v) same why.1 })
 stops v e same place p why = absurd why
 
 -- rounds that stop, as a batch that was begun
-pub stops_batch : (b : Batch) {s : Setting} {t u u' : Standing} {i n : ℕ} (e : SumcheckError) → s ≡ b.setting → t ≡ b.start → u ≡ u' →
+pub stops_batch : (b : Batch) {s : Setting} {t u u' : ProverState} {i n : ℕ} (e : SumcheckError) → s ≡ b.setting → t ≡ b.start → u ≡ u' →
     u'.variables + i ≡ b.start.variables → i < n → n ≡ b.rounds → IsStopped s t u i e → BreaksOff b u' e
 stops_batch b NoMemory es et eu left less size why =
     inr (record { within = omega (arith, left, less, size); part = rw (← es, ← et, ← eu) why })
@@ -114,7 +114,7 @@ pub enough_left : (n m v p : ℕ) → n ≡ m → m ≤ v → p ≡ 0 → n ≤ 
 enough_left n m v p size enough none = omega arith
 
 -- what is held where no round was played before
-pub held_if_any : {s : Setting} {t : Standing} {rs all : List ℕ} {before kept : Stored} → rs ≡ [] → IsPlayed s t t [] →
+pub held_if_any : {s : Setting} {t : ProverState} {rs all : List ℕ} {before kept : Stored} → rs ≡ [] → IsPlayed s t t [] →
     HoldsIfMore (record { setting = s; now = t; drawn = rs }) before all kept → HoldsIfAny s t before all kept
 held_if_any {s} {t} {rs} none played holds = elim (holds t (as_none s t rs none played)) [
   | inl same ↦ inl (same.0 ∙ none, same.1)
@@ -124,7 +124,7 @@ held_if_any {s} {t} {rs} none played holds = elim (holds t (as_none s t rs none 
 -- ---- one round
 
 -- a round that is refused leaves all but the history
-pub halts : (s : Setting) (t : Standing) {u : Standing} (i : ℕ) {values : List ℕ} (e : SumcheckError) →
+pub halts : (s : Setting) (t : ProverState) {u : ProverState} (i : ℕ) {values : List ℕ} (e : SumcheckError) →
     IsRefused s.channel i t.history values u.history (cause_of e) → values ≡ message_in s t → u ≡ record t { history = u.history } → IsHalted s t u i e
 halts s t i NoMemory why message kept = kept ∙ ap (λ h. record t { history = h }) why
 halts s t {u} i (NoWitness j) why message kept =
@@ -132,7 +132,7 @@ halts s t {u} i (NoWitness j) why message kept =
 halts s t i e why message kept = absurd why
 
 -- a round as the tables before it tell it
-pub moved-honest : {X : Type 0} (number : X → ℕ) (s : Setting) → IsRing s.ops → IsOffered s.basis s.order → (t u : Standing) (i : ℕ) (r : Result X SumcheckError) →
+pub moved-honest : {X : Type 0} (number : X → ℕ) (s : Setting) → IsRing s.ops → IsOffered s.basis s.order → (t u : ProverState) (i : ℕ) (r : Result X SumcheckError) →
     Moves number s t u i r → MovesHonestly number s t u i r
 moved-honest number s ring offered t u i (Ok x) p = (p, honest-round s ring offered t u (number x) p)
 moved-honest number s ring offered t u i (Err e) p = p

@@ -7,8 +7,8 @@ use Rattle.sc_definitions.specs.Rounds.{next_claim, claim_along}
 use Rattle.sc_definitions.specs.Events.{Rules, Extension}
 use Rattle.sc_definitions.specs.Transcript.{Round, messages_of, round_events, rounds_events, challenge, HasFirstWitness}
 use Rattle.sc_definitions.specs.Replays.{round_passes, AllPass}
-use Rattle.sc_definitions.specs.Channels.{Channel, Wire, empty_wire, with_rounds, Footing, IsReplayed, IsReplayedInPart, FailsAt, IsBuilt}
-use Rattle.sc_definitions.specs.Standings.{Setting, Standing, footing_of, IsPlayed}
+use Rattle.sc_definitions.specs.Channels.{Channel, Wire, empty_wire, with_rounds, VerifierState, IsReplayed, IsReplayedInPart, FailsAt, IsBuilt}
+use Rattle.sc_definitions.specs.ProverStates.{Setting, ProverState, verifier_state_of, IsPlayed}
 use Rattle.sc_definitions.proofs.BuiltLaws.{length-messages}
 use Rattle.sc_transcript.specs.declared.error.SumcheckError.{SumcheckError}
 use Rattle.sc_transcript.specs.declared.error.SumcheckError.TheVariants.{RoundCountMismatch, InvalidPowWitness, PowWitnessCountMismatch, NoMemory}
@@ -56,7 +56,7 @@ all_pass honest c h rs (suc n) (q ∷ rounds) b =
     (passes_first R E bits h q b.1, all_pass honest c (h ++ round_events E bits q) (rs ++ challenge R E bits h q ∷ []) n rounds b.2)
 
 -- no round of what was built is refused
-pub none_failing : (next : ℕ → List ℕ → ℕ → ℕ) (honest : List ℕ → ℕ → List ℕ) (c : Channel) (start end : Footing) (n : ℕ) (rounds : List Round) (i : ℕ) →
+pub none_failing : (next : ℕ → List ℕ → ℕ → ℕ) (honest : List ℕ → ℕ → List ℕ) (c : Channel) (start end : VerifierState) (n : ℕ) (rounds : List Round) (i : ℕ) →
     IsBuilt honest c start.history [] n rounds → FailsAt next c start end rounds i → ⊥
 none_failing next honest c start end n rounds i built there =
     let passes : round_passes c.rules c.extension c.bits there.last there.round ≡ true =
@@ -65,20 +65,20 @@ none_failing next honest c start end n rounds i built there =
     let clash : true ≡ false = sym passes ∙ there.test.fails in cc
 
 -- what holds of an error holds of a result that passes it on
-pub step_as : {X Y : Type 0} (challenges : X → List ℕ) (number : Y → ℕ) (b : Batch) (u : Standing) (h h' : List Event) (r : Result (X × X × Y) SumcheckError) (e : SumcheckError) →
+pub step_as : {X Y : Type 0} (challenges : X → List ℕ) (number : Y → ℕ) (b : Batch) (u : ProverState) (h h' : List Event) (r : Result (X × X × Y) SumcheckError) (e : SumcheckError) →
     IsErrAnd r (λ x. x ≡ e) → IsOutOfStep b u h h' e → LeavesStep challenges number b u h h' r
 step_as challenges number b u h h' (Ok x) e is p = elim is [ ]
 step_as challenges number b u h h' (Err x) e is p = subst (IsOutOfStep b u h h') (sym is) p
 
 -- the prover's refusal: the verifier has not begun
-pub not_begun : (b : Batch) (u : Standing) (h : List Event) (e : SumcheckError) → BreaksOff b u e → IsOutOfStep b u h h e
+pub not_begun : (b : Batch) (u : ProverState) (h : List Event) (e : SumcheckError) → BreaksOff b u e → IsOutOfStep b u h h e
 not_begun b u h NoMemory why = inl (why, refl)
 not_begun b u h e why = (why, refl)
 
 -- ---- both sides
 
--- a batch on an empty wire, and a replay over a channel and from a footing that are its own by other names
-module _ (s : Setting) (t u : Standing) (rs : List ℕ) (c : Channel) (start : Footing) (none_sent : t.wire ≡ empty_wire) (same : c ≡ s.channel) (begun : start ≡ footing_of t)
+-- a batch on an empty wire, and a replay over a channel and from a verifier state that are its own by other names
+module _ (s : Setting) (t u : ProverState) (rs : List ℕ) (c : Channel) (start : VerifierState) (none_sent : t.wire ≡ empty_wire) (same : c ≡ s.channel) (begun : start ≡ verifier_state_of t)
     (played : IsPlayed s t u rs) where
   -- the wire has the rounds that were played
   wire_is : u.wire ≡ with_rounds s.channel.bits empty_wire played.rounds
@@ -98,7 +98,7 @@ module _ (s : Setting) (t u : Standing) (rs : List ℕ) (c : Channel) (start : F
       ap (λ (w : Wire). length w.witnesses) wire_is ∙ count_witnesses s.channel.bits played.rounds ∙ ap (witness_count s.channel.bits) (count_rounds k whole)
 
   -- its rounds are a replay
-  played_replays : IsReplayed (next_claim s.basis s.ops) s.channel (footing_of t) (footing_of u) played.rounds rs
+  played_replays : IsReplayed (next_claim s.basis s.ops) s.channel (verifier_state_of t) (verifier_state_of u) played.rounds rs
   played_replays = record {
     history = played.history;
     drawn = played.drawn;
@@ -106,11 +106,11 @@ module _ (s : Setting) (t u : Standing) (rs : List ℕ) (c : Channel) (start : F
     passes = all_pass _ s.channel t.history [] t.variables played.rounds played.built;
   }
 
-  pub has_replay : IsReplayed (next_claim s.basis s.ops) c start (footing_of u) (rounds_on u.wire) rs
+  pub has_replay : IsReplayed (next_claim s.basis s.ops) c start (verifier_state_of u) (rounds_on u.wire) rs
   has_replay = rw (same, begun, rounds_given) played_replays
 
-  module _ (end : Footing) (out : List ℕ) (replays : IsReplayed (next_claim s.basis s.ops) c start end (rounds_on u.wire) out) where
-    moved : IsReplayed (next_claim s.basis s.ops) s.channel (footing_of t) end played.rounds out
+  module _ (end : VerifierState) (out : List ℕ) (replays : IsReplayed (next_claim s.basis s.ops) c start end (rounds_on u.wire) out) where
+    moved : IsReplayed (next_claim s.basis s.ops) s.channel (verifier_state_of t) end played.rounds out
     moved =
         subst (λ f. IsReplayed (next_claim s.basis s.ops) s.channel f end played.rounds out) begun
         (subst (λ k. IsReplayed (next_claim s.basis s.ops) k start end played.rounds out) same
@@ -125,19 +125,19 @@ module _ (s : Setting) (t u : Standing) (rs : List ℕ) (c : Channel) (start : F
     pub same_claims : end.claim ≡ u.claim
     same_claims = moved.claim ∙ ap (claim_along (next_claim s.basis s.ops) t.claim (messages_of played.rounds)) (sym played.drawn) ∙ sym played.claim
 
-    pub same_ends : end ≡ footing_of u
+    pub same_ends : end ≡ verifier_state_of u
     same_ends = λ i. record { history = same_histories i; claim = same_claims i }
 
   -- no round of it is refused
-  pub none_invalid : (i : ℕ) (end : Footing) → FailsAt (next_claim s.basis s.ops) c start end (rounds_on u.wire) i → ⊥
+  pub none_invalid : (i : ℕ) (end : VerifierState) → FailsAt (next_claim s.basis s.ops) c start end (rounds_on u.wire) i → ⊥
   none_invalid i end invalid =
-      none_failing (next_claim s.basis s.ops) _ s.channel (footing_of t) end t.variables played.rounds i played.built
+      none_failing (next_claim s.basis s.ops) _ s.channel (verifier_state_of t) end t.variables played.rounds i played.built
       (subst (λ f. FailsAt (next_claim s.basis s.ops) s.channel f end played.rounds i) begun
       (subst (λ k. FailsAt (next_claim s.basis s.ops) k start end played.rounds i) same
       (subst (λ given. FailsAt (next_claim s.basis s.ops) c start end given i) rounds_given invalid)))
 
   -- where it ends in part
-  in_part : (end : Footing) → IsReplayedInPart (next_claim s.basis s.ops) c start end (rounds_on u.wire) → ReplaysInPart s t u.wire end.history
+  in_part : (end : VerifierState) → IsReplayedInPart (next_claim s.basis s.ops) c start end (rounds_on u.wire) → ReplaysInPart s t u.wire end.history
   in_part end part = record {
     claim = end.claim;
     part = subst (λ f. IsReplayedInPart (next_claim s.basis s.ops) s.channel f end (rounds_on u.wire)) begun
@@ -145,7 +145,7 @@ module _ (s : Setting) (t u : Standing) (rs : List ℕ) (c : Channel) (start : F
   }
 
   -- a replay of it is refused for want of memory alone
-  pub wants_memory : (history claim : Type 0) (shape : BatchShape) (e : SumcheckError) (end : Footing) → IsCounted (replay_of (next_claim s.basis s.ops) c shape start u.wire) →
+  pub wants_memory : (history claim : Type 0) (shape : BatchShape) (e : SumcheckError) (end : VerifierState) → IsCounted (replay_of (next_claim s.basis s.ops) c shape start u.wire) →
       LeavesReplay (history × claim) (replay_of (next_claim s.basis s.ops) c shape start u.wire) (Err (cause_of e)) end →
       (e ≡ NoMemory) × (history ⊎ ReplaysInPart s t u.wire end.history)
   wants_memory history claim shape NoMemory end counted left = (

@@ -3,7 +3,7 @@ use Rattle.std.proofs.Common.{◌≡◌, ℕ, zero, suc, List, [], ◌∷◌, le
 use Rattle.std.specs.List.{slice_get}
 use Rattle.sc_definitions.specs.Transcript.{Round, round_of}
 use Rattle.sc_definitions.specs.Replays.{given_rounds}
-use Rattle.sc_definitions.specs.Channels.{Footing}
+use Rattle.sc_definitions.specs.Channels.{VerifierState}
 use Rattle.sc_table.specs.declared.strategy.RoundMessage.{RoundMessage}
 use Rattle.sc_transcript.specs.declared.error.RoundError.{RoundError}
 use Rattle.sc_transcript.specs.declared.error.RoundError.TheVariants as rounds
@@ -40,7 +40,7 @@ came_counted base number d shape are = record {
 
 -- one of the rounds is rejected, of which none has another number of values than it is to have
 pub pairs_left : {X : Type 0} (untouched : Type 0) (value : X → List ℕ) (p : Replay) {w : Walk} → w ≡ p.walk → ((i : ℕ) (r : Round) → slice_get p.walk.rounds i ≡ Some r → length r.values ≡ p.walk.width) →
-    (e : RoundError) (result : Result X SumcheckError) (after : Footing) → IsCounted p → result ≡ Err (told_as e) → LeavesWalk w (Err (Some e)) after →
+    (e : RoundError) (result : Result X SumcheckError) (after : VerifierState) → IsCounted p → result ≡ Err (told_as e) → LeavesWalk w (Err (Some e)) after →
     LeavesReplay untouched p (answer_as value cause_of result) after
 pairs_left untouched value p same wide e result after counts is left = told e is (subst (λ (w : Walk). LeavesWalk w (Err (Some e)) after) same left) where
   told : (e : RoundError) → result ≡ Err (told_as e) → LeavesWalk p.walk (Err (Some e)) after → LeavesReplay untouched p (answer_as value cause_of result) after

@@ -7,7 +7,7 @@ use Rattle.std.proofs.lemmas.Option.{get_or_from_slice_get, slice_get_within}
 use Rattle.sc_definitions.specs.declared.events.Event.{Event}
 use Rattle.sc_definitions.specs.Events.{Rules, Extension}
 use Rattle.sc_definitions.specs.Transcript.{Round}
-use Rattle.sc_definitions.specs.Channels.{Channel, channel, Footing, footing, IsTaken, IsReplayed}
+use Rattle.sc_definitions.specs.Channels.{Channel, channel, VerifierState, verifier_state, IsTaken, IsReplayed}
 use Rattle.sc_definitions.proofs.ReplayLaws.{replayed-none, replayed-more}
 use Rattle.sc_transcript.specs.Rounds.{witness_count}
 
@@ -18,10 +18,10 @@ pub same_channel : {R R' : Rules} {E : Extension} (size : ℕ) {bits bits' : ℕ
 same_channel size er eb = rw (er, eb) refl
 
 pub replays_begin : (next : ℕ → List ℕ → ℕ → ℕ) (c : Channel) (h₀ h : List Event) (claim : ℕ) (rs : List ℕ) → h ≡ h₀ → rs ≡ [] →
-    IsReplayed next c (footing h₀ claim) (footing h claim) [] rs
-replays_begin next c h₀ h claim rs eh er = rw (eh, er) (replayed-none next c (footing h₀ claim))
+    IsReplayed next c (verifier_state h₀ claim) (verifier_state h claim) [] rs
+replays_begin next c h₀ h claim rs eh er = rw (eh, er) (replayed-none next c (verifier_state h₀ claim))
 
-pub replays_step : {X : Type 0} (number : X → ℕ) {next : ℕ → List ℕ → ℕ → ℕ} {c c₁ : Channel} {before : Footing} (at after : Footing) (rounds : List Round) (i : ℕ) (r : Round) (out out₁ : List X) (x : X) →
+pub replays_step : {X : Type 0} (number : X → ℕ) {next : ℕ → List ℕ → ℕ → ℕ} {c c₁ : Channel} {before : VerifierState} (at after : VerifierState) (rounds : List Round) (i : ℕ) (r : Round) (out out₁ : List X) (x : X) →
     slice_get rounds i ≡ Some r → c₁ ≡ c → IsReplayed next c before at (take i rounds) (map number out) →
     IsTaken c₁ at.history r (number x) after.history → after.claim ≡ next at.claim r.values (number x) → out₁ ≡ out ++ x ∷ [] →
     IsReplayed next c before after (take (i + 1) rounds) (map number out₁)

@@ -2,7 +2,7 @@
 use Rattle.std.specs.Prelude.{ℕ, ◌-◌, List, [], ◌∷◌, map, min, vec_len, vec_capacity}
 use Rattle.sc_definitions.specs.Transcript.{Round}
 use Rattle.sc_definitions.specs.Replays.{given_rounds}
-use Rattle.sc_definitions.specs.Channels.{Channel, Footing, Wire}
+use Rattle.sc_definitions.specs.Channels.{Channel, VerifierState, Wire}
 use Rattle.sc_definitions.specs.Ring.{Ops}
 use Rattle.sc_definitions.specs.Rounds.{next_claim}
 use Rattle.sc_table.specs.Strategy.{basis_of}
@@ -39,8 +39,8 @@ abbrev pub spare_in : {F EF : Type 0} → SumcheckData F EF → ℕ
 spare_in d =
     min (vec_capacity d.polynomial_evaluations - vec_len d.polynomial_evaluations) (vec_capacity d.pow_witnesses - vec_len d.pow_witnesses)
 
--- the replay, in a shape, of what came on a wire, over a ring, a channel and an extension of a degree, from a footing on: it begins after the seed, and each
+-- the replay, in a shape, of what came on a wire, over a ring, a channel and an extension of a degree, from a verifier state on: it begins after the seed, and each
 -- round folds the claim by the basis
-abbrev pub pair_replay : Ops → Channel → ℕ → SumcheckShape → Wire → Footing → Replay
+abbrev pub pair_replay : Ops → Channel → ℕ → SumcheckShape → Wire → VerifierState → Replay
 pair_replay o c degree shape came at =
     replay_of (next_claim (basis_of shape.basis) o) c (batch_of shape) (seeded degree shape at.history at.claim) came

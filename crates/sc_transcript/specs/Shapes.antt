@@ -4,7 +4,7 @@ use Rattle.sc_definitions.specs.declared.events.Event.{Event}
 use Rattle.sc_definitions.specs.Events.{words}
 use Rattle.sc_definitions.specs.Transcript.{Round, round_of}
 use Rattle.sc_definitions.specs.Seeds.{quadratic_seed}
-use Rattle.sc_definitions.specs.Channels.{Footing, footing}
+use Rattle.sc_definitions.specs.Channels.{VerifierState, verifier_state}
 use Rattle.sc_table.specs.Strategy.{basis_of}
 use Rattle.sc_table.specs.declared.strategy.Basis.{Basis}
 use Rattle.sc_transcript.specs.declared.rounds.BatchShape.{BatchShape}
@@ -27,5 +27,5 @@ abbrev pub batch_of : SumcheckShape → BatchShape
 batch_of shape = record { num_rounds = shape.num_rounds; width = 2; pow_bits = shape.pow_bits }
 
 -- where a batch stands after its seed, from a history on and under a claim
-abbrev pub seeded : ℕ → SumcheckShape → List Event → ℕ → Footing
-seeded degree shape h claim = footing (h ++ words (seed_of degree shape)) claim
+abbrev pub seeded : ℕ → SumcheckShape → List Event → ℕ → VerifierState
+seeded degree shape h claim = verifier_state (h ++ words (seed_of degree shape)) claim

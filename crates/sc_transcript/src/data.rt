@@ -9,7 +9,7 @@ ghost use Rattle.sc_transcript.specs.Shapes.{shape_of, pair_round};
 ghost use Rattle.sc_transcript.specs.Causes.{cause_of};
 ghost use Rattle.sc_transcript.specs.Drivers.{answer_as};
 ghost use Rattle.sc_transcript.specs.Data.{rounds_of_data, wire_in, pair_replay};
-ghost use Rattle.sc_transcript.specs.Replayed.{LeavesFrom, place};
+ghost use Rattle.sc_transcript.specs.Replayed.{LeavesFrom, caller_state};
 
 use crate::driver::RoundShape;
 use crate::error::SumcheckError;
@@ -131,7 +131,7 @@ impl<F: Field, EF: ExtensionField<F>> SumcheckData<F, EF> {
         ensures rules { (C.party challenger.new).rules ≡ (C.party challenger.old).rules }
         ensures left { LeavesFrom EF.number (pair_replay EF.ops (channel_by (C.party challenger.old) EF.extension F.ops.size pow_bits)
             EF.DEGREE (shape_of expected_rounds pow_bits basis) (wire_in F.number EF.number self.now))
-            (place (C.party challenger.old) claimed_sum.old) (place (C.party challenger.new) claimed_sum.new)
+            (caller_state (C.party challenger.old) claimed_sum.old) (caller_state (C.party challenger.new) claimed_sum.new)
             (answer_as (map EF.number) cause_of result) }
     {
         let shape = SumcheckShape::new(expected_rounds, pow_bits, basis);
@@ -211,7 +211,7 @@ pub fn verify_final_sumcheck_rounds<F: Field, EF: ExtensionField<F>, C: Challeng
     ensures left { IfSome final_sumcheck.entry (λ d. 0 < rounds → LeavesFrom EF.number
         (pair_replay EF.ops (channel_by (C.party challenger.old) EF.extension F.ops.size pow_bits)
         EF.DEGREE (shape_of rounds pow_bits basis) (wire_in F.number EF.number d.now))
-        (place (C.party challenger.old) claimed_sum.old) (place (C.party challenger.new) claimed_sum.new)
+        (caller_state (C.party challenger.old) claimed_sum.old) (caller_state (C.party challenger.new) claimed_sum.new)
         (answer_as (map EF.number) cause_of result)) }
 {
     if rounds == 0 {

@@ -4,7 +4,7 @@ ghost use Rattle.std.specs.Prelude.{◌≡◌, ℕ, ◌<◌, ◌≤◌, [], List
 ghost use Rattle.std.specs.List.{slice_get};
 ghost use Rattle.std.specs.Option.{option_map_or};
 ghost use Rattle.sc_definitions.specs.Transcript.{Round, round_of};
-ghost use Rattle.sc_definitions.specs.Channels.{footing};
+ghost use Rattle.sc_definitions.specs.Channels.{verifier_state};
 ghost use Rattle.sc_transcript.specs.Drivers.{answer_as};
 ghost use Rattle.sc_transcript.specs.Walks.{walk, LeavesWalk};
 ghost use Rattle.sc_transcript.specs.Replayed.{AreCounted, AreMiscounted};
@@ -90,8 +90,8 @@ pub fn replay<F: Field, EF: ExtensionField<F>, C: Challenger<F>, R: CameRounds<F
     requires room { shape.num_rounds ≤ vec_capacity challenges }
     ensures rules { (C.party challenger.new).rules ≡ (C.party challenger.old).rules }
     ensures leaves { LeavesWalk (walk (R.next came.now) (channel_by (C.party challenger.old) EF.extension F.ops.size shape.pow_bits) shape.width
-        (footing (C.party challenger.old).history (EF.number claim.old)) (R.rounds came.now))
-        (answer_as (λ out. map EF.number out.items) (λ e. Some e) result) (footing (C.party challenger.new).history (EF.number claim.new)) }
+        (verifier_state (C.party challenger.old).history (EF.number claim.old)) (R.rounds came.now))
+        (answer_as (λ out. map EF.number out.items) (λ e. Some e) result) (verifier_state (C.party challenger.new).history (EF.number claim.new)) }
 {
     let mut rounds = Rounds::new(shape, ());
     'rounds: for i in 0..shape.num_rounds {

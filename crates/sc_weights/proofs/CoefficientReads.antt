@@ -2,7 +2,7 @@
 use Rattle.std.proofs.Common.{◌≡◌, ℕ, suc, ◌-◌, ◌^◌, ◌<◌, ◌≤◌, List, [], ◌∷◌, length, map, get_or, take, drop, refl, sym, ◌∙◌, ap, arith}
 use Rattle.std.proofs.lemmas.List.{take_all, length-map}
 use Rattle.sc_definitions.specs.Ring.{Ops, IsRing, element, plus, times, minus, power}
-use Rattle.sc_definitions.specs.Tables.{weight, monomial, coefficient_value}
+use Rattle.sc_definitions.specs.Tables.{equality_weight, monomial, coefficient_value}
 use Rattle.sc_definitions.specs.Parts.{Part, Carry, Done, Omega, part_weight}
 use Rattle.sc_definitions.proofs.RingLaws.{element-one, element-zero, element-small, times-one, times_comm}
 use Rattle.sc_definitions.proofs.Power.{power-zero, power-plus}
@@ -24,16 +24,16 @@ done-sum o z x d k falls both factor scaled moved carried sum e1 e2 e3 e4 e5 e6 
 
 module _ (o : Ops) (ring : IsRing o) {A E : Type 0} (na : A → ℕ) (ne : E → ℕ) where
   -- of no coordinates
-  pub equality-none : (zs : List A) (xs : List E) → length zs ≡ length xs → length zs < 1 → coefficient_value o (weight o (map na zs)) (map ne xs) ≡ 1
-  unfolding weight
-  equality-none [] [] size none = coefficients-none o ring (weight o []) ∙ element-one o ring
+  pub equality-none : (zs : List A) (xs : List E) → length zs ≡ length xs → length zs < 1 → coefficient_value o (equality_weight o (map na zs)) (map ne xs) ≡ 1
+  unfolding equality_weight
+  equality-none [] [] size none = coefficients-none o ring (equality_weight o []) ∙ element-one o ring
   equality-none [] (x ∷ xs) size none = absurd (omega (arith, size))
   equality-none (z ∷ zs) xs size none = absurd (omega (arith, none))
 
   -- of one more before the others
   pub equality-more : (zs : List A) (xs : List E) → length zs ≡ length xs → 1 ≤ length zs → (z : A) (x : E) → z ≡ get_or zs 0 z → x ≡ get_or xs 0 x → (rest : ℕ) →
-      rest ≡ coefficient_value o (weight o (map na (take (length zs - 1) (drop 1 zs)))) (map ne (take (length xs - 1) (drop 1 xs))) →
-      times o (plus o (minus o 1 (na z)) (times o (na z) (ne x))) rest ≡ coefficient_value o (weight o (map na zs)) (map ne xs)
+      rest ≡ coefficient_value o (equality_weight o (map na (take (length zs - 1) (drop 1 zs)))) (map ne (take (length xs - 1) (drop 1 xs))) →
+      times o (plus o (minus o 1 (na z)) (times o (na z) (ne x))) rest ≡ coefficient_value o (equality_weight o (map na zs)) (map ne xs)
   equality-more [] xs size some z x z_is x_is rest is = absurd (omega (arith, some))
   equality-more (a ∷ ys) [] size some z x z_is x_is rest is = absurd (omega (arith, size))
   equality-more (a ∷ ys) (b ∷ bs) size some z x z_is x_is rest is =
@@ -41,8 +41,8 @@ module _ (o : Ops) (ring : IsRing o) {A E : Type 0} (na : A → ℕ) (ne : E →
       ap (λ k. times o (plus o (minus o 1 k) (times o k (ne x))) rest) (ap na z_is)
       ∙ ap (λ k. times o (plus o (minus o 1 (na a)) (times o (na a) k)) rest) (ap ne x_is)
       ∙ ap (times o (plus o (minus o 1 (na a)) (times o (na a) (ne b))))
-      (is ∙ ap (λ l. coefficient_value o (weight o (map na l)) (map ne (take (suc (length bs) - 1) bs))) (take_all (suc (length ys) - 1) ys (omega arith))
-      ∙ ap (λ l. coefficient_value o (weight o (map na ys)) (map ne l)) (take_all (suc (length bs) - 1) bs (omega arith)))
+      (is ∙ ap (λ l. coefficient_value o (equality_weight o (map na l)) (map ne (take (suc (length bs) - 1) bs))) (take_all (suc (length ys) - 1) ys (omega arith))
+      ∙ ap (λ l. coefficient_value o (equality_weight o (map na ys)) (map ne l)) (take_all (suc (length bs) - 1) bs (omega arith)))
       ∙ sym (coefficients-weight o ring (na a) (ne b) (map na ys) (map ne bs) same)
 
   -- ---- products of coordinates
@@ -79,7 +79,7 @@ module _ (o : Ops) (ring : IsRing o) {A E : Type 0} (na : A → ℕ) (ne : E →
   later part zs xs = part_of part (take (length zs - 1) (drop 1 zs)) (take (length xs - 1) (drop 1 xs))
 
   pub carry-none : (zs : List A) (xs : List E) → length zs ≡ length xs → length zs < 1 → part_of Carry zs xs ≡ 1
-  unfolding weight
+  unfolding equality_weight
   carry-none [] [] size none = coefficients-none o ring (part_weight o Carry []) ∙ ap (element o) (carry-zero o []) ∙ element-one o ring
   carry-none [] (x ∷ xs) size none = absurd (omega (arith, size))
   carry-none (z ∷ zs) xs size none = absurd (omega (arith, none))
@@ -90,7 +90,7 @@ module _ (o : Ops) (ring : IsRing o) {A E : Type 0} (na : A → ℕ) (ne : E →
   done-none (z ∷ zs) xs size none = absurd (omega (arith, none))
 
   pub omega-none : (zs : List A) (xs : List E) → length zs ≡ length xs → length zs < 1 → part_of Omega zs xs ≡ 1
-  unfolding weight
+  unfolding equality_weight
   omega-none [] [] size none = coefficients-none o ring (part_weight o Omega []) ∙ ap (element o) (omega-last o [] 0 refl) ∙ element-one o ring
   omega-none [] (x ∷ xs) size none = absurd (omega (arith, size))
   omega-none (z ∷ zs) xs size none = absurd (omega (arith, none))

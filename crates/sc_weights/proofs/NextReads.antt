@@ -3,7 +3,7 @@ use Rattle.std.proofs.Common.{◌≡◌, ℕ, ◌+◌, ◌*◌, ◌^◌, ◌<◌
 use Rattle.std.proofs.lemmas.Nat.{pow_pos}
 use Rattle.std.proofs.lemmas.List.{length-map, map-append, take-append-drop}
 use Rattle.sc_definitions.specs.Ring.{Ops, IsRing, plus, times}
-use Rattle.sc_definitions.specs.Tables.{Basis, evaluation, projective, Order, prefix, suffix, sum_below, entries, weight, value, value_in, inner}
+use Rattle.sc_definitions.specs.Tables.{Basis, evaluation, projective, Order, prefix, suffix, sum_below, entries, equality_weight, value, value_in, inner_product}
 use Rattle.sc_definitions.proofs.Sums.{sum-same}
 use Rattle.sc_field.specs.Products.{products}
 use Rattle.sc_table.proofs.EntryLaws.{entry-embedded}
@@ -26,7 +26,7 @@ module _ (o : Ops) (ring : IsRing o) (order : Order) (ss zs : List ℕ) where
   -- ---- rows that gain the weights
 
   pub rows-prefix : (scale m : ℕ) (rows new : ℕ → ℕ) → order ≡ prefix → m ≡ 2 ^ length zs →
-      ((a c : ℕ) → a < 2 ^ length ss → c < m → new (a * m + c) ≡ plus o (rows (a * m + c)) (times o scale (times o (weight o ss a) (successor_weight o zs c)))) →
+      ((a c : ℕ) → a < 2 ^ length ss → c < m → new (a * m + c) ≡ plus o (rows (a * m + c)) (times o scale (times o (equality_weight o ss a) (successor_weight o zs c)))) →
       (b : ℕ) → b < 2 ^ length ss * m → new b ≡ plus o (rows b) (times o scale (weight_of o (successor order ss zs) b))
   rows-prefix scale m rows new is width added =
       by-blocks (2 ^ length ss) m (omega (arith, width, pow_pos (length zs))) (λ b. new b ≡ plus o (rows b) (times o scale (weight_of o (successor order ss zs) b)))
@@ -34,7 +34,7 @@ module _ (o : Ops) (ring : IsRing o) (order : Order) (ss zs : List ℕ) where
       ∙ ap (λ w. plus o (rows (a * m + c)) (times o scale w)) (sym (weight_of-slot o order prefix ss zs (a * m + c) is ∙ ap (λ k. slot_weight prefix o ss zs (a * k + c)) width ∙ slot-prefix o ring ss zs a c (omega (arith, lc, width)))))
 
   pub rows-suffix : (scale m : ℕ) (rows new : ℕ → ℕ) → order ≡ suffix → m ≡ 2 ^ length ss →
-      ((a c : ℕ) → a < 2 ^ length zs → c < m → new (a * m + c) ≡ plus o (rows (a * m + c)) (times o scale (times o (successor_weight o zs a) (weight o ss c)))) →
+      ((a c : ℕ) → a < 2 ^ length zs → c < m → new (a * m + c) ≡ plus o (rows (a * m + c)) (times o scale (times o (successor_weight o zs a) (equality_weight o ss c)))) →
       (b : ℕ) → b < 2 ^ length zs * m → new b ≡ plus o (rows b) (times o scale (weight_of o (successor order ss zs) b))
   rows-suffix scale m rows new is width added =
       by-blocks (2 ^ length zs) m (omega (arith, width, pow_pos (length ss))) (λ b. new b ≡ plus o (rows b) (times o scale (weight_of o (successor order ss zs) b)))
@@ -62,28 +62,28 @@ module _ (o : Ops) (ring : IsRing o) (order : Order) (ss zs : List ℕ) where
 
   -- the value in a basis of a slot's weights: the selector's coordinates stand first, or last
   slot-first : (basis : Basis) (xs ys : List ℕ) → length ss ≡ length xs → length zs ≡ length ys →
-      value_in basis o (weight_of o (successor prefix ss zs)) (xs ++ ys) ≡ times o (value_in basis o (weight o ss) xs) (value_in basis o (successor_weight o zs) ys)
+      value_in basis o (weight_of o (successor prefix ss zs)) (xs ++ ys) ≡ times o (value_in basis o (equality_weight o ss) xs) (value_in basis o (successor_weight o zs) ys)
   unfolding weight_of
   slot-first evaluation xs ys first second = value-slot_prefix o ring ss zs xs ys first second
   slot-first projective xs ys first second = coefficients-slot_first o ring ss zs xs ys first second
 
   slot-last : (basis : Basis) (xs ys : List ℕ) → length ss ≡ length xs → length zs ≡ length ys →
-      value_in basis o (weight_of o (successor suffix ss zs)) (ys ++ xs) ≡ times o (value_in basis o (weight o ss) xs) (value_in basis o (successor_weight o zs) ys)
+      value_in basis o (weight_of o (successor suffix ss zs)) (ys ++ xs) ≡ times o (value_in basis o (equality_weight o ss) xs) (value_in basis o (successor_weight o zs) ys)
   unfolding weight_of
   slot-last evaluation xs ys first second =
-      value-slot_suffix o ring ss zs ys xs first second ∙ times_comm o ring (value o (successor_weight o zs) ys) (value o (weight o ss) xs)
+      value-slot_suffix o ring ss zs ys xs first second ∙ times_comm o ring (value o (successor_weight o zs) ys) (value o (equality_weight o ss) xs)
   slot-last projective xs ys first second = coefficients-slot_last o ring ss zs ys xs second first
 
   pub at-prefix : (basis : Basis) (xs ys row : List ℕ) (equal next : ℕ) → order ≡ prefix → row ≡ xs ++ ys → length ss ≡ length xs → length zs ≡ length ys →
-      equal ≡ value_in basis o (weight o ss) xs → next ≡ value_in basis o (successor_weight o zs) ys → times o equal next ≡ value_in basis o (weight_of o (successor order ss zs)) row
+      equal ≡ value_in basis o (equality_weight o ss) xs → next ≡ value_in basis o (successor_weight o zs) ys → times o equal next ≡ value_in basis o (weight_of o (successor order ss zs)) row
   at-prefix basis xs ys row equal next is split first second equal_is next_is =
-      ap (λ k. times o k next) equal_is ∙ ap (times o (value_in basis o (weight o ss) xs)) next_is
+      ap (λ k. times o k next) equal_is ∙ ap (times o (value_in basis o (equality_weight o ss) xs)) next_is
       ∙ sym (ap (λ k. value_in basis o (weight_of o (successor k ss zs)) row) is ∙ ap (value_in basis o (weight_of o (successor prefix ss zs))) split ∙ slot-first basis xs ys first second)
 
   pub at-suffix : (basis : Basis) (xs ys row : List ℕ) (equal next : ℕ) → order ≡ suffix → row ≡ ys ++ xs → length ss ≡ length xs → length zs ≡ length ys →
-      equal ≡ value_in basis o (weight o ss) xs → next ≡ value_in basis o (successor_weight o zs) ys → times o equal next ≡ value_in basis o (weight_of o (successor order ss zs)) row
+      equal ≡ value_in basis o (equality_weight o ss) xs → next ≡ value_in basis o (successor_weight o zs) ys → times o equal next ≡ value_in basis o (weight_of o (successor order ss zs)) row
   at-suffix basis xs ys row equal next is split first second equal_is next_is =
-      ap (λ k. times o k next) equal_is ∙ ap (times o (value_in basis o (weight o ss) xs)) next_is
+      ap (λ k. times o k next) equal_is ∙ ap (times o (value_in basis o (equality_weight o ss) xs)) next_is
       ∙ sym (ap (λ k. value_in basis o (weight_of o (successor k ss zs)) row) is ∙ ap (value_in basis o (weight_of o (successor suffix ss zs))) split ∙ slot-last basis xs ys first second)
 
 -- a row of two parts
@@ -96,7 +96,7 @@ row-parts number row front back k first second =
 pub slots-sum : (o : Ops) (ring : IsRing o) {A : Type 0} (embed : ℕ → ℕ) (of : A → ℕ) → embed 0 ≡ 0 → (rows : List A) (ss zs : List ℕ) (p : ℕ) (w : ℕ → ℕ) →
     ((b : ℕ) → b < length rows → w b ≡ slot_weight prefix o ss zs b) → length zs ≡ p → 2 ^ (length ss + p) ≡ length rows →
     products o (length rows) (entries (λ x. embed (of x)) rows) w ≡ value o (λ a. value o (λ c. embed (entries of rows (a * 2 ^ p + next_row p c))) zs) ss
-unfolding products true_value weight_of inner
+unfolding products true_value weight_of inner_product
 slots-sum o ring embed of zero_kept rows ss zs p w is arity size =
     let f : ℕ → ℕ = λ b. embed (entries of rows b) in
     let whole : length rows ≡ 2 ^ (length ss + length zs) = sym size ∙ ap (λ k. 2 ^ (length ss + k)) (sym arity) in

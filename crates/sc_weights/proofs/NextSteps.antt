@@ -4,7 +4,7 @@ use Rattle.std.proofs.lemmas.List.{length-take-le, length-drop}
 use Rattle.std.proofs.lemmas.Bool.{cases_lt}
 use Rattle.std.proofs.lemmas.Nat.{mul-le, pow_pos, div_below}
 use Rattle.sc_definitions.specs.Ring.{Ops, IsRing, plus, times, minus}
-use Rattle.sc_definitions.specs.Tables.{prefix, entries, weight}
+use Rattle.sc_definitions.specs.Tables.{prefix, entries, equality_weight}
 use Rattle.sc_definitions.specs.Shifts.{shifted}
 use Rattle.sc_definitions.specs.Statements.{successor_weight, slot_weight}
 use Rattle.sc_definitions.proofs.RingLaws.{element-small, times-one, times_assoc}
@@ -13,7 +13,7 @@ use Rattle.sc_table.specs.Blocks.{block_weight}
 use Rattle.std.proofs.Math.Nat.{mod-lt}
 use Rattle.sc_table.proofs.BlockWeights.{block-at, IsSplit, split-weight, blocks-none}
 use Rattle.sc_table.proofs.EntryLaws.{entry-take, entry-drop, entry-append_left, entry-append_right}
-use Rattle.sc_definitions.proofs.BlockLaws.{weight-append, slot-prefix}
+use Rattle.sc_definitions.proofs.BlockLaws.{equality_weight-append, slot-prefix}
 use Rattle.sc_weights.specs.Moved.{moved_up}
 use Rattle.sc_weights.proofs.Halves.{before-end, in-end, end-given, last-of}
 use Rattle.sc_definitions.proofs.SuccessorLaws.{only_at-here, only_at-elsewhere, successor-parts}
@@ -76,8 +76,8 @@ module _ (o : Ops) (ring : IsRing o) where
         ∙ sym (shifted-behind before (λ k. times o scale (all k)) n b (omega (arith, low)))
 
   -- of no coordinate
-  pub last-none : (scale : ℕ) (zs : List ℕ) → length zs < 1 → scale < o.size → scale ≡ times o scale (weight o zs (2 ^ length zs - 1))
-  unfolding weight
+  pub last-none : (scale : ℕ) (zs : List ℕ) → length zs < 1 → scale < o.size → scale ≡ times o scale (equality_weight o zs (2 ^ length zs - 1))
+  unfolding equality_weight
   last-none scale [] none low = sym (times-one o ring scale ∙ element-small o ring scale low)
   last-none scale (z ∷ zs) none low = absurd (omega (arith, none))
 
@@ -85,53 +85,53 @@ module _ (o : Ops) (ring : IsRing o) where
 
   -- a row but the last gains what the row before weighs
   pub gains-moved : (e scale : ℕ) (zs : List ℕ) (v a : ℕ) → a < 2 ^ length zs → (a ≡ 2 ^ length zs - 1 → ⊥) →
-      plus o e (times o (shifted 0 (λ k. times o scale (weight o zs k)) a) v) ≡ plus o e (times o scale (times o (successor_weight o zs a) v))
+      plus o e (times o (shifted 0 (λ k. times o scale (equality_weight o zs k)) a) v) ≡ plus o e (times o scale (times o (successor_weight o zs a) v))
   unfolding Agree
   gains-moved e scale zs v a low other =
-      let up = shifted 0 (weight o zs) a in
-      ap (λ k. plus o e (times o k v)) (shifted-times scale (weight o zs) a)
+      let up = shifted 0 (equality_weight o zs) a in
+      ap (λ k. plus o e (times o k v)) (shifted-times scale (equality_weight o zs) a)
       ∙ ap (plus o e) (identity o ring (scale ∷ up ∷ v ∷ []) ((atom 0 ⊗ atom 1) ⊗ atom 2) (atom 0 ⊗ ((atom 1 ⊕ nought) ⊗ atom 2)) tt tt refl)
-      ∙ ap (λ k. plus o e (times o scale (times o (plus o up k) v))) (sym (only_at-elsewhere (2 ^ length zs - 1) (weight o zs) a other))
+      ∙ ap (λ k. plus o e (times o scale (times o (plus o up k) v))) (sym (only_at-elsewhere (2 ^ length zs - 1) (equality_weight o zs) a other))
       ∙ ap (λ k. plus o e (times o scale (times o k v))) (sym (successor-parts o ring zs a low))
 
   -- the last row gains what it weighs itself, too
-  pub gains-both : (e scale : ℕ) (zs : List ℕ) (v stays : ℕ) → stays ≡ times o scale (weight o zs (2 ^ length zs - 1)) →
-      plus o (plus o e (times o (shifted 0 (λ k. times o scale (weight o zs k)) (2 ^ length zs - 1)) v)) (times o stays v) ≡ plus o e (times o scale (times o (successor_weight o zs (2 ^ length zs - 1)) v))
+  pub gains-both : (e scale : ℕ) (zs : List ℕ) (v stays : ℕ) → stays ≡ times o scale (equality_weight o zs (2 ^ length zs - 1)) →
+      plus o (plus o e (times o (shifted 0 (λ k. times o scale (equality_weight o zs k)) (2 ^ length zs - 1)) v)) (times o stays v) ≡ plus o e (times o scale (times o (successor_weight o zs (2 ^ length zs - 1)) v))
   unfolding Agree
   gains-both e scale zs v stays is =
       let last = 2 ^ length zs - 1 in
       let pos : 0 < 2 ^ length zs = pow_pos (length zs) in
-      let up = shifted 0 (weight o zs) last in
+      let up = shifted 0 (equality_weight o zs) last in
       let E = atom 0 in let S = atom 1 in let U = atom 2 in let W = atom 3 in let V = atom 4 in
-      ap (λ k. plus o (plus o e (times o k v)) (times o stays v)) (shifted-times scale (weight o zs) last)
+      ap (λ k. plus o (plus o e (times o k v)) (times o stays v)) (shifted-times scale (equality_weight o zs) last)
       ∙ ap (λ k. plus o (plus o e (times o (times o scale up) v)) (times o k v)) is
-      ∙ identity o ring (e ∷ scale ∷ up ∷ weight o zs last ∷ v ∷ []) ((E ⊕ (S ⊗ U) ⊗ V) ⊕ (S ⊗ W) ⊗ V) (E ⊕ S ⊗ ((U ⊕ W) ⊗ V)) tt tt refl
-      ∙ ap (λ k. plus o e (times o scale (times o (plus o up k) v))) (sym (only_at-here last (weight o zs) last refl))
+      ∙ identity o ring (e ∷ scale ∷ up ∷ equality_weight o zs last ∷ v ∷ []) ((E ⊕ (S ⊗ U) ⊗ V) ⊕ (S ⊗ W) ⊗ V) (E ⊕ S ⊗ ((U ⊕ W) ⊗ V)) tt tt refl
+      ∙ ap (λ k. plus o e (times o scale (times o (plus o up k) v))) (sym (only_at-here last (equality_weight o zs) last refl))
       ∙ ap (λ k. plus o e (times o scale (times o k v))) (sym (successor-parts o ring zs last (omega (arith, pos))))
 
 -- ---- slots of a selector that stands first
 
 module _ (o : Ops) (ring : IsRing o) where
-  pub slot-none : (scale u a : ℕ) (ss : List ℕ) → length ss < 1 → times o scale (times o u (weight o [] 0)) ≡ times o scale (times o (weight o ss a) u)
-  unfolding weight Agree
+  pub slot-none : (scale u a : ℕ) (ss : List ℕ) → length ss < 1 → times o scale (times o u (equality_weight o [] 0)) ≡ times o scale (times o (equality_weight o ss a) u)
+  unfolding equality_weight Agree
   slot-none scale u a [] none = identity o ring (scale ∷ u ∷ []) (atom 0 ⊗ (atom 1 ⊗ unit)) (atom 0 ⊗ (unit ⊗ atom 1)) tt tt refl
   slot-none scale u a (s ∷ ss) none = absurd (omega (arith, none))
 
   module _ (z : ℕ) (zs all : List ℕ) (split : all ≡ z ∷ zs) (scale u b : ℕ) (low : b < 2 ^ length zs) where
-    halves : IsSplit o z (2 ^ length zs) (weight o zs) (weight o all)
+    halves : IsSplit o z (2 ^ length zs) (equality_weight o zs) (equality_weight o all)
     halves = split-weight o ring z zs all split
 
-    pub slot-low : times o (minus o scale (times o scale z)) (times o (weight o zs b) u) ≡ times o scale (times o (weight o all b) u)
+    pub slot-low : times o (minus o scale (times o scale z)) (times o (equality_weight o zs b) u) ≡ times o scale (times o (equality_weight o all b) u)
     slot-low =
-        sym (times_assoc o ring (minus o scale (times o scale z)) (weight o zs b) u)
-        ∙ ap (λ k. times o k u) (share-low o ring z (2 ^ length zs) (weight o zs) (weight o all) halves scale b low)
-        ∙ times_assoc o ring scale (weight o all b) u
+        sym (times_assoc o ring (minus o scale (times o scale z)) (equality_weight o zs b) u)
+        ∙ ap (λ k. times o k u) (share-low o ring z (2 ^ length zs) (equality_weight o zs) (equality_weight o all) halves scale b low)
+        ∙ times_assoc o ring scale (equality_weight o all b) u
 
-    pub slot-high : times o (times o scale z) (times o (weight o zs b) u) ≡ times o scale (times o (weight o all (2 ^ length zs + b)) u)
+    pub slot-high : times o (times o scale z) (times o (equality_weight o zs b) u) ≡ times o scale (times o (equality_weight o all (2 ^ length zs + b)) u)
     slot-high =
-        sym (times_assoc o ring (times o scale z) (weight o zs b) u)
-        ∙ ap (λ k. times o k u) (share-high o ring z (2 ^ length zs) (weight o zs) (weight o all) halves scale b low)
-        ∙ times_assoc o ring scale (weight o all (2 ^ length zs + b)) u
+        sym (times_assoc o ring (times o scale z) (equality_weight o zs b) u)
+        ∙ ap (λ k. times o k u) (share-high o ring z (2 ^ length zs) (equality_weight o zs) (equality_weight o all) halves scale b low)
+        ∙ times_assoc o ring scale (equality_weight o all (2 ^ length zs + b)) u
 
 -- ---- the last row of blocks, and rows whose first one is written alone
 
@@ -203,29 +203,29 @@ parts-added o number rows low high post s fits low_size high_size first second l
 module _ (o : Ops) (ring : IsRing o) where
   -- the weights of all coordinates, moved up by the rows that the selector tells apart
   pub moved-rows : (e scale : ℕ) (zs ss : List ℕ) (g : ℕ → ℕ) (a c : ℕ) → a < 2 ^ length zs → c < 2 ^ length ss →
-      plus o e (moved_up (2 ^ length ss) (λ j. times o 0 (g j)) (λ k. times o scale (weight o (zs ++ ss) k)) (a * 2 ^ length ss + c))
-      ≡ plus o e (times o (shifted 0 (λ k. times o scale (weight o zs k)) a) (weight o ss c))
+      plus o e (moved_up (2 ^ length ss) (λ j. times o 0 (g j)) (λ k. times o scale (equality_weight o (zs ++ ss) k)) (a * 2 ^ length ss + c))
+      ≡ plus o e (times o (shifted 0 (λ k. times o scale (equality_weight o zs k)) a) (equality_weight o ss c))
   unfolding Agree shifted
   moved-rows e scale zs ss g zero c la lc =
       let P = 2 ^ length ss in
       let first : ℕ → ℕ = λ j. times o 0 (g j) in
-      let f : ℕ → ℕ = λ k. times o scale (weight o (zs ++ ss) k) in
+      let f : ℕ → ℕ = λ k. times o scale (equality_weight o (zs ++ ss) k) in
       let row : 0 * P + c ≡ c = omega arith in
       ap (λ b. plus o e (moved_up P first f b)) row ∙ ap (plus o e) (up-first P first f c lc)
-      ∙ identity o ring (e ∷ g c ∷ weight o ss c ∷ []) (atom 0 ⊕ nought ⊗ atom 1) (atom 0 ⊕ nought ⊗ atom 2) tt tt refl
+      ∙ identity o ring (e ∷ g c ∷ equality_weight o ss c ∷ []) (atom 0 ⊕ nought ⊗ atom 1) (atom 0 ⊕ nought ⊗ atom 2) tt tt refl
   moved-rows e scale zs ss g (suc a) c la lc =
       let P = 2 ^ length ss in
       let first : ℕ → ℕ = λ j. times o 0 (g j) in
-      let f : ℕ → ℕ = λ k. times o scale (weight o (zs ++ ss) k) in
+      let f : ℕ → ℕ = λ k. times o scale (equality_weight o (zs ++ ss) k) in
       let row : suc a * P + c ≡ P + (a * P + c) = omega arith in
       let back : P + (a * P + c) - P ≡ a * P + c = omega arith in
       ap (λ b. plus o e (moved_up P first f b)) row ∙ ap (plus o e) (up-behind P first f (P + (a * P + c)) (omega arith) ∙ ap f back
-      ∙ ap (times o scale) (weight-append o ring zs ss a c (omega (arith, la)) lc) ∙ sym (times_assoc o ring scale (weight o zs a) (weight o ss c)))
+      ∙ ap (times o scale) (equality_weight-append o ring zs ss a c (omega (arith, la)) lc) ∙ sym (times_assoc o ring scale (equality_weight o zs a) (equality_weight o ss c)))
 
   -- the last rows of all, by those of the last block, whose scale is what the blocks' coordinates make of the whole one
-  pub last-rows : (scale stays n s : ℕ) (w : ℕ → ℕ) (outer inner zs ss : List ℕ) → 0 < n → n ≡ 2 ^ length inner → s ≡ 2 ^ length ss → s ≤ n → ((c : ℕ) → c < n → w c ≡ weight o inner c) → outer ++ inner ≡ zs ++ ss →
-      2 ^ length zs * s ≡ 2 ^ length outer * n → stays ≡ times o scale (weight o outer (2 ^ length outer - 1)) → (c : ℕ) → c < s →
-      times o stays (w (n - s + c)) ≡ times o (times o scale (weight o zs (2 ^ length zs - 1))) (weight o ss c)
+  pub last-rows : (scale stays n s : ℕ) (w : ℕ → ℕ) (outer inner zs ss : List ℕ) → 0 < n → n ≡ 2 ^ length inner → s ≡ 2 ^ length ss → s ≤ n → ((c : ℕ) → c < n → w c ≡ equality_weight o inner c) → outer ++ inner ≡ zs ++ ss →
+      2 ^ length zs * s ≡ 2 ^ length outer * n → stays ≡ times o scale (equality_weight o outer (2 ^ length outer - 1)) → (c : ℕ) → c < s →
+      times o stays (w (n - s + c)) ≡ times o (times o scale (equality_weight o zs (2 ^ length zs - 1))) (equality_weight o ss c)
   last-rows scale stays n s w outer inner zs ss some width narrow fits inner_is joined size stays_is c low =
       let Q = 2 ^ length outer in
       let q = 2 ^ length zs in
@@ -234,18 +234,18 @@ module _ (o : Ops) (ring : IsRing o) where
       let pos' : 0 < q = pow_pos (length zs) in
       let row : (Q - 1) * n + (n - s + c) ≡ (q - 1) * s + c = omega (arith, last-of Q n pos, last-of q s pos', size, fits) in
       let row' : (Q - 1) * 2 ^ length inner + (n - s + c) ≡ (q - 1) * 2 ^ length ss + c = ap (λ k. (Q - 1) * k + (n - s + c)) (sym width) ∙ row ∙ ap (λ k. (q - 1) * k + c) narrow in
-      ap (λ k. times o k (w (n - s + c))) stays_is ∙ times_assoc o ring scale (weight o outer (Q - 1)) (w (n - s + c))
-      ∙ ap (λ k. times o scale (times o (weight o outer (Q - 1)) k)) (inner_is (n - s + c) within)
-      ∙ ap (times o scale) (sym (weight-append o ring outer inner (Q - 1) (n - s + c) (omega (arith, pos)) (subst (λ k. n - s + c < k) width within))
-      ∙ ap (λ l. weight o l ((Q - 1) * 2 ^ length inner + (n - s + c))) joined ∙ ap (weight o (zs ++ ss)) row'
-      ∙ weight-append o ring zs ss (q - 1) c (omega (arith, pos')) (subst (λ k. c < k) narrow low))
-      ∙ sym (times_assoc o ring scale (weight o zs (q - 1)) (weight o ss c))
+      ap (λ k. times o k (w (n - s + c))) stays_is ∙ times_assoc o ring scale (equality_weight o outer (Q - 1)) (w (n - s + c))
+      ∙ ap (λ k. times o scale (times o (equality_weight o outer (Q - 1)) k)) (inner_is (n - s + c) within)
+      ∙ ap (times o scale) (sym (equality_weight-append o ring outer inner (Q - 1) (n - s + c) (omega (arith, pos)) (subst (λ k. n - s + c < k) width within))
+      ∙ ap (λ l. equality_weight o l ((Q - 1) * 2 ^ length inner + (n - s + c))) joined ∙ ap (equality_weight o (zs ++ ss)) row'
+      ∙ equality_weight-append o ring zs ss (q - 1) c (omega (arith, pos')) (subst (λ k. c < k) narrow low))
+      ∙ sym (times_assoc o ring scale (equality_weight o zs (q - 1)) (equality_weight o ss c))
 
 -- ---- blocks of the slots of a selector that stands first
 
 module _ (o : Ops) (ring : IsRing o) where
   pub slots-joined : (outer inner zs : List ℕ) (n : ℕ) (w : ℕ → ℕ) → n ≡ 2 ^ length inner * 2 ^ length zs →
-      ((a c : ℕ) → a < 2 ^ length inner → c < 2 ^ length zs → w (a * 2 ^ length zs + c) ≡ times o (weight o inner a) (successor_weight o zs c)) →
+      ((a c : ℕ) → a < 2 ^ length inner → c < 2 ^ length zs → w (a * 2 ^ length zs + c) ≡ times o (equality_weight o inner a) (successor_weight o zs c)) →
       (b : ℕ) → b < 2 ^ length outer * n → block_weight o outer n w b ≡ slot_weight prefix o (outer ++ inner) zs b
   slots-joined outer inner zs n w size is b low =
       let Q = 2 ^ length inner in
@@ -264,9 +264,9 @@ module _ (o : Ops) (ring : IsRing o) where
       let A_low : A < 2 ^ length outer = div_below b n (2 ^ length outer) some low in
       let whole : (A * Q + a) * P + c ≡ b = omega (arith, row, place, ap (λ k. A * k) size) in
       ap (block_weight o outer n w) (sym row) ∙ block-at o ring n some w outer A r r_low
-      ∙ ap (times o (weight o outer A)) (ap w (sym place) ∙ is a c a_low c_low)
-      ∙ sym (times_assoc o ring (weight o outer A) (weight o inner a) (successor_weight o zs c))
-      ∙ ap (λ k. times o k (successor_weight o zs c)) (sym (weight-append o ring outer inner A a A_low a_low))
+      ∙ ap (times o (equality_weight o outer A)) (ap w (sym place) ∙ is a c a_low c_low)
+      ∙ sym (times_assoc o ring (equality_weight o outer A) (equality_weight o inner a) (successor_weight o zs c))
+      ∙ ap (λ k. times o k (successor_weight o zs c)) (sym (equality_weight-append o ring outer inner A a A_low a_low))
       ∙ sym (slot-prefix o ring (outer ++ inner) zs (A * Q + a) c c_low) ∙ ap (slot_weight prefix o (outer ++ inner) zs) whole
 
   -- a slot's weights that are added to nothing

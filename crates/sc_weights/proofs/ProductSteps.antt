@@ -2,11 +2,11 @@
 use Rattle.std.proofs.Common.{◌≡◌, ℕ, suc, ◌+◌, ◌-◌, ◌^◌, ◌<◌, ◌≤◌, List, [], ◌∷◌, length, map, take, drop, sym, ◌∙◌, ap, refl, arith, ◌⊎◌, ⊎_elim}
 use Rattle.std.proofs.lemmas.List.{take_all, length-take-le, length-drop}
 use Rattle.sc_definitions.specs.Ring.{Ops, IsRing, element, plus, times, minus}
-use Rattle.sc_definitions.specs.Tables.{sum_below, monomial, inner, value}
+use Rattle.sc_definitions.specs.Tables.{sum_below, monomial, inner_product, value}
 use Rattle.sc_definitions.proofs.RingLaws.{element-small, element-one, element-times, times-one, times_comm, times_assoc}
 use Rattle.sc_definitions.proofs.Sums.{sum-same, times-sum}
 use Rattle.sc_definitions.proofs.Identity.{atom, nought, unit, ◌⊕◌, ◌⊗◌, Agree, identity}
-use Rattle.sc_definitions.proofs.TableLaws.{inner-halves}
+use Rattle.sc_definitions.proofs.TableLaws.{inner_product-halves}
 use Rattle.sc_definitions.proofs.ValueLaws.{element-value, value-monomial_none, value-monomial_more}
 use Rattle.sc_definitions.proofs.PlacedLaws.{monomial-low, monomial-high}
 
@@ -25,10 +25,10 @@ module _ (o : Ops) (ring : IsRing o) (z : ℕ) (zs all : List ℕ) (split : all 
       ∙ ap (times o scale) (sym (ap (λ l. monomial o l (2 ^ length zs + b)) split ∙ monomial-high o ring z zs b low))
 
   -- the sum over both halves
-  pub inner-monomial : (f low high : ℕ → ℕ) → ((b : ℕ) → b < 2 ^ length zs → low b ≡ f b) → ((b : ℕ) → b < 2 ^ length zs → high b ≡ f (2 ^ length zs + b)) →
-      plus o (inner o (length zs) low (monomial o zs)) (times o (inner o (length zs) high (monomial o zs)) z) ≡ inner o (length all) f (monomial o all)
-  unfolding inner Agree
-  inner-monomial f low high low_is high_is =
+  pub inner_product-monomial : (f low high : ℕ → ℕ) → ((b : ℕ) → b < 2 ^ length zs → low b ≡ f b) → ((b : ℕ) → b < 2 ^ length zs → high b ≡ f (2 ^ length zs + b)) →
+      plus o (inner_product o (length zs) low (monomial o zs)) (times o (inner_product o (length zs) high (monomial o zs)) z) ≡ inner_product o (length all) f (monomial o all)
+  unfolding inner_product Agree
+  inner_product-monomial f low high low_is high_is =
       let n = 2 ^ length zs in
       let S = sum_below o n (λ b. times o (low b) (monomial o zs b)) in
       let T = sum_below o n (λ b. times o (high b) (monomial o zs b)) in
@@ -41,8 +41,8 @@ module _ (o : Ops) (ring : IsRing o) (z : ℕ) (zs all : List ℕ) (split : all 
       ap (λ k. times o z (times o k (monomial o zs b))) (high_is b below)
       ∙ identity o ring (f (n + b) ∷ z ∷ monomial o zs b ∷ []) (atom 1 ⊗ (atom 0 ⊗ atom 2)) (atom 0 ⊗ (atom 1 ⊗ atom 2)) tt tt refl
       ∙ ap (times o (f (n + b))) (sym (monomial-high o ring z zs b below))))
-      ∙ sym (inner-halves o ring (length zs) f (monomial o (z ∷ zs)))
-      ∙ ap (λ l. inner o (length l) f (monomial o l)) (sym split)
+      ∙ sym (inner_product-halves o ring (length zs) f (monomial o (z ∷ zs)))
+      ∙ ap (λ l. inner_product o (length l) f (monomial o l)) (sym split)
 
 module _ (o : Ops) (ring : IsRing o) where
   -- of no coordinate
@@ -51,10 +51,10 @@ module _ (o : Ops) (ring : IsRing o) where
   gain-none scale [] none = times-one o ring scale
   gain-none scale (z ∷ zs) none = absurd (omega (arith, none))
 
-  pub inner-none : (f : ℕ → ℕ) (zs : List ℕ) → length zs < 1 → f 0 < o.size → f 0 ≡ inner o (length zs) f (monomial o zs)
-  unfolding inner sum_below monomial Agree
-  inner-none f [] none low = sym (identity o ring (f 0 ∷ []) (nought ⊕ atom 0 ⊗ unit) (atom 0 ⊗ unit) tt tt refl ∙ times-one o ring (f 0) ∙ element-small o ring (f 0) low)
-  inner-none f (z ∷ zs) none low = absurd (omega (arith, none))
+  pub inner_product-none : (f : ℕ → ℕ) (zs : List ℕ) → length zs < 1 → f 0 < o.size → f 0 ≡ inner_product o (length zs) f (monomial o zs)
+  unfolding inner_product sum_below monomial Agree
+  inner_product-none f [] none low = sym (identity o ring (f 0 ∷ []) (nought ⊕ atom 0 ⊗ unit) (atom 0 ⊗ unit) tt tt refl ∙ times-one o ring (f 0) ∙ element-small o ring (f 0) low)
+  inner_product-none f (z ∷ zs) none low = absurd (omega (arith, none))
 
 -- ---- the last coordinates, after the first one too
 

@@ -3,7 +3,7 @@
 
 ghost use Rattle.std.specs.Prelude.{◌≡◌, ℕ, ◌^◌, length, map};
 ghost use Rattle.sc_definitions.specs.Ring.{power};
-ghost use Rattle.sc_definitions.specs.Tables.{weight, monomial, coefficient_value};
+ghost use Rattle.sc_definitions.specs.Tables.{equality_weight, monomial, coefficient_value};
 ghost use Rattle.sc_definitions.specs.Parts.{Carry, Done, Omega, part_weight};
 
 use sc_field::{Algebra, Field};
@@ -12,7 +12,8 @@ use sc_field::{Algebra, Field};
 /// 1 - z + z x over the pairs of coordinates.
 pub(crate) fn equality_at<EF: Field>(z: &[EF], x: &[EF]) -> EF
     requires { length z.now ≡ length x.now }
-    ensures { EF.number result ≡ coefficient_value EF.ops (weight EF.ops (map EF.number z.now))
+    ensures { EF.number result
+        ≡ coefficient_value EF.ops (equality_weight EF.ops (map EF.number z.now))
         (map EF.number x.now) }
 {
     let [first, rest @ ..] = z else {

@@ -2,7 +2,7 @@
 
 ghost use Rattle.std.specs.Prelude.{◌≡◌, ℕ, ◌*◌, ◌^◌, ◌<◌, length, map};
 ghost use Rattle.sc_definitions.specs.Ring.{◌+⟨◌⟩◌, ◌*⟨◌⟩◌};
-ghost use Rattle.sc_definitions.specs.Tables.{entries, weight};
+ghost use Rattle.sc_definitions.specs.Tables.{entries, equality_weight};
 ghost use Rattle.sc_table.specs.Blocks.{block_weight};
 
 use crate::row_weights::RowWeights;
@@ -41,7 +41,7 @@ pub(crate) fn add_point<EF: Field>(rows: &mut [EF], z: &[EF], scale: EF)
     ensures { (b : ℕ) → b < 2 ^ length z.now →
         entries EF.number rows.new b
         ≡ entries EF.number rows.old b +⟨ EF.ops ⟩ EF.number scale
-        *⟨ EF.ops ⟩ weight EF.ops (map EF.number z.now) b }
+        *⟨ EF.ops ⟩ equality_weight EF.ops (map EF.number z.now) b }
 {
     if z.len() < BLOCK_COORDINATES || !fits_in_blocks::<EF>() {
         add_equality(rows, z, scale);

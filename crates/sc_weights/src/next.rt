@@ -2,7 +2,7 @@
 
 ghost use Rattle.std.specs.Prelude.{◌≡◌, ℕ, ◌+◌, ◌*◌, ◌^◌, ◌<◌, ◌≤◌, [], length, map};
 ghost use Rattle.sc_definitions.specs.Ring.{◌+⟨◌⟩◌, ◌*⟨◌⟩◌};
-ghost use Rattle.sc_definitions.specs.Tables.{entries, weight, value};
+ghost use Rattle.sc_definitions.specs.Tables.{entries, equality_weight, value};
 ghost use Rattle.sc_definitions.specs.Statements.{next_row, successor_weight};
 ghost use Rattle.sc_table.specs.Blocks.{FitsInBlocks};
 
@@ -77,7 +77,8 @@ fn add_slots<EF: Field>(rows: &mut [EF], selector: &[EF], point: &[EF], scale: E
     ensures { (a c : ℕ) → a < 2 ^ length selector.now → c < 2 ^ length point.now
         → entries EF.number rows.new (a * 2 ^ length point.now + c)
         ≡ entries EF.number rows.old (a * 2 ^ length point.now + c)
-        +⟨ EF.ops ⟩ EF.number scale *⟨ EF.ops ⟩ (weight EF.ops (map EF.number selector.now) a
+        +⟨ EF.ops ⟩ EF.number scale
+        *⟨ EF.ops ⟩ (equality_weight EF.ops (map EF.number selector.now) a
         *⟨ EF.ops ⟩ successor_weight EF.ops (map EF.number point.now) c) }
 {
     if point.len() < BLOCK_COORDINATES && rows.len() >= 256 && fits_in_blocks::<EF>() {
@@ -94,7 +95,8 @@ fn add_slots_by_halves<EF: Field>(rows: &mut [EF], selector: &[EF], point: &[EF]
     ensures { (a c : ℕ) → a < 2 ^ length selector.now → c < 2 ^ length point.now
         → entries EF.number rows.new (a * 2 ^ length point.now + c)
         ≡ entries EF.number rows.old (a * 2 ^ length point.now + c)
-        +⟨ EF.ops ⟩ EF.number scale *⟨ EF.ops ⟩ (weight EF.ops (map EF.number selector.now) a
+        +⟨ EF.ops ⟩ EF.number scale
+        *⟨ EF.ops ⟩ (equality_weight EF.ops (map EF.number selector.now) a
         *⟨ EF.ops ⟩ successor_weight EF.ops (map EF.number point.now) c) }
 {
     let [first, rest @ ..] = selector else {
@@ -115,7 +117,8 @@ fn add_slots_by_blocks<EF: Field>(rows: &mut [EF], selector: &[EF], point: &[EF]
     ensures { (a c : ℕ) → a < 2 ^ length selector.now → c < 2 ^ length point.now
         → entries EF.number rows.new (a * 2 ^ length point.now + c)
         ≡ entries EF.number rows.old (a * 2 ^ length point.now + c)
-        +⟨ EF.ops ⟩ EF.number scale *⟨ EF.ops ⟩ (weight EF.ops (map EF.number selector.now) a
+        +⟨ EF.ops ⟩ EF.number scale
+        *⟨ EF.ops ⟩ (equality_weight EF.ops (map EF.number selector.now) a
         *⟨ EF.ops ⟩ successor_weight EF.ops (map EF.number point.now) c) }
 {
     let (outer, inner) = selector.split_at(selector.len() - (BLOCK_COORDINATES - point.len()));
@@ -130,7 +133,7 @@ fn slot_weights<EF: Field>(selector: &[EF], point: &[EF]) -> [EF; 256]
     requires coordinates { length selector.now + length point.now ≡ 8 }
     ensures { (a c : ℕ) → a < 2 ^ length selector.now → c < 2 ^ length point.now
         → entries EF.number result (a * 2 ^ length point.now + c)
-        ≡ weight EF.ops (map EF.number selector.now) a
+        ≡ equality_weight EF.ops (map EF.number selector.now) a
         *⟨ EF.ops ⟩ successor_weight EF.ops (map EF.number point.now) c }
 {
     let mut weights = [EF::ZERO; 256];

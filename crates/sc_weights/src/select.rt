@@ -2,7 +2,7 @@
 
 ghost use Rattle.std.specs.Prelude.{◌≡◌, ℕ, ◌-◌, ◌*◌, ◌^◌, ◌<◌, ◌≤◌, length, map, drop};
 ghost use Rattle.sc_definitions.specs.Ring.{power, ◌+⟨◌⟩◌, ◌*⟨◌⟩◌};
-ghost use Rattle.sc_definitions.specs.Tables.{entries, monomial, sum_below, inner, value};
+ghost use Rattle.sc_definitions.specs.Tables.{entries, monomial, sum_below, inner_product, value};
 ghost use Rattle.sc_table.specs.Blocks.{FitsInBlocks};
 
 use crate::row_weights::RowWeights;
@@ -258,7 +258,7 @@ fn add_products_by_halves<F: Field, EF: Algebra<F>>(rows: &mut [EF], z: &[F], sc
 // The sum of the entries times the products of the coordinates, by blocks.
 fn products_value<F: Field, A: Field, EF: Algebra<F> + Algebra<A>>(rows: &[A], z: &[F]) -> EF
     requires { length rows.now ≡ 2 ^ length z.now }
-    ensures { EF.number result ≡ inner EF.ops (length z.now)
+    ensures { EF.number result ≡ inner_product EF.ops (length z.now)
         (λ b. ⟦<EF as Algebra<A>>⟧.embedding (entries A.number rows.now b)) (monomial EF.ops (map
         (λ x. ⟦<EF as Algebra<F>>⟧.embedding (F.number x)) z.now)) }
 {
@@ -280,7 +280,7 @@ fn products_value_by_blocks<F: Field, A: Field, EF: Algebra<F> + Algebra<A>>(
     requires block { length weights.now ≡ 256 }
     requires weights { (c : ℕ) → c < 256 → entries EF.number weights.now c ≡ monomial EF.ops (map
         (λ x. ⟦<EF as Algebra<F>>⟧.embedding (F.number x)) (drop (length z.now - 8) z.now)) c }
-    ensures { EF.number result ≡ inner EF.ops (length z.now)
+    ensures { EF.number result ≡ inner_product EF.ops (length z.now)
         (λ b. ⟦<EF as Algebra<A>>⟧.embedding (entries A.number rows.now b)) (monomial EF.ops (map
         (λ x. ⟦<EF as Algebra<F>>⟧.embedding (F.number x)) z.now)) }
 {
@@ -299,7 +299,7 @@ fn products_value_by_halves<F: Field, A: Field, EF: Algebra<F> + Algebra<A>>(
     z: &[F],
 ) -> EF
     requires { length rows.now ≡ 2 ^ length z.now }
-    ensures { EF.number result ≡ inner EF.ops (length z.now)
+    ensures { EF.number result ≡ inner_product EF.ops (length z.now)
         (λ b. ⟦<EF as Algebra<A>>⟧.embedding (entries A.number rows.now b)) (monomial EF.ops (map
         (λ x. ⟦<EF as Algebra<F>>⟧.embedding (F.number x)) z.now)) }
 {

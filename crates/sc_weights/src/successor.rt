@@ -5,7 +5,7 @@
 
 ghost use Rattle.std.specs.Prelude.{◌≡◌, ℕ, ◌+◌, ◌-◌, ◌*◌, ◌^◌, ◌<◌, ◌≤◌, length, map};
 ghost use Rattle.sc_definitions.specs.Ring.{◌+⟨◌⟩◌, ◌*⟨◌⟩◌};
-ghost use Rattle.sc_definitions.specs.Tables.{entries, weight, value};
+ghost use Rattle.sc_definitions.specs.Tables.{entries, equality_weight, value};
 ghost use Rattle.sc_definitions.specs.Shifts.{shifted};
 ghost use Rattle.sc_definitions.specs.Statements.{next_row, successor_weight};
 ghost use Rattle.sc_field.specs.Products.{products};
@@ -34,7 +34,7 @@ pub(crate) fn add_successor<EF: Field>(
         ≡ entries EF.number rows.old (a * 2 ^ length selector.now + c)
         +⟨ EF.ops ⟩ EF.number scale *⟨ EF.ops ⟩
         (successor_weight EF.ops (map EF.number point.now) a
-        *⟨ EF.ops ⟩ weight EF.ops (map EF.number selector.now) c) }
+        *⟨ EF.ops ⟩ equality_weight EF.ops (map EF.number selector.now) c) }
 {
     if selector.len() > BLOCK_COORDINATES || rows.len() < 256 || !fits_in_blocks::<EF>() {
         add_successor_by_halves(rows, point, selector, block, scale);
@@ -57,7 +57,7 @@ fn add_successor_by_halves<EF: Field>(
         ≡ entries EF.number rows.old (a * 2 ^ length selector.now + c)
         +⟨ EF.ops ⟩ EF.number scale *⟨ EF.ops ⟩
         (successor_weight EF.ops (map EF.number point.now) a
-        *⟨ EF.ops ⟩ weight EF.ops (map EF.number selector.now) c) }
+        *⟨ EF.ops ⟩ equality_weight EF.ops (map EF.number selector.now) c) }
 {
     let last = rows.len() - block;
     let stays = add_moved_up(rows, point, selector, scale, EF::ZERO);
@@ -80,10 +80,10 @@ fn add_moved_up<EF: Field>(
         → entries EF.number rows.new (a * 2 ^ length selector.now + c)
         ≡ entries EF.number rows.old (a * 2 ^ length selector.now + c)
         +⟨ EF.ops ⟩ shifted (EF.number before) (λ b. EF.number scale
-        *⟨ EF.ops ⟩ weight EF.ops (map EF.number point.now) b) a
-        *⟨ EF.ops ⟩ weight EF.ops (map EF.number selector.now) c }
+        *⟨ EF.ops ⟩ equality_weight EF.ops (map EF.number point.now) b) a
+        *⟨ EF.ops ⟩ equality_weight EF.ops (map EF.number selector.now) c }
     ensures last { EF.number result ≡ EF.number scale
-        *⟨ EF.ops ⟩ weight EF.ops (map EF.number point.now) (2 ^ length point.now - 1) }
+        *⟨ EF.ops ⟩ equality_weight EF.ops (map EF.number point.now) (2 ^ length point.now - 1) }
 {
     let [first, rest @ ..] = point else {
         add_point(rows, selector, before);
@@ -113,7 +113,7 @@ fn add_successor_by_blocks<EF: Field>(
         ≡ entries EF.number rows.old (a * 2 ^ length selector.now + c)
         +⟨ EF.ops ⟩ EF.number scale *⟨ EF.ops ⟩
         (successor_weight EF.ops (map EF.number point.now) a
-        *⟨ EF.ops ⟩ weight EF.ops (map EF.number selector.now) c) }
+        *⟨ EF.ops ⟩ equality_weight EF.ops (map EF.number selector.now) c) }
 {
     let (outer, inner) = point.split_at(point.len() - (BLOCK_COORDINATES - selector.len()));
     let joined = joined_block_weights(inner, selector);
@@ -144,7 +144,7 @@ fn add_moved_blocks<EF: Field>(
         (λ k. EF.number scale *⟨ EF.ops ⟩ block_weight EF.ops (map EF.number outer.now)
         (length weights.now) (entries EF.number weights.now) k) b }
     ensures last { EF.number result ≡ EF.number scale
-        *⟨ EF.ops ⟩ weight EF.ops (map EF.number outer.now) (2 ^ length outer.now - 1) }
+        *⟨ EF.ops ⟩ equality_weight EF.ops (map EF.number outer.now) (2 ^ length outer.now - 1) }
 {
     let [first, rest @ ..] = outer else {
         add_moved_block(rows, weights, stride, scale, before);

@@ -2,7 +2,7 @@
 
 ghost use Rattle.std.specs.Prelude.{◌≡◌, length, map};
 ghost use Rattle.sc_definitions.specs.Ring.{power};
-ghost use Rattle.sc_definitions.specs.Tables.{weight, monomial, value, value_in};
+ghost use Rattle.sc_definitions.specs.Tables.{equality_weight, monomial, value, value_in};
 ghost use Rattle.sc_definitions.specs.Statements.{successor_weight};
 ghost use Rattle.sc_table.specs.Strategy.{basis_of};
 
@@ -14,7 +14,7 @@ use sc_table::{Basis, Point};
 pub(crate) fn equality_in<EF: Field>(basis: Basis, z: &[EF], x: &[EF]) -> EF
     requires { length z.now ≡ length x.now }
     ensures { EF.number result ≡ value_in (basis_of basis) EF.ops
-        (weight EF.ops (map EF.number z.now)) (map EF.number x.now) }
+        (equality_weight EF.ops (map EF.number z.now)) (map EF.number x.now) }
 {
     match basis {
         Basis::Evaluation => Point::eval_eq(z, x),

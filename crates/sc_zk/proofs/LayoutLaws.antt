@@ -4,10 +4,10 @@ use Rattle.sc_definitions.specs.declared.events.Event.{Event}
 use Rattle.sc_definitions.specs.Ring.{Ops, IsRing, plus, times, power}
 use Rattle.sc_definitions.specs.Tables.{Order, prefix, suffix}
 use Rattle.sc_definitions.specs.Events.{Rules, Extension}
-use Rattle.sc_definitions.specs.Shown.{Shown}
+use Rattle.sc_definitions.specs.ProverViews.{ProverView}
 use Rattle.sc_definitions.specs.Statements.{batched_claim, claimed_values}
 use Rattle.sc_definitions.proofs.RingLaws.{plus-zero, times-zero}
-use Rattle.sc_definitions.proofs.StatementLaws.{element-powers_sum}
+use Rattle.sc_definitions.proofs.StatementLaws.{element-batched_by_powers}
 use Rattle.rand_core.specs.Stream.{Stream}
 use Rattle.sc_commitments.specs.Draws.{SomeMasksDrawn}
 use Rattle.sc_commitments.proofs.CodeLaws.{none-drawn}
@@ -41,14 +41,14 @@ unfolding batched_claim
 claim-same o ring E p s v l same =
     let alpha = batching_at p.rules E p.history (fixed_by s) in
     ap (λ (b : Recorded). batched_claim o alpha 0 (statements_of b)) same
-    ∙ sym (plus-zero o ring (batched_claim o alpha 0 (statements_of l.recorded)) ∙ element-powers_sum o ring alpha 0 (claimed_values (statements_of l.recorded)))
+    ∙ sym (plus-zero o ring (batched_claim o alpha 0 (statements_of l.recorded)) ∙ element-batched_by_powers o ring alpha 0 (claimed_values (statements_of l.recorded)))
 
 -- without aux nothing is left of it
 pub nothing-carried : (o : Ops) → IsRing o → (eps half n : ℕ) → 0 ≡ times o eps (aux_after o half 0 n)
 nothing-carried o ring eps half n = sym (ap (times o eps) (times-zero o ring (power o half n)) ∙ times-zero o ring eps)
 
 -- whichever side is scaled, the claim is
-pub scaled-claim : (o : Ops) (s : Shown) (x : ℕ) → (with_side_scaled o s x).claim ≡ times o s.claim x
+pub scaled-claim : (o : Ops) (s : ProverView) (x : ℕ) → (with_side_scaled o s x).claim ≡ times o s.claim x
 scaled-claim o s x = cases s.order where
   cases : (d : Order) → (side_scaled d o s x).claim ≡ times o s.claim x
   cases prefix = refl

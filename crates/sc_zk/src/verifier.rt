@@ -6,7 +6,7 @@ ghost use Rattle.sc_table.specs.declared.strategy.VariableOrder.TheVariants.{Pre
 ghost use Rattle.sc_layout.specs.Shapes.{shape_variables, strategy_order};
 ghost use Rattle.sc_layout.specs.Requests.{asked_in, values_in};
 ghost use Rattle.sc_layout.specs.Openings.{none_recorded, statements_of, AddsVirtual, AddsNothing};
-ghost use Rattle.sc_layout.specs.Verifiers.{LeavesClaim, KeepsShape, taking_by, place_at};
+ghost use Rattle.sc_layout.specs.Verifiers.{LeavesClaim, KeepsShape, taking_by, opening_state_at};
 ghost use Rattle.sc_zk_rounds.specs.Heads.{inherited_shape, recorded_shape};
 ghost use Rattle.sc_zk_rounds.specs.Data.{masked_wire_in};
 ghost use Rattle.sc_zk_rounds.specs.Verified.{claim_by, told_by, LeavesMaskedReplay};
@@ -85,8 +85,8 @@ impl<F: Field, EF: ExtensionField<F>> ZkVerifier<F, EF> {
         ensures left { LeavesClaim
             (taking_by (C.party challenger.old) EF.extension (recorded_in self.old))
             (asked_in batch.now) (values_in EF.number evals.now)
-            (place_at (C.party challenger.old) (recorded_in self.old))
-            (place_at (C.party challenger.new) (recorded_in self.new)) result }
+            (opening_state_at (C.party challenger.old) (recorded_in self.old))
+            (opening_state_at (C.party challenger.new) (recorded_in self.new)) result }
     {
         self.claims.add_claim(table_idx, batch, evals, challenger)
     }
@@ -101,12 +101,12 @@ impl<F: Field, EF: ExtensionField<F>> ZkVerifier<F, EF> {
         ensures kept { KeepsShape (recorded_in self.old) (recorded_in self.new) }
         ensures adds { OnOk result (AddsVirtual
             (taking_by (C.party challenger.old) EF.extension (recorded_in self.old))
-            (EF.number eval) (place_at (C.party challenger.old) (recorded_in self.old))
-            (place_at (C.party challenger.new) (recorded_in self.new))) }
+            (EF.number eval) (opening_state_at (C.party challenger.old) (recorded_in self.old))
+            (opening_state_at (C.party challenger.new) (recorded_in self.new))) }
         ensures refused { OnErr result (AddsNothing
             (taking_by (C.party challenger.old) EF.extension (recorded_in self.old))
-            (place_at (C.party challenger.old) (recorded_in self.old))
-            (place_at (C.party challenger.new) (recorded_in self.new))) }
+            (opening_state_at (C.party challenger.old) (recorded_in self.old))
+            (opening_state_at (C.party challenger.new) (recorded_in self.new))) }
     {
         self.claims.add_virtual_eval(eval, challenger)
     }

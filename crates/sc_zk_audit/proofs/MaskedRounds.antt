@@ -3,11 +3,11 @@ use Rattle.std.proofs.Common.{◌≡◌, ℕ, zero, suc, ◌+◌, ◌-◌, ◌<�
 use Rattle.std.specs.Prelude.{Ok, Err}
 use Rattle.sc_definitions.specs.declared.events.Event.{Event}
 use Rattle.sc_definitions.specs.Ring.{IsRing, plus, times}
-use Rattle.sc_definitions.specs.Tables.{rows_of, bound_by}
+use Rattle.sc_definitions.specs.Tables.{rows_of, folded_by}
 use Rattle.sc_definitions.specs.Events.{NonePasses}
 use Rattle.sc_definitions.specs.Transcript.{Round, messages_of, sent, round_events, rounds_events, challenge, challenges}
 use Rattle.sc_definitions.specs.Channels.{Channel, Wire, empty_wire, with_rounds, IsBuilt}
-use Rattle.sc_definitions.specs.Standings.{Standing, entries_of}
+use Rattle.sc_definitions.specs.ProverStates.{ProverState, entries_of}
 use Rattle.sc_definitions.proofs.RingLaws.{times-plus}
 use Rattle.sc_definitions.proofs.BuiltLaws.{length-challenges}
 use Rattle.sc_definitions.proofs.WitnessLaws.{honest_rounds-whole, honest_rounds-none, none_passes, IsBuiltOr, honest_rounds-built}
@@ -57,7 +57,7 @@ module _ (b : MaskedBatch) (some : length b.masks ≤ b.taken.variables) where
   -- ---- rounds that were played
 
   -- those that were played whole, with witnesses that are numbers of elements, are the ones that are asked for
-  pub played-rounds : (after : Standing) (rs : List ℕ) (p : PlaysMasked b after rs) → b.taken.wire ≡ empty_wire →
+  pub played-rounds : (after : ProverState) (rs : List ℕ) (p : PlaysMasked b after rs) → b.taken.wire ≡ empty_wire →
       All (λ w. w < b.setting.channel.base_size) after.wire.witnesses → masked_rounds b ≡ Ok p.played.rounds
   played-rounds after rs p none low =
       let c = b.setting.channel in
@@ -83,7 +83,7 @@ module _ (b : MaskedBatch) (some : length b.masks ≤ b.taken.variables) where
       let more : length rounds + suc left ≡ length b.masks = omega (arith, count, below) in
       let later : p.left ≡ left + left_of b = omega (arith, p.played.count, p.more, count, below, some) in
       let wire : s.after.wire ≡ with_rounds c.bits empty_wire rounds =
-      ap (λ (t : Standing). t.wire) p.kept ∙ p.played.wire ∙ ap (λ w. with_rounds c.bits w rounds) none in
+      ap (λ (t : ProverState). t.wire) p.kept ∙ p.played.wire ∙ ap (λ w. with_rounds c.bits w rounds) none in
       let message : masked_in b.setting (start_of b) (masking_of b) p.rs p.left ≡ honest_wire b (challenges c.rules c.extension c.bits start rounds) left =
       ap (masked_in b.setting (start_of b) (masking_of b) p.rs) later ∙ ap (λ rs. honest_wire b rs left) p.played.drawn in
       let lacks = subst (λ t. NonePasses c.rules t c.bits c.base_size) (p.none.history ∙ ap (λ t. t ++ sent c.extension (masked_in b.setting (start_of b) (masking_of b) p.rs p.left)) p.played.history
@@ -98,7 +98,7 @@ module _ (b : MaskedBatch) (some : length b.masks ≤ b.taken.variables) where
 
   module _ (ring : IsRing b.setting.ops) (half : IsHalf b.setting.ops b.half) where
     -- of rounds that were played
-    pub played-residual : (after : Standing) (rs : List ℕ) (p : PlaysMasked b after rs) →
+    pub played-residual : (after : ProverState) (rs : List ℕ) (p : PlaysMasked b after rs) →
         target_after b.setting.ops (first_target b.setting.ops (eps_of b) (head_of b).claim (head_of b).mu) (messages_of p.played.rounds) rs
         ≡ plus b.setting.ops
         (plus b.setting.ops (times b.setting.ops (eps_of b) after.claim) (times b.setting.ops (eps_of b) (aux_after b.setting.ops b.half b.aux (length rs))))
@@ -112,15 +112,15 @@ module _ (b : MaskedBatch) (some : length b.masks ≤ b.taken.variables) where
         ∙ ap (λ n. plus o n (masks_at o b.masks rs)) (times-plus o ring (eps_of b) after.claim (aux_after o b.half b.aux (length rs)))
 
     -- where rounds that are built lead
-    abbrev after_built : List Round → Standing
+    abbrev after_built : List Round → ProverState
     after_built rounds =
         let c = b.setting.channel in
         let t = start_of b in
         let rs = challenges_of b rounds in
         let m = t.variables - length rounds in record {
           variables = m;
-          evals = entries_of m (bound_by b.setting.basis b.setting.order b.setting.ops rs m (rows_of t.evals));
-          weights = entries_of m (bound_by b.setting.basis b.setting.order b.setting.ops rs m (rows_of t.weights));
+          evals = entries_of m (folded_by b.setting.basis b.setting.order b.setting.ops rs m (rows_of t.evals));
+          weights = entries_of m (folded_by b.setting.basis b.setting.order b.setting.ops rs m (rows_of t.weights));
           claim = plain_after b.setting.ops t.claim (along (piece_in b.setting t) [] t.variables rs) rs;
           history = t.history ++ rounds_events c.extension c.bits rounds;
           wire = with_rounds c.bits t.wire rounds;

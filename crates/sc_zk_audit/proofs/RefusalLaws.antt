@@ -10,7 +10,7 @@ use Rattle.sc_zk_transcript.specs.declared.shape.ZkSumcheckShape.{ZkSumcheckShap
 use Rattle.sc_zk_transcript.specs.Shapes.{IsUnfit}
 use Rattle.sc_definitions.proofs.RingLaws.{element-plus}
 use Rattle.sc_definitions.proofs.InterpolationLaws.{inverse-product}
-use Rattle.sc_verdicts.specs.Arities.{arity_of}
+use Rattle.sc_audit_errors.specs.Arities.{arity_of}
 use Rattle.sc_jobs.specs.Refusals.{shape_by}
 use Rattle.sc_zk_definitions.specs.Explained.{half_of}
 use Rattle.sc_zk_definitions.specs.MaskedRuns.{IsHalf}

@@ -4,10 +4,10 @@ use Rattle.std.specs.Option.{option_map}
 use Rattle.sc_definitions.specs.declared.false_claim.FalseClaim.{FalseClaim as FalseStatement}
 use Rattle.sc_definitions.specs.Ring.{Ops, ◌+⟨◌⟩◌}
 use Rattle.sc_definitions.specs.Problem.{Problem}
-use Rattle.sc_statements.specs.FalseClaims.{capped}
-use Rattle.sc_verdicts.specs.declared.error.AuditError.{AuditError}
-use Rattle.sc_verdicts.specs.declared.error.AuditError.TheVariants as audit
-use Rattle.sc_verdicts.specs.Arities.{arity_of}
+use Rattle.sc_constraints.specs.FalseClaims.{capped}
+use Rattle.sc_audit_errors.specs.declared.error.AuditError.{AuditError}
+use Rattle.sc_audit_errors.specs.declared.error.AuditError.TheVariants as audit
+use Rattle.sc_audit_errors.specs.Arities.{arity_of}
 use Rattle.sc_transcript.specs.declared.error.SumcheckError.{SumcheckError}
 use Rattle.sc_transcript.specs.declared.error.SumcheckError.TheVariants as run
 use Rattle.sc_jobs.specs.Figures.{false_claim_of}

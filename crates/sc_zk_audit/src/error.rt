@@ -1,6 +1,6 @@
 //! What an audit of masked rounds refuses.
+use sc_audit_errors::ShapeFault;
 use sc_memory::NoMemory;
-use sc_verdicts::ShapeFault;
 use thiserror::Error;
 
 /// Why there is no report. The refusals are tested in this order, but that

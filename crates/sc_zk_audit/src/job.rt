@@ -1,8 +1,8 @@
 //! What is asked.
 ghost use Rattle.sc_jobs.specs.Over.{IsOver};
 
+use sc_constraints::Constraint;
 use sc_field::{ExtensionField, Field};
-use sc_statements::Constraint;
 use sc_table::VariableOrder;
 
 /// A table with statements on it, and the masks that rounds on it are played under.

@@ -17,5 +17,5 @@ pub use audit::audit_masked;
 pub use error::MaskedError;
 pub use job::MaskedJob;
 pub use report::MaskedReport;
-pub use sc_verdicts::ShapeFault;
+pub use sc_audit_errors::ShapeFault;
 pub use sc_zk_rounds::MaskedRun;

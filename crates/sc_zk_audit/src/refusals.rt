@@ -3,8 +3,8 @@ ghost use Rattle.std.specs.Prelude.{◌≡◌};
 ghost use Rattle.sc_zk_audit.specs.MaskedRefusals.{audit_told, run_told};
 
 use crate::error::MaskedError;
+use sc_audit_errors::AuditError;
 use sc_transcript::SumcheckError;
-use sc_verdicts::AuditError;
 
 // What the shape of a job is refused with.
 pub(crate) fn audit_refusal(error: AuditError) -> MaskedError

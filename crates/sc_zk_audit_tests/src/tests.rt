@@ -1,8 +1,8 @@
 //! Rounds under masks as one call. The figures are those of a model in another language, which sums
 //! the masks over all bits; it has a ChaCha of eight rounds of its own, and counts events.
 ghost use Rattle.std.specs.Prelude.{◌≡◌, IfOk, length};
-ghost use Rattle.sc_claims.specs.EqStatements.{eq_arity};
-ghost use Rattle.sc_statements.specs.Groups.{group_arity};
+ghost use Rattle.sc_statements.specs.EqStatements.{eq_arity};
+ghost use Rattle.sc_constraints.specs.Groups.{group_arity};
 
 mod cases;
 
@@ -11,10 +11,10 @@ use rand_chacha::ChaCha8Rng;
 use rand_core::SeedableRng;
 use sc_challenger::{Challenger, ScriptedChallenger};
 use sc_commitments::{NodeCode, Sha2Mmcs, sample_masks};
+use sc_constraints::{Constraint, EqStatement, Statements};
 use sc_field::{ExtensionField, Field, NoMemory};
 use sc_sixteen::Tower16;
 use sc_small_fields::{F257, F257x2, F65537};
-use sc_statements::{Constraint, EqStatement, Statements};
 use sc_table::VariableOrder;
 use sc_tests_common::{elements, have_numbers, of, point, scripted};
 use sc_zk_audit::{MaskedError, MaskedJob, MaskedReport, audit_masked};

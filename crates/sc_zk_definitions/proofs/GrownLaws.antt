@@ -4,16 +4,16 @@ use Rattle.std.proofs.Math.Nat.{pow-suc}
 use Rattle.std.proofs.lemmas.List.{append-nil, map-append}
 use Rattle.std.proofs.lemmas.Grind.{flat_map-append}
 use Rattle.sc_definitions.specs.Ring.{IsRing}
-use Rattle.sc_definitions.specs.Tables.{evaluation, IsOffered, rows_of, bound_in, bound_by}
+use Rattle.sc_definitions.specs.Tables.{evaluation, IsOffered, rows_of, folded_in, folded_by}
 use Rattle.sc_definitions.specs.Rounds.{next_claim, claim_along}
 use Rattle.sc_definitions.specs.Transcript.{round_events, rounds_events, challenge, challenges, HasFirstWitness}
 use Rattle.sc_definitions.specs.Channels.{with_rounds}
-use Rattle.sc_definitions.specs.Standings.{Setting, Standing, entries_of, message_in, honest_in}
-use Rattle.sc_definitions.proofs.PlacedLaws.{bound_by-append}
-use Rattle.sc_definitions.proofs.RoundLaws.{honest_pair-message}
-use Rattle.sc_definitions.proofs.PlayedLaws.{message-same, bound_in-same}
+use Rattle.sc_definitions.specs.ProverStates.{Setting, ProverState, entries_of, message_in, honest_in}
+use Rattle.sc_definitions.proofs.PlacedLaws.{folded_by-append}
+use Rattle.sc_definitions.proofs.RoundLaws.{honest_message-message}
+use Rattle.sc_definitions.proofs.PlayedLaws.{message-same, folded_in-same}
 use Rattle.sc_definitions.proofs.BuiltLaws.{challenges-append, length-challenges, claim_along-append, IsBuilt-append}
-use Rattle.sc_definitions.proofs.StandingLaws.{length-entries_of, rows-entries_of, entries-is, with_more}
+use Rattle.sc_definitions.proofs.ProverStateLaws.{length-entries_of, rows-entries_of, entries-is, with_more}
 use Rattle.sc_zk_definitions.specs.Masks.{Piece, pair_of, plain_after}
 use Rattle.sc_zk_definitions.specs.MaskedRuns.{piece_of, piece_in, wire_after, masked_in, along, RunsGrow}
 use Rattle.sc_zk_definitions.proofs.MaskedLaws.{length-along}
@@ -40,29 +40,29 @@ plain_after-more s claim ps rs p r e =
 
 -- a table bound at one challenge more
 bound_more : (s : Setting) (rs : List ℕ) (r n m : ℕ) (f : ℕ → ℕ) (xs ys : List ℕ) → n ≡ suc m →
-    xs ≡ entries_of n (bound_by s.basis s.order s.ops rs n f) → ys ≡ entries_of m (bound_in s.basis s.order s.ops m r (rows_of xs)) →
-    ys ≡ entries_of m (bound_by s.basis s.order s.ops (rs ++ r ∷ []) m f)
+    xs ≡ entries_of n (folded_by s.basis s.order s.ops rs n f) → ys ≡ entries_of m (folded_in s.basis s.order s.ops m r (rows_of xs)) →
+    ys ≡ entries_of m (folded_by s.basis s.order s.ops (rs ++ r ∷ []) m f)
 bound_more s rs r n m f xs ys fewer p q =
-    let at : (k : ℕ) → k < 2 ^ suc m → rows_of xs k ≡ bound_by s.basis s.order s.ops rs (suc m) f k =
-    λ k low. ap (λ t. rows_of t k) (subst (λ v. xs ≡ entries_of v (bound_by s.basis s.order s.ops rs v f)) fewer p) ∙ rows-entries_of (suc m) _ k low in
+    let at : (k : ℕ) → k < 2 ^ suc m → rows_of xs k ≡ folded_by s.basis s.order s.ops rs (suc m) f k =
+    λ k low. ap (λ t. rows_of t k) (subst (λ v. xs ≡ entries_of v (folded_by s.basis s.order s.ops rs v f)) fewer p) ∙ rows-entries_of (suc m) _ k low in
     entries-is m ys _ (ap length q ∙ length-entries_of m _)
-    (λ b low. ap (λ t. rows_of t b) q ∙ rows-entries_of m _ b low ∙ bound_in-same s.basis s.order s.ops m r b (rows_of xs) _ low at
-    ∙ sym (ap (λ g. g b) (bound_by-append s.basis s.order s.ops rs r m f)))
+    (λ b low. ap (λ t. rows_of t b) q ∙ rows-entries_of m _ b low ∙ folded_in-same s.basis s.order s.ops m r b (rows_of xs) _ low at
+    ∙ sym (ap (λ g. g b) (folded_by-append s.basis s.order s.ops rs r m f)))
 
 -- the message of tables that were bound is what an honest prover sends
-pub message_honest : (s : Setting) → IsRing s.ops → IsOffered s.basis s.order → (t u : Standing) (rs : List ℕ) (m : ℕ) → u.variables ≡ suc m →
-    u.evals ≡ entries_of u.variables (bound_by s.basis s.order s.ops rs u.variables (rows_of t.evals)) →
-    u.weights ≡ entries_of u.variables (bound_by s.basis s.order s.ops rs u.variables (rows_of t.weights)) →
+pub message_honest : (s : Setting) → IsRing s.ops → IsOffered s.basis s.order → (t u : ProverState) (rs : List ℕ) (m : ℕ) → u.variables ≡ suc m →
+    u.evals ≡ entries_of u.variables (folded_by s.basis s.order s.ops rs u.variables (rows_of t.evals)) →
+    u.weights ≡ entries_of u.variables (folded_by s.basis s.order s.ops rs u.variables (rows_of t.weights)) →
     message_in s u ≡ honest_in s t rs m
 message_honest s ring offered t u rs m fewer evals weights =
     let twice : 2 ^ suc m ≡ 2 ^ m + 2 ^ m = pow-suc 2 m ∙ omega arith in
     let far : (k : ℕ) → k < 2 ^ m + 2 ^ m → k < 2 ^ u.variables = λ k low. subst (λ n. k < 2 ^ n) (sym fewer) (omega (arith, low, twice)) in
     ap (λ n. message_in s (record u { variables = n })) fewer
-    ∙ message-same s.basis s.order s.ops (2 ^ m) (rows_of u.evals) (bound_by s.basis s.order s.ops rs (suc m) (rows_of t.evals))
-    (rows_of u.weights) (bound_by s.basis s.order s.ops rs (suc m) (rows_of t.weights))
-    (λ k low. ap (λ xs. rows_of xs k) evals ∙ rows-entries_of u.variables _ k (far k low) ∙ ap (λ n. bound_by s.basis s.order s.ops rs n (rows_of t.evals) k) fewer)
-    (λ k low. ap (λ xs. rows_of xs k) weights ∙ rows-entries_of u.variables _ k (far k low) ∙ ap (λ n. bound_by s.basis s.order s.ops rs n (rows_of t.weights) k) fewer)
-    ∙ sym (honest_pair-message s.ops ring s.basis s.order offered (rows_of t.evals) (rows_of t.weights) rs m)
+    ∙ message-same s.basis s.order s.ops (2 ^ m) (rows_of u.evals) (folded_by s.basis s.order s.ops rs (suc m) (rows_of t.evals))
+    (rows_of u.weights) (folded_by s.basis s.order s.ops rs (suc m) (rows_of t.weights))
+    (λ k low. ap (λ xs. rows_of xs k) evals ∙ rows-entries_of u.variables _ k (far k low) ∙ ap (λ n. folded_by s.basis s.order s.ops rs n (rows_of t.evals) k) fewer)
+    (λ k low. ap (λ xs. rows_of xs k) weights ∙ rows-entries_of u.variables _ k (far k low) ∙ ap (λ n. folded_by s.basis s.order s.ops rs n (rows_of t.weights) k) fewer)
+    ∙ sym (honest_message-message s.ops ring s.basis s.order offered (rows_of t.evals) (rows_of t.weights) rs m)
 
 pub runs_grow : RunsGrow
 runs_grow s k t u v rs r ring offered p q =

@@ -5,12 +5,12 @@ use Rattle.sc_definitions.specs.declared.events.Event.{Event}
 use Rattle.sc_definitions.specs.Ring.{Ops, IsRing, plus, times, power}
 use Rattle.sc_definitions.specs.Tables.{Basis, evaluation, projective}
 use Rattle.sc_definitions.specs.Polynomials.{poly_at}
-use Rattle.sc_definitions.specs.Rounds.{honest_pair}
+use Rattle.sc_definitions.specs.Rounds.{honest_message}
 use Rattle.sc_definitions.specs.Events.{Rules, Extension}
 use Rattle.sc_definitions.specs.Transcript.{Round, messages_of, round_events, challenge, challenges, HasFirstWitness}
 use Rattle.sc_definitions.specs.Replays.{round_passes, AllPass}
 use Rattle.sc_definitions.specs.Channels.{Channel, IsBuilt}
-use Rattle.sc_definitions.specs.Standings.{Setting, Standing, honest_in}
+use Rattle.sc_definitions.specs.ProverStates.{Setting, ProverState, honest_in}
 use Rattle.sc_definitions.proofs.BuiltLaws.{length-challenges}
 use Rattle.sc_definitions.proofs.Identity.{atom, nought, unit, ◌⊕◌, ◌⊗◌, Agree, identity}
 use Rattle.sc_zk_definitions.specs.Masks.{masks_at, endpoint, piece, pair_of, masked_round, masked_rounds, wire_of, target_after, plain_after, with_aux, aux_after}
@@ -44,13 +44,13 @@ length-along f before zero (r ∷ rs) low = absurd (omega arith)
 length-along f before (suc n) (r ∷ rs) low = ap suc (length-along f (before ++ r ∷ []) n rs (omega arith))
 
 -- an honest round sends its piece
-piece-of_basis : (b : Basis) (s : Setting) (t : Standing) (rs : List ℕ) (m : ℕ) →
+piece-of_basis : (b : Basis) (s : Setting) (t : ProverState) (rs : List ℕ) (m : ℕ) →
     pair_of (piece_in (record s { basis = b }) t rs m) ≡ honest_in (record s { basis = b }) t rs m
-unfolding honest_pair
+unfolding honest_message
 piece-of_basis evaluation s t rs m = refl
 piece-of_basis projective s t rs m = refl
 
-pub honest-piece : (s : Setting) (t : Standing) (rs : List ℕ) (m : ℕ) → pair_of (piece_in s t rs m) ≡ honest_in s t rs m
+pub honest-piece : (s : Setting) (t : ProverState) (rs : List ℕ) (m : ℕ) → pair_of (piece_in s t rs m) ≡ honest_in s t rs m
 honest-piece s t rs m = piece-of_basis s.basis s t rs m
 
 -- ---- masks, one after the other
@@ -93,7 +93,7 @@ module _ (o : Ops) (ring : IsRing o) where
       ∙ identity o ring (poly_at o t b ∷ masks_at o all before ∷ poly_at o s r ∷ []) (atom 0 ⊕ (atom 1 ⊕ atom 2)) ((atom 0 ⊕ atom 1) ⊕ atom 2) tt tt refl
 
   -- the wires of rounds along their challenges are those of the masked rounds
-  wires-along : (s : Setting) (t : Standing) (k : Masking) (a : ℕ) (ss : List (List ℕ)) (before : List ℕ) (n : ℕ) (rs : List ℕ) → s.ops ≡ o →
+  wires-along : (s : Setting) (t : ProverState) (k : Masking) (a : ℕ) (ss : List (List ℕ)) (before : List ℕ) (n : ℕ) (rs : List ℕ) → s.ops ≡ o →
       drop (length before) k.masks ≡ ss → times o k.half a ≡ aux_after o k.half k.aux (suc (length before)) → length ss ≡ length rs → length rs ≤ n →
       along (masked_in s t k) before n rs
       ≡ map wire_of (masked_rounds o k.eps (masks_at o k.masks before) ss rs (with_aux o k.half a (along (piece_in s t) before n rs)))
@@ -139,7 +139,7 @@ all_pass honest c h rs (suc n) (q ∷ rounds) b =
     (passes_first R E bits h q b.1, all_pass honest c (h ++ round_events E bits q) (rs ++ challenge R E bits h q ∷ []) n rounds b.2)
 
 -- the residual of masked rounds, one for each mask
-pub run-residual : (s : Setting) (k : Masking) (t u : Standing) (rs : List ℕ) → IsRing s.ops → IsHalf s.ops k.half → length k.masks ≡ length rs →
+pub run-residual : (s : Setting) (k : Masking) (t u : ProverState) (rs : List ℕ) → IsRing s.ops → IsHalf s.ops k.half → length k.masks ≡ length rs →
     (p : IsMasked s k t u rs) → target_after s.ops (target_of s.ops k t.claim) (messages_of p.rounds) rs ≡ residual_of s.ops k u.claim rs
 unfolding power masks_at Agree
 run-residual s k t u rs ring half count p =

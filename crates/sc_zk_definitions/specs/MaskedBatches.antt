@@ -5,8 +5,8 @@ use Rattle.sc_definitions.specs.declared.events.Event.{Event}
 use Rattle.sc_definitions.specs.Ring.{Ops, ◌+⟨◌⟩◌}
 use Rattle.sc_definitions.specs.Events.{words}
 use Rattle.sc_definitions.specs.Transcript.{Round, messages_of, rounds_events, challenges}
-use Rattle.sc_definitions.specs.Channels.{Channel, Footing, footing, IsBuilt, IsReplayed}
-use Rattle.sc_definitions.specs.Standings.{Setting, Standing}
+use Rattle.sc_definitions.specs.Channels.{Channel, VerifierState, verifier_state, IsBuilt, IsReplayed}
+use Rattle.sc_definitions.specs.ProverStates.{Setting, ProverState}
 use Rattle.sc_zk_definitions.specs.Masks.{masks_total, next_target, first_target}
 use Rattle.sc_zk_definitions.specs.MaskedTranscripts.{Shape, Head, head, masked_seed, begun_events, combination_at, rounds_from}
 use Rattle.sc_zk_definitions.specs.MaskedRuns.{Masking, IsMasked}
@@ -29,7 +29,7 @@ combination_of c s b h = combination_at c.rules c.extension h s b
 pub record MaskedBatch : Type 0 where
   pub setting : Setting
   pub shape : Shape
-  pub taken : Standing
+  pub taken : ProverState
   pub masks : List (List ℕ)
   pub commitment : List ℕ
   pub half : ℕ
@@ -48,11 +48,11 @@ abbrev pub masking_of : MaskedBatch → Masking
 masking_of b = record { masks = b.masks; eps = eps_of b; half = b.half; aux = b.aux }
 
 -- where they begin
-abbrev pub start_of : MaskedBatch → Standing
+abbrev pub start_of : MaskedBatch → ProverState
 start_of b = record b.taken { history = rounds_from b.setting.channel.extension b.taken.history b.shape (head_of b) }
 
 -- It was played whole, with the challenges rs: one round for each mask.
-pub record PlaysMasked (b : MaskedBatch) (after : Standing) (rs : List ℕ) : Type 0 where
+pub record PlaysMasked (b : MaskedBatch) (after : ProverState) (rs : List ℕ) : Type 0 where
   pub whole : length b.masks ≡ length rs
   pub played : IsMasked b.setting (masking_of b) (start_of b) after rs
 
@@ -71,9 +71,9 @@ after_head b = rounds_from b.channel.extension b.begun b.shape b.given
 
 -- where a replay of a claim stands after the head: the first target is eps times the claim and the
 -- total of the masks
-abbrev pub head_footing : Ops → HeadedBatch → Footing
-head_footing o b =
-    footing (after_head b) (first_target o (combination_of b.channel b.shape b.given b.begun) b.given.claim b.given.mu)
+abbrev pub head_verifier_state : Ops → HeadedBatch → VerifierState
+head_verifier_state o b =
+    verifier_state (after_head b) (first_target o (combination_of b.channel b.shape b.given b.begun) b.given.claim b.given.mu)
 
 -- ---- a batch that is simulated
 
@@ -94,4 +94,4 @@ abbrev pub SimulationsReplay : Type 0
 SimulationsReplay =
     (o : Ops) (b : HeadedBatch) (ws : List (List ℕ)) (rounds : List Round) (rs : List ℕ) (h : List Event) →
     IsSimulated b ws rounds rs h →
-    (target : ℕ) × IsReplayed (next_target o) b.channel (head_footing o b) (footing h target) rounds rs
+    (target : ℕ) × IsReplayed (next_target o) b.channel (head_verifier_state o b) (verifier_state h target) rounds rs

@@ -1,23 +1,23 @@
 -- Plain rounds on two tables whose first variables are bound, without the tables.
 use Rattle.std.proofs.Common.{pow-suc, ◌≡◌, ℕ, suc, ◌+◌, ◌-◌, ◌^◌, ◌<◌, List, [], ◌∷◌, ◌++◌, length, sym, ◌∙◌, ap, subst, refl, arith, length-append}
 use Rattle.sc_definitions.specs.Ring.{Ops, IsRing}
-use Rattle.sc_definitions.specs.Tables.{evaluation, Order, prefix, suffix, rows_of, inner, bound_in, bound_by}
+use Rattle.sc_definitions.specs.Tables.{evaluation, Order, prefix, suffix, rows_of, inner_product, folded_in, folded_by}
 use Rattle.sc_definitions.specs.Messages.{message_of}
-use Rattle.sc_definitions.specs.Rounds.{honest_pair, next_claim}
-use Rattle.sc_definitions.specs.Standings.{entries_of, half_rows}
-use Rattle.sc_definitions.specs.Shown.{Shown, honest_shown, message_shown, with_bound, IsTrueClaim}
+use Rattle.sc_definitions.specs.Rounds.{honest_message, next_claim}
+use Rattle.sc_definitions.specs.ProverStates.{entries_of, half_rows}
+use Rattle.sc_definitions.specs.ProverViews.{ProverView, honest_shown, message_shown, with_bound, IsTrueClaim}
 use Rattle.sc_definitions.specs.Combined.{combined_weight}
-use Rattle.sc_definitions.proofs.SameTables.{inner-same}
-use Rattle.sc_definitions.proofs.PlacedLaws.{bound_by-append}
-use Rattle.sc_definitions.proofs.PlayedLaws.{message-same, bound_in-same}
-use Rattle.sc_definitions.proofs.RoundLaws.{honest_pair-message}
-use Rattle.sc_definitions.proofs.StandingLaws.{length-entries_of, rows-entries_of, entries-is}
-use Rattle.sc_rounds.proofs.HeldLaws.{honest_message, true_bound, true_scaled}
+use Rattle.sc_definitions.proofs.SameTables.{inner_product-same}
+use Rattle.sc_definitions.proofs.PlacedLaws.{folded_by-append}
+use Rattle.sc_definitions.proofs.PlayedLaws.{message-same, folded_in-same}
+use Rattle.sc_definitions.proofs.RoundLaws.{honest_message-message}
+use Rattle.sc_definitions.proofs.ProverStateLaws.{length-entries_of, rows-entries_of, entries-is}
+use Rattle.sc_rounds.proofs.HeldLaws.{honest_shown-message, true_bound, true_scaled}
 use Rattle.sc_svo.specs.Batches.{GridBatch}
 use Rattle.sc_definitions.specs.Ring.{times}
 use Rattle.sc_definitions.proofs.Identity.{atom, ◌⊗◌, Agree, identity}
 use Rattle.sc_definitions.proofs.Sums.{sum-same, times-sum}
-use Rattle.sc_definitions.specs.Shown.{sum_with, with_scaled}
+use Rattle.sc_definitions.specs.ProverViews.{sum_with, with_scaled}
 use Rattle.std.proofs.lemmas.List.{length-map}
 use Rattle.sc_table.specs.declared.poly.Poly.{Poly}
 use Rattle.sc_table.specs.Polys.{variables_of, table_of}
@@ -30,45 +30,45 @@ use Rattle.sc_zk_layout.specs.Grids.{bound_entries, shown_after, grid_claim, pai
 
 module _ (o : Ops) (order : Order) (f w : ℕ → ℕ) (rs : List ℕ) where
   -- the entries of a table with one variable more bound
-  pub entries-bound : (r m k : ℕ) → m ≡ suc k → bound_entries o order (rs ++ r ∷ []) k f ≡ entries_of k (bound_in evaluation order o k r (rows_of (bound_entries o order rs m f)))
+  pub entries-bound : (r m k : ℕ) → m ≡ suc k → bound_entries o order (rs ++ r ∷ []) k f ≡ entries_of k (folded_in evaluation order o k r (rows_of (bound_entries o order rs m f)))
   entries-bound r m k fewer =
       entries-is k (bound_entries o order (rs ++ r ∷ []) k f) _ (length-entries_of k _)
       (λ b low.
-      rows-entries_of k _ b low ∙ ap (λ g. g b) (bound_by-append evaluation order o rs r k f)
-      ∙ bound_in-same evaluation order o k r b (bound_by evaluation order o rs (suc k) f) (rows_of (bound_entries o order rs m f)) low
+      rows-entries_of k _ b low ∙ ap (λ g. g b) (folded_by-append evaluation order o rs r k f)
+      ∙ folded_in-same evaluation order o k r b (folded_by evaluation order o rs (suc k) f) (rows_of (bound_entries o order rs m f)) low
       (λ j small. sym (ap (λ n. rows_of (bound_entries o order rs n f) j) fewer ∙ rows-entries_of (suc k) _ j small)))
 
   -- the message of the bound tables
   bound-message : ℕ → List ℕ
   bound-message m = message_of evaluation order o (half_rows m) (rows_of (bound_entries o order rs m f)) (rows_of (bound_entries o order rs m w))
 
-  pub honest-bound : IsRing o → (m k : ℕ) → m ≡ suc k → honest_pair evaluation order o f w rs k
+  pub honest-bound : IsRing o → (m k : ℕ) → m ≡ suc k → honest_message evaluation order o f w rs k
       ≡ message_of evaluation order o (half_rows m) (rows_of (bound_entries o order rs m f)) (rows_of (bound_entries o order rs m w))
   unfolding bound-message
   honest-bound ring m k fewer =
       let twice : 2 ^ suc k ≡ 2 ^ k + 2 ^ k = pow-suc 2 k ∙ omega arith in
-      honest_pair-message o ring evaluation order tt f w rs k
-      ∙ message-same evaluation order o (2 ^ k) (bound_by evaluation order o rs (suc k) f) (rows_of (bound_entries o order rs (suc k) f))
-      (bound_by evaluation order o rs (suc k) w) (rows_of (bound_entries o order rs (suc k) w))
+      honest_message-message o ring evaluation order tt f w rs k
+      ∙ message-same evaluation order o (2 ^ k) (folded_by evaluation order o rs (suc k) f) (rows_of (bound_entries o order rs (suc k) f))
+      (folded_by evaluation order o rs (suc k) w) (rows_of (bound_entries o order rs (suc k) w))
       (λ j low. sym (rows-entries_of (suc k) _ j (omega (arith, low, twice)))) (λ j low. sym (rows-entries_of (suc k) _ j (omega (arith, low, twice))))
       ∙ ap bound-message (sym fewer)
 
 module _ (o : Ops) (ring : IsRing o) (s : GridBatch) (f : ℕ → ℕ) where
   -- before any challenge, a true claim is true
   pub true-start : (claim : ℕ) → claim ≡ grid_claim o s f → IsTrueClaim o (shown_after o s f [] claim)
-  unfolding bound_by
+  unfolding folded_by
   true-start claim is =
       let all : s.variables - 0 ≡ s.variables = omega arith in
-      is ∙ ap (λ n. inner o n f (combined_weight o s.claims)) (sym all)
-      ∙ sym (inner-same o (s.variables - 0) (rows_of (entries_of (s.variables - 0) f)) f (rows_of (entries_of (s.variables - 0) (combined_weight o s.claims))) (combined_weight o s.claims)
+      is ∙ ap (λ n. inner_product o n f (combined_weight o s.claims)) (sym all)
+      ∙ sym (inner_product-same o (s.variables - 0) (rows_of (entries_of (s.variables - 0) f)) f (rows_of (entries_of (s.variables - 0) (combined_weight o s.claims))) (combined_weight o s.claims)
       (rows-entries_of (s.variables - 0) f) (rows-entries_of (s.variables - 0) (combined_weight o s.claims)))
 
   module _ (rs : List ℕ) (claim : ℕ) (low : length rs < s.variables) where
     -- an honest round sends the message of what is shown
-    pub honest-is : honest_pair evaluation s.order o f (combined_weight o s.claims) rs (s.variables - suc (length rs)) ≡ honest_shown o (shown_after o s f rs claim)
+    pub honest-is : honest_message evaluation s.order o f (combined_weight o s.claims) rs (s.variables - suc (length rs)) ≡ honest_shown o (shown_after o s f rs claim)
     honest-is =
         honest-bound o s.order f (combined_weight o s.claims) rs ring (s.variables - length rs) (s.variables - suc (length rs)) (omega (arith, low))
-        ∙ sym (honest_message o ring (shown_after o s f rs claim) tt (omega (arith, low)))
+        ∙ sym (honest_shown-message o ring (shown_after o s f rs claim) tt (omega (arith, low)))
 
     -- what is shown at one challenge more
     pub bound-is : (r claim' : ℕ) → claim' ≡ next_claim evaluation o claim (message_shown o (shown_after o s f rs claim)) r →
@@ -94,14 +94,14 @@ module _ (o : Ops) (ring : IsRing o) (s : GridBatch) (f : ℕ → ℕ) where
     pub claim-next : (r claim' : ℕ) (pair : List ℕ) → pair ≡ honest_shown o (shown_after o s f rs claim) → claim' ≡ next_claim evaluation o claim pair r →
         claim' ≡ next_claim evaluation o claim (message_shown o (shown_after o s f rs claim)) r
     claim-next r claim' pair is next =
-        next ∙ ap (λ m. next_claim evaluation o claim m r) (is ∙ honest_message o ring (shown_after o s f rs claim) tt (omega (arith, low)))
+        next ∙ ap (λ m. next_claim evaluation o claim m r) (is ∙ honest_shown-message o ring (shown_after o s f rs claim) tt (omega (arith, low)))
 
 -- ---- what all rounds leave
 
 module _ (o : Ops) (ring : IsRing o) where
   -- a claim is true with the evaluations multiplied
-  pub true-evals : (s : Shown) (k : ℕ) → IsTrueClaim o s → IsTrueClaim o (with_scaled_evals o s k)
-  unfolding inner Agree
+  pub true-evals : (s : ProverView) (k : ℕ) → IsTrueClaim o s → IsTrueClaim o (with_scaled_evals o s k)
+  unfolding inner_product Agree
   true-evals s k true_claim =
       let f = rows_of s.evals in
       let w = rows_of s.weights in
@@ -114,7 +114,7 @@ module _ (o : Ops) (ring : IsRing o) where
       ∙ ap (λ x. times o x (w b)) (sym (rows-entries_of s.variables (λ i. times o (f i) k) b low)))
 
   -- and with either side multiplied
-  pub true-side : (s : Shown) (k : ℕ) → IsTrueClaim o s → IsTrueClaim o (with_side_scaled o s k)
+  pub true-side : (s : ProverView) (k : ℕ) → IsTrueClaim o s → IsTrueClaim o (with_side_scaled o s k)
   true-side s k true_claim = cases s.order where
     cases : (d : Order) → IsTrueClaim o (side_scaled d o s k)
     cases prefix = true_scaled o ring s k true_claim

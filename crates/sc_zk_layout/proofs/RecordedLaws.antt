@@ -5,15 +5,15 @@ use Rattle.std.proofs.lemmas.List.{length-map}
 use Rattle.std.proofs.lemmas.List.Elements.{All-head, All-tail}
 use Rattle.sc_definitions.specs.declared.events.Event.{Event}
 use Rattle.sc_definitions.specs.Ring.{Ops, IsRing, plus, times, power}
-use Rattle.sc_definitions.specs.Tables.{evaluation, inner, bound_by}
+use Rattle.sc_definitions.specs.Tables.{evaluation, inner_product, folded_by}
 use Rattle.sc_definitions.specs.Events.{Rules, Extension}
 use Rattle.sc_definitions.specs.Channels.{Channel, channel, Wire, empty_wire}
-use Rattle.sc_definitions.specs.Standings.{Setting, Standing, entries_of}
-use Rattle.sc_definitions.specs.Shown.{Shown, KeepsForm, setting_at, standing_at}
-use Rattle.sc_definitions.specs.Statements.{Statement, weight_of, true_value, true_values, claimed_values, powers_sum, weights_at, batched_weight, batched_claim}
+use Rattle.sc_definitions.specs.ProverStates.{Setting, ProverState, entries_of}
+use Rattle.sc_definitions.specs.ProverViews.{ProverView, KeepsForm, setting_at, prover_state_at}
+use Rattle.sc_definitions.specs.Statements.{Statement, weight_of, true_value, true_values, claimed_values, batched_by_powers, weights_at, batched_weight, batched_claim}
 use Rattle.sc_definitions.specs.Combined.{combined_weight, scaled_from}
-use Rattle.sc_definitions.proofs.BuildLaws.{inner-powers_sum}
-use Rattle.sc_definitions.proofs.SameTables.{inner-same}
+use Rattle.sc_definitions.proofs.BuildLaws.{inner_product-batched_by_powers}
+use Rattle.sc_definitions.proofs.SameTables.{inner_product-same}
 use Rattle.sc_commitments.specs.Matrices.{lists_in}
 use Rattle.sc_svo.specs.Batches.{GridBatch}
 use Rattle.sc_layout.specs.Openings.{Laid, AreTrue, statements_of}
@@ -36,7 +36,7 @@ use Rattle.sc_zk_layout.specs.Recorded.{laid_shown, laid_after, recorded_batch}
 module _ (o : Ops) where
   -- weights that are combined with powers are batched
   pub combined-batched : (a p : ℕ) (ss : List Statement) (b : ℕ) → combined_weight o (scaled_from o a p ss) b ≡ batched_weight o a p ss b
-  unfolding combined_weight scaled_from batched_weight powers_sum
+  unfolding combined_weight scaled_from batched_weight batched_by_powers
   combined-batched a p [] b = refl
   combined-batched a p (s ∷ ss) b = ap (plus o (times o (power o a p) (weight_of o s.kind b))) (combined-batched a (suc p) ss b)
 
@@ -47,16 +47,16 @@ module _ (o : Ops) where
       ap (λ v. v ∷ true_values o n f ss) (All-head P s ss all) ∙ ap (λ vs. s.claimed ∷ vs) (values-claimed n f ss (All-tail P s ss all))
 
   -- where all statements are true, so is their batched claim
-  pub claim-honest : IsRing o → (n : ℕ) (f : ℕ → ℕ) (a : ℕ) (ss : List Statement) → AreTrue o n f ss → batched_claim o a 0 ss ≡ inner o n f (combined_weight o (scaled_from o a 0 ss))
+  pub claim-honest : IsRing o → (n : ℕ) (f : ℕ → ℕ) (a : ℕ) (ss : List Statement) → AreTrue o n f ss → batched_claim o a 0 ss ≡ inner_product o n f (combined_weight o (scaled_from o a 0 ss))
   unfolding batched_claim batched_weight
   claim-honest ring n f a ss all =
-      ap (powers_sum o a 0) (sym (values-claimed n f ss all)) ∙ sym (inner-powers_sum o ring n f a 0 ss)
-      ∙ inner-same o n f f (λ b. powers_sum o a 0 (weights_at o ss b)) (combined_weight o (scaled_from o a 0 ss)) (λ b _. refl) (λ b _. sym (combined-batched a 0 ss b))
+      ap (batched_by_powers o a 0) (sym (values-claimed n f ss all)) ∙ sym (inner_product-batched_by_powers o ring n f a 0 ss)
+      ∙ inner_product-same o n f f (λ b. batched_by_powers o a 0 (weights_at o ss b)) (combined_weight o (scaled_from o a 0 ss)) (λ b _. refl) (λ b _. sym (combined-batched a 0 ss b))
 
   -- what its rounds begin with
   pub laid-start : (s : GridBatch) (f : ℕ → ℕ) (l : Laid) (alpha claim : ℕ) → s.order ≡ l.order → s.variables ≡ l.variables → s.claims ≡ scaled_from o alpha 0 (statements_of l.recorded) → f ≡ l.rows →
       claim ≡ batched_claim o alpha 0 (statements_of l.recorded) → shown_after o s f [] claim ≡ laid_shown o l alpha
-  unfolding bound_by
+  unfolding folded_by
   laid-start s f l alpha claim order variables claims rows is =
       let all : s.variables - 0 ≡ l.variables = omega (arith, variables) in
       let evals : entries_of (s.variables - 0) f ≡ entries_of l.variables l.rows = ap (λ n. entries_of n f) all ∙ ap (entries_of l.variables) rows in
@@ -82,10 +82,10 @@ module _ (o : Ops) where
 
 -- ---- one batch under other names
 
-pub same-recorded : (R R' : Rules) (E : Extension) (size bits : ℕ) (o : Ops) (prelude : ZkPrelude) (s s' : Shown) (h : List Event) (w : Wire) (l aux : ℕ) (masks : List (List ℕ)) (ws : List ℕ) →
+pub same-recorded : (R R' : Rules) (E : Extension) (size bits : ℕ) (o : Ops) (prelude : ZkPrelude) (s s' : ProverView) (h : List Event) (w : Wire) (l aux : ℕ) (masks : List (List ℕ)) (ws : List ℕ) →
     R ≡ R' → s ≡ s' → w ≡ empty_wire → aux ≡ 0 →
-    batch_from prelude (setting_at (channel R E size bits) o s) (standing_at s h w) (asked_masks l masks ws aux)
-    ≡ batch_from prelude (setting_at (channel R' E size bits) o s') (standing_at s' h empty_wire) (asked_masks l masks ws 0)
+    batch_from prelude (setting_at (channel R E size bits) o s) (prover_state_at s h w) (asked_masks l masks ws aux)
+    ≡ batch_from prelude (setting_at (channel R' E size bits) o s') (prover_state_at s' h empty_wire) (asked_masks l masks ws 0)
 same-recorded R R' E size bits o prelude s s' h w l aux masks ws er es ew ea = rw (er, es, ew, ea) refl
 
 -- the shape of a batch under masks
@@ -96,7 +96,7 @@ shape-fixed number shape vs s is made =
 
 -- ---- how it ends
 
-module _ {X : Type 0} (scaled : Ops → Shown → ℕ → Shown) (handed : X → Handed) (b : MaskedBatch) (sent : Sent) (result : Result X SumcheckError) where
+module _ {X : Type 0} (scaled : Ops → ProverView → ℕ → ProverView) (handed : X → Handed) (b : MaskedBatch) (sent : Sent) (result : Result X SumcheckError) where
   -- memory ran out before the masks
   pub ends-in-head : (s : Shape) (claim : ℕ) (h : List Event) → result ≡ Err errors.NoMemory → s ≡ b.shape → claim ≡ (head_of b).claim →
       IsHeadPart b.setting.channel s claim b.taken.history h → sent.wire ≡ b.taken.wire → EndsMaskedBy scaled handed b h sent result
@@ -109,35 +109,35 @@ module _ {X : Type 0} (scaled : Ops → Shown → ℕ → Shown) (handed : X →
   })
 
   -- the rounds are broken off
-  pub ends-broken-by : {Y : Type 0} (number : Y → ℕ) (after : Standing) (rs : List ℕ) (e : SumcheckError) → result ≡ Err e → PlaysBatch {X = Y} number b after rs (Err e) → sent.wire ≡ after.wire →
+  pub ends-broken-by : {Y : Type 0} (number : Y → ℕ) (after : ProverState) (rs : List ℕ) (e : SumcheckError) → result ≡ Err e → PlaysBatch {X = Y} number b after rs (Err e) → sent.wire ≡ after.wire →
       EndsMaskedBy scaled handed b after.history sent result
   ends-broken-by number after rs e is broken wire = rw is (record { after = after; left = broken; history = refl; wire = wire; total = tt })
 
   -- memory ran out after the rounds
-  pub ends-after : (after : Standing) (rs : List ℕ) → result ≡ Err errors.NoMemory → PlaysMasked b after rs → sent.wire ≡ after.wire → EndsMaskedBy scaled handed b after.history sent result
+  pub ends-after : (after : ProverState) (rs : List ℕ) → result ≡ Err errors.NoMemory → PlaysMasked b after rs → sent.wire ≡ after.wire → EndsMaskedBy scaled handed b after.history sent result
   ends-after after rs is played wire = rw is (record { after = after; left = inr (record { rs = rs; played = played.played }); history = refl; wire = wire; total = tt })
 
 -- it is handed on
-pub hands-on-side : (c : Channel) (o : Ops) (before now shown : Shown) (b : MaskedBatch) (h : List Event) (w : Wire) (rs : List ℕ) (x : ℕ) (held : Option ℕ) → b.setting ≡ setting_at c o before →
-    KeepsForm before now → PlaysMasked b (standing_at now h w) rs → x ≡ eps_of b → shown ≡ with_side_scaled o now x → held ≡ None →
-    HandsOnBy with_side_scaled b (standing_at now h w) (record { shown = shown; held = held; randomness = rs; eps = x })
+pub hands-on-side : (c : Channel) (o : Ops) (before now shown : ProverView) (b : MaskedBatch) (h : List Event) (w : Wire) (rs : List ℕ) (x : ℕ) (held : Option ℕ) → b.setting ≡ setting_at c o before →
+    KeepsForm before now → PlaysMasked b (prover_state_at now h w) rs → x ≡ eps_of b → shown ≡ with_side_scaled o now x → held ≡ None →
+    HandsOnBy with_side_scaled b (prover_state_at now h w) (record { shown = shown; held = held; randomness = rs; eps = x })
 hands-on-side c o before now shown b h w rs x held setting form played eps scaled none = record {
   played = played;
   eps = eps;
   shown =
       scaled ∙ ap (with_side_scaled o now) eps ∙ ap (λ s. with_side_scaled o s (eps_of b)) (shown-after c o before now h w form)
-      ∙ ap (λ (s : Setting). with_side_scaled s.ops (shown_from s (standing_at now h w)) (eps_of b)) (sym setting);
+      ∙ ap (λ (s : Setting). with_side_scaled s.ops (shown_from s (prover_state_at now h w)) (eps_of b)) (sym setting);
   settled = none;
 }
 
 -- nothing of it was played
-pub ends-unbegun : {X : Type 0} (scaled : Ops → Shown → ℕ → Shown) (handed : X → Handed) (b : MaskedBatch) (h : List Event) (sent : Sent) (result : Result X SumcheckError) → result ≡ Err errors.NoMemory →
+pub ends-unbegun : {X : Type 0} (scaled : Ops → ProverView → ℕ → ProverView) (handed : X → Handed) (b : MaskedBatch) (h : List Event) (sent : Sent) (result : Result X SumcheckError) → result ≡ Err errors.NoMemory →
     h ≡ b.taken.history → sent.wire ≡ b.taken.wire → EndsMaskedBy scaled handed b h sent result
 ends-unbegun scaled handed b h sent result is history wire =
     rw is (record { after = b.taken; left = inl (record { history = inl refl; kept = refl }); history = history; wire = wire; total = tt })
 
 -- an error is passed on
-pub ends-as : {X Y : Type 0} (scaled : Ops → Shown → ℕ → Shown) (handed : X → Handed) (handed' : Y → Handed) (b b' : MaskedBatch) (h : List Event) (sent : Sent) (e : SumcheckError) (result : Result Y SumcheckError) →
+pub ends-as : {X Y : Type 0} (scaled : Ops → ProverView → ℕ → ProverView) (handed : X → Handed) (handed' : Y → Handed) (b b' : MaskedBatch) (h : List Event) (sent : Sent) (e : SumcheckError) (result : Result Y SumcheckError) →
     b ≡ b' → result ≡ Err e → EndsMaskedBy {X = X} scaled handed b h sent (Err e) → EndsMaskedBy scaled handed' b' h sent result
 ends-as scaled handed handed' b b' h sent e result same is ends =
     subst (λ x. EndsMaskedBy scaled handed' x h sent result) same

@@ -5,9 +5,9 @@ use Rattle.sc_definitions.specs.Ring.{Ops}
 use Rattle.sc_definitions.specs.Tables.{evaluation}
 use Rattle.sc_definitions.specs.Events.{Extension}
 use Rattle.sc_definitions.specs.Channels.{empty_wire}
-use Rattle.sc_definitions.specs.Standings.{entries_of}
+use Rattle.sc_definitions.specs.ProverStates.{entries_of}
 use Rattle.sc_definitions.specs.Statements.{batched_weight, batched_claim}
-use Rattle.sc_definitions.specs.Shown.{Shown}
+use Rattle.sc_definitions.specs.ProverViews.{ProverView}
 use Rattle.sc_challenger.specs.Parties.{Party}
 use Rattle.sc_field.specs.declared.field.Field.{Ghosts as FieldOf}
 use Rattle.sc_field.specs.declared.algebra.Algebra.{Ghosts as AlgebraOf}
@@ -29,7 +29,7 @@ use Rattle.sc_zk_rounds.specs.Views.{Player, batch_of, residual_in, handed_in}
 use Rattle.sc_zk_layout.specs.Grids.{bound_entries, with_side_scaled}
 
 -- What its rounds begin with under a batching challenge: the table, the batched weights of all that is recorded, and the batched claim.
-abbrev pub laid_shown : Ops → Laid → ℕ → Shown
+abbrev pub laid_shown : Ops → Laid → ℕ → ProverView
 laid_shown o l alpha = record {
   basis = evaluation;
   order = l.order;
@@ -40,7 +40,7 @@ laid_shown o l alpha = record {
 }
 
 -- What rounds with these challenges leave of it, with a claim.
-abbrev pub laid_after : Ops → Laid → ℕ → List ℕ → ℕ → Shown
+abbrev pub laid_after : Ops → Laid → ℕ → List ℕ → ℕ → ProverView
 laid_after o l alpha rs claim =
     let m = l.variables - length rs in
     record {
@@ -53,7 +53,7 @@ laid_after o l alpha rs claim =
     }
 
 -- what they begin with under the challenge that is drawn after the seed of a shape
-abbrev pub laid_by_draw : Party → Extension → Ops → ZkSumcheckShape → Laid → Shown
+abbrev pub laid_by_draw : Party → Extension → Ops → ZkSumcheckShape → Laid → ProverView
 laid_by_draw p E o s l = laid_shown o l (batching_at p.rules E p.history (fixed_by s))
 
 -- what plays it, with nothing on the wire

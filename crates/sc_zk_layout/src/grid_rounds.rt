@@ -1,7 +1,7 @@
 //! Plain rounds that are read off grids.
 ghost use Rattle.std.specs.Prelude.{◌≡◌, ◌≤◌, ◌+◌, ◌<◌, [], ◌∷◌};
 ghost use Rattle.std.specs.Prelude.{IfOk, length, map, vec_capacity, None};
-ghost use Rattle.sc_definitions.specs.Shown.{IsTrueClaim};
+ghost use Rattle.sc_definitions.specs.ProverViews.{IsTrueClaim};
 ghost use Rattle.sc_table.specs.Polys.{variables_of, table_of};
 ghost use Rattle.sc_table.specs.Strategy.{order_of};
 ghost use Rattle.sc_rounds.specs.ProverViews.{shown_by, stored_by};
@@ -91,7 +91,7 @@ impl<'a, F: Field, EF: ExtensionField<F>> GridRounds<'a, F, EF> {
 }
 
 impl<'a, F: Field, EF: ExtensionField<F>> PlainRounds<F, EF> for GridRounds<'a, F, EF> {
-    ghost use Rattle.sc_definitions.specs.Shown.{honest_shown, with_bound};
+    ghost use Rattle.sc_definitions.specs.ProverViews.{honest_shown, with_bound};
     ghost use Rattle.sc_zk_layout.specs.Played.{rounds_show, rounds_left};
     ghost use Rattle.sc_zk_layout.specs.PlayedLaws.{rounds_tables, rounds_within};
 

@@ -2,7 +2,7 @@
 ghost use Rattle.std.specs.Prelude.{◌≡◌, ◌^◌, ◌<◌, ℕ, None, length};
 ghost use Rattle.sc_definitions.specs.Ring.{◌*⟨◌⟩◌};
 ghost use Rattle.sc_definitions.specs.Tables.{entries};
-ghost use Rattle.sc_definitions.specs.Shown.{IsTrueClaim};
+ghost use Rattle.sc_definitions.specs.ProverViews.{IsTrueClaim};
 ghost use Rattle.sc_table.specs.Polys.{variables_of, table_of};
 ghost use Rattle.sc_table.specs.Strategy.{order_of};
 ghost use Rattle.sc_rounds.specs.ProverViews.{shown_by, stored_by};

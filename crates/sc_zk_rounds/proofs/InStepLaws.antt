@@ -5,13 +5,13 @@ use Rattle.std.specs.List.{slice_get}
 use Rattle.sc_definitions.specs.declared.events.Event.{Event}
 use Rattle.sc_definitions.specs.Ring.{Ops, IsRing, plus, times}
 use Rattle.sc_definitions.specs.Events.{Extension}
-use Rattle.sc_definitions.specs.Shown.{Shown}
+use Rattle.sc_definitions.specs.ProverViews.{ProverView}
 use Rattle.sc_definitions.proofs.RingLaws.{times_comm}
 use Rattle.sc_definitions.proofs.Identity.{atom, ◌⊗◌, ◌⊕◌, Agree, identity}
 use Rattle.sc_challenger.specs.Parties.{Party}
 use Rattle.sc_definitions.specs.Transcript.{Round, round_events, rounds_events, challenge}
-use Rattle.sc_definitions.specs.Channels.{Channel, channel, Wire, empty_wire, with_rounds, Footing, footing, IsReplayed, FailsAt, IsBuilt}
-use Rattle.sc_definitions.specs.Standings.{Setting, Standing}
+use Rattle.sc_definitions.specs.Channels.{Channel, channel, Wire, empty_wire, with_rounds, VerifierState, verifier_state, IsReplayed, FailsAt, IsBuilt}
+use Rattle.sc_definitions.specs.ProverStates.{Setting, ProverState}
 use Rattle.sc_definitions.proofs.BuiltLaws.{length-messages, length-challenges}
 use Rattle.sc_definitions.proofs.PolyLaws.{length-scaled}
 use Rattle.sc_commitments.specs.Matrices.{lists_in}
@@ -98,13 +98,13 @@ long-wire l long = omega (arith, long)
 -- ---- both sides
 
 -- what an accepted replay tells
-pub record IsAccepted (b : MaskedBatch) (after : Standing) (rs : List ℕ) (told : Told) (h : List Event) : Type 0 where
+pub record IsAccepted (b : MaskedBatch) (after : ProverState) (rs : List ℕ) (told : Told) (h : List Event) : Type 0 where
   pub challenges : told.randomness ≡ rs
   pub eps : told.eps ≡ eps_of b
   pub residual : told.residual ≡ residual_of b.setting.ops (masking_of b) after.claim rs
   pub history : h ≡ after.history
 
-module _ (q : ZkPrelude) (s : Setting) (t : Standing) (m : AskedMasks) (base : Ops) (shape : ZkSumcheckShape) (after : Standing) (rs : List ℕ)
+module _ (q : ZkPrelude) (s : Setting) (t : ProverState) (m : AskedMasks) (base : Ops) (shape : ZkSumcheckShape) (after : ProverState) (rs : List ℕ)
     (none_sent : t.wire ≡ empty_wire) (is : fixed_by shape ≡ (batch_from q s t m).shape) (played : PlaysMasked (batch_from q s t m) after rs) where
   abbrev b : MaskedBatch
   b = batch_from q s t m
@@ -136,12 +136,12 @@ module _ (q : ZkPrelude) (s : Setting) (t : Standing) (m : AskedMasks) (base : O
   }
 
   -- where it begins
-  begins : begins_at asked ≡ footing (start_of b).history (target_of s.ops (masking_of b) t.claim)
-  begins = ap (λ (x : Shape). footing (rounds_from s.channel.extension t.history x (head_of b)) (first_target s.ops (combination_of s.channel x (head_of b) t.history) (head_of b).claim (head_of b).mu)) is
+  begins : begins_at asked ≡ verifier_state (start_of b).history (target_of s.ops (masking_of b) t.claim)
+  begins = ap (λ (x : Shape). verifier_state (rounds_from s.channel.extension t.history x (head_of b)) (first_target s.ops (combination_of s.channel x (head_of b) t.history) (head_of b).claim (head_of b).mu)) is
 
   -- a replay of what was sent is one of the rounds that were played
-  moved : (end : Footing) (out : List ℕ) → IsReplayed (next_target s.ops) s.channel (begins_at asked) end (rounds_on after.wire) out →
-      IsReplayed (next_target s.ops) s.channel (footing (start_of b).history (target_of s.ops (masking_of b) t.claim)) end played.played.rounds out
+  moved : (end : VerifierState) (out : List ℕ) → IsReplayed (next_target s.ops) s.channel (begins_at asked) end (rounds_on after.wire) out →
+      IsReplayed (next_target s.ops) s.channel (verifier_state (start_of b).history (target_of s.ops (masking_of b) t.claim)) end played.played.rounds out
   moved end out r =
       subst (λ f. IsReplayed (next_target s.ops) s.channel f end played.played.rounds out) begins
       (subst (λ qs. IsReplayed (next_target s.ops) s.channel (begins_at asked) end qs out) given r)
@@ -149,7 +149,7 @@ module _ (q : ZkPrelude) (s : Setting) (t : Standing) (m : AskedMasks) (base : O
   -- it is accepted, and leaves this
   pub accepted : {X : Type 0} (told : X → Told) (x : X) (h : List Event) → IsRing s.ops → IsHalf s.ops b.half → LeavesMaskedReplay told asked (Ok x) h → IsAccepted b after rs (told x) h
   accepted told x h ring half left =
-      let r = moved (footing h (told x).residual) (told x).randomness left.walked.replays in
+      let r = moved (verifier_state h (told x).residual) (told x).randomness left.walked.replays in
       let q = runs_replay s (masking_of b) (start_of b) after rs ring half played.whole played.played in
       record {
         challenges = r.drawn ∙ sym q.drawn;
@@ -159,9 +159,9 @@ module _ (q : ZkPrelude) (s : Setting) (t : Standing) (m : AskedMasks) (base : O
       }
 
   -- no witness of it fails
-  none-invalid : (i : ℕ) (end : Footing) → FailsAt (next_target s.ops) s.channel (begins_at asked) end (rounds_on after.wire) i → ⊥
+  none-invalid : (i : ℕ) (end : VerifierState) → FailsAt (next_target s.ops) s.channel (begins_at asked) end (rounds_on after.wire) i → ⊥
   none-invalid i end fails =
-      none_failing (next_target s.ops) _ s.channel (footing (start_of b).history (target_of s.ops (masking_of b) t.claim)) end t.variables played.played.rounds i played.played.built
+      none_failing (next_target s.ops) _ s.channel (verifier_state (start_of b).history (target_of s.ops (masking_of b) t.claim)) end t.variables played.played.rounds i played.played.built
       (subst (λ f. FailsAt (next_target s.ops) s.channel f end played.played.rounds i) begins
       (subst (λ qs. FailsAt (next_target s.ops) s.channel (begins_at asked) end qs i) given fails))
 
@@ -178,7 +178,7 @@ module _ (q : ZkPrelude) (s : Setting) (t : Standing) (m : AskedMasks) (base : O
         built = built-take _ s.channel (start_of b).history [] t.variables played.played.rounds part.1.count played.played.built;
         history =
             part.1.walked.replays.history
-            ∙ ap (λ (f : Footing). f.history ++ rounds_events s.channel.extension s.channel.bits (take part.1.count (rounds_on after.wire))) begins
+            ∙ ap (λ (f : VerifierState). f.history ++ rounds_events s.channel.extension s.channel.bits (take part.1.count (rounds_on after.wire))) begins
             ∙ ap (λ qs. (start_of b).history ++ rounds_events s.channel.extension s.channel.bits (take part.1.count qs)) given;
       })
     ],
@@ -200,7 +200,7 @@ module _ (q : ZkPrelude) (s : Setting) (t : Standing) (m : AskedMasks) (base : O
 -- ---- a run, by what the calls of both sides leave
 
 -- the batch of a challenger's copy is that of the challenger
-pub copied-batch : (p q : Party) (E : Extension) (size bits : ℕ) (o : Ops) (s : Shown) (m : AskedMasks) → q.rules ≡ p.rules → q.history ≡ p.history →
+pub copied-batch : (p q : Party) (E : Extension) (size bits : ℕ) (o : Ops) (s : ProverView) (m : AskedMasks) → q.rules ≡ p.rules → q.history ≡ p.history →
     batch_by q E size bits o s m ≡ batch_by p E size bits o s m
 copied-batch p q E size bits o s m rules history =
     ap (λ R. batch_over (channel R E size bits) o s q.history m) rules ∙ ap (λ h. batch_over (channel p.rules E size bits) o s h m) history
@@ -212,7 +212,7 @@ all-below number size below (x ∷ xs) zero d low = below x
 all-below number size below (x ∷ xs) (suc i) d low = all-below number size below xs i d (omega arith)
 
 -- the prover's refusal: the verifier has not begun
-pub falls-out : {X Y F : Type 0} (scaled : Ops → Shown → ℕ → Shown) (base : F → ℕ) (view : Y → MaskedFigures) (handed : X → Handed) (b : MaskedBatch) (h : List Event) (sent : Sent) (ws : List F) (result : Result Y SumcheckError) (e : SumcheckError) →
+pub falls-out : {X Y F : Type 0} (scaled : Ops → ProverView → ℕ → ProverView) (base : F → ℕ) (view : Y → MaskedFigures) (handed : X → Handed) (b : MaskedBatch) (h : List Event) (sent : Sent) (ws : List F) (result : Result Y SumcheckError) (e : SumcheckError) →
     ((x : F) → base x < b.setting.channel.base_size) → sent.wire.witnesses ≡ map base ws → result ≡ Err e → EndsMaskedBy scaled handed b h sent (Err e) → StaysInStep view b result b.taken.history
 falls-out {X} {Y} scaled base view handed b h sent ws result e below witnesses is ends = subst (λ r. StaysInStep view b r b.taken.history) (sym is) (cases e ends) where
   cases : (e : SumcheckError) → EndsMaskedBy {X = X} scaled handed b h sent (Err e) → StaysInStep {X = Y} view b (Err e) b.taken.history
@@ -230,8 +230,8 @@ falls-out {X} {Y} scaled base view handed b h sent ws result e below witnesses i
   cases e ends = absurd ends.left
 
 -- the verifier's: memory ran out
-pub verifier-stops : {X Y EF Z : Type 0} (told : X → Told) (view : Y → MaskedFigures) (number : EF → ℕ) (vs : List (Vec EF Z)) (q : ZkPrelude) (s : Setting) (t : Standing) (m : AskedMasks) (base : Ops) (shape : ZkSumcheckShape)
-    (after : Standing) (rs : List ℕ) (H : Head) (w : Wire) (h : List Event) (result : Result Y SumcheckError) (e : SumcheckError) → t.wire ≡ empty_wire → fixed_by shape ≡ (batch_from q s t m).shape →
+pub verifier-stops : {X Y EF Z : Type 0} (told : X → Told) (view : Y → MaskedFigures) (number : EF → ℕ) (vs : List (Vec EF Z)) (q : ZkPrelude) (s : Setting) (t : ProverState) (m : AskedMasks) (base : Ops) (shape : ZkSumcheckShape)
+    (after : ProverState) (rs : List ℕ) (H : Head) (w : Wire) (h : List Event) (result : Result Y SumcheckError) (e : SumcheckError) → t.wire ≡ empty_wire → fixed_by shape ≡ (batch_from q s t m).shape →
     PlaysMasked (batch_from q s t m) after rs → H ≡ head_of (batch_from q s t m) → w ≡ after.wire → IsRing s.ops → IsFit base shape → m.masks ≡ lists_in number vs → AreOfLength m.mask_length vs →
     result ≡ Err e → LeavesMaskedReplay told (claim_asked base s.ops s.channel shape H t.history w) (Err e) h → StaysInStep view (batch_from q s t m) result h
 verifier-stops {X} {Y} told view number vs q s t m base shape after rs H w h result e none is played heads wires ring fit are lengths failed left =
@@ -241,7 +241,7 @@ verifier-stops {X} {Y} told view number vs q s t m base shape after rs H w h res
     subst (λ r. StaysInStep view (batch_from q s t m) r h) (sym (failed ∙ ap Err why.0)) why.1
 
 -- or it accepts
-pub verifier-accepts : {X : Type 0} (told : X → Told) (q : ZkPrelude) (s : Setting) (t : Standing) (m : AskedMasks) (base : Ops) (shape : ZkSumcheckShape) (after : Standing) (rs : List ℕ) (H : Head) (w : Wire)
+pub verifier-accepts : {X : Type 0} (told : X → Told) (q : ZkPrelude) (s : Setting) (t : ProverState) (m : AskedMasks) (base : Ops) (shape : ZkSumcheckShape) (after : ProverState) (rs : List ℕ) (H : Head) (w : Wire)
     (h : List Event) (x : X) → t.wire ≡ empty_wire → fixed_by shape ≡ (batch_from q s t m).shape → PlaysMasked (batch_from q s t m) after rs → H ≡ head_of (batch_from q s t m) → w ≡ after.wire →
     IsRing s.ops → IsHalf s.ops (half_of s.ops) → LeavesMaskedReplay told (claim_asked base s.ops s.channel shape H t.history w) (Ok x) h → IsAccepted (batch_from q s t m) after rs (told x) h
 verifier-accepts told q s t m base shape after rs H w h x none is played heads wires ring half left =
@@ -257,7 +257,7 @@ three-parts o ring k claim rs =
     identity o ring (k.eps ∷ claim ∷ aux_after o k.half k.aux (length rs) ∷ masks_at o k.masks rs ∷ []) ((atom 0 ⊗ (atom 1 ⊕ atom 2)) ⊕ atom 3) (((atom 0 ⊗ atom 1) ⊕ (atom 0 ⊗ atom 2)) ⊕ atom 3) tt tt refl
 
 -- what both sides tell
-pub steps-through : (b : MaskedBatch) (after : Standing) (rs : List ℕ) (told : Told) (h : List Event) (f : MaskedFigures) → IsRing b.setting.ops → PlaysMasked b after rs → IsAccepted b after rs told h →
+pub steps-through : (b : MaskedBatch) (after : ProverState) (rs : List ℕ) (told : Told) (h : List Event) (f : MaskedFigures) → IsRing b.setting.ops → PlaysMasked b after rs → IsAccepted b after rs told h →
     f.challenges ≡ told.randomness → f.eps ≡ told.eps → f.residual ≡ told.residual → f.mu ≡ masks_total b.setting.ops b.masks → f.wire ≡ after.wire →
     f.scaled ≡ times b.setting.ops after.claim (eps_of b) → f.carried ≡ times b.setting.ops told.eps (aux_after b.setting.ops b.half b.aux (length b.masks)) →
     f.mask_residual ≡ masks_at b.setting.ops b.masks rs → StepsThrough b h f

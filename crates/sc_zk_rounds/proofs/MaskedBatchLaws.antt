@@ -5,8 +5,8 @@ use Rattle.sc_definitions.specs.declared.events.Event.{Event}
 use Rattle.sc_definitions.specs.Ring.{Ops, plus}
 use Rattle.sc_definitions.specs.Events.{Rules, Extension}
 use Rattle.sc_definitions.specs.Channels.{Channel, channel, Wire, empty_wire}
-use Rattle.sc_definitions.specs.Standings.{Setting, Standing}
-use Rattle.sc_definitions.specs.Shown.{Shown, KeepsForm, with_scaled, setting_at, standing_at}
+use Rattle.sc_definitions.specs.ProverStates.{Setting, ProverState}
+use Rattle.sc_definitions.specs.ProverViews.{ProverView, KeepsForm, with_scaled, setting_at, prover_state_at}
 use Rattle.sc_commitments.specs.Matrices.{lists_in}
 use Rattle.sc_transcript.specs.declared.error.SumcheckError.{SumcheckError}
 use Rattle.sc_transcript.specs.declared.error.SumcheckError.TheVariants as errors
@@ -28,7 +28,7 @@ use Rattle.sc_zk_rounds.specs.Data.{Sent}
 
 -- ---- the head of a batch of these masks, whose numbers are told by elements
 
-module _ {EF Z : Type 0} (number : EF → ℕ) (s : Setting) (t : Standing) (vs : List (Vec EF Z)) (ws : List ℕ) (shape : ZkSumcheckShape) (aux mu : EF) (claim : ℕ)
+module _ {EF Z : Type 0} (number : EF → ℕ) (s : Setting) (t : ProverState) (vs : List (Vec EF Z)) (ws : List ℕ) (shape : ZkSumcheckShape) (aux mu : EF) (claim : ℕ)
     (is : shape ≡ shape_made shape.prelude (length vs) shape.ell_zk shape.pow_bits) (bits : s.channel.bits ≡ shape.pow_bits)
     (claims : claim ≡ plus s.ops t.claim (number aux)) (total : number mu ≡ masks_total s.ops (lists_in number vs)) where
   abbrev asked : MaskedBatch
@@ -70,7 +70,7 @@ module _ {EF Z : Type 0} (number : EF → ℕ) (s : Setting) (t : Standing) (vs 
   head-stops h part = subst (λ y. IsHeadPart s.channel y (head_of asked).claim t.history h) shape-is (subst (λ n. IsHeadPart s.channel (fixed_by shape) n t.history h) claims part)
 
 -- the rounds after the head are those of the batch
-pub batch-rounds : {X EF Z : Type 0} (o : Ops) (number : EF → ℕ) (b : MaskedBatch) (vs : List (Vec EF Z)) (x : EF) (m : Mixing EF) {s₁ : Setting} {begun : Standing} (after : Standing) (rs : List ℕ)
+pub batch-rounds : {X EF Z : Type 0} (o : Ops) (number : EF → ℕ) (b : MaskedBatch) (vs : List (Vec EF Z)) (x : EF) (m : Mixing EF) {s₁ : Setting} {begun : ProverState} (after : ProverState) (rs : List ℕ)
     (result : Result X SumcheckError) → s₁ ≡ b.setting → begun ≡ start_of b → AreMasks o number (masking_of b) vs x m →
     ((k : Masking) → AreMasks o number k vs x m → PlaysMasks s₁ k (length vs) begun after rs result) →
     PlaysMasks b.setting (masking_of b) (length b.masks) (start_of b) after rs result
@@ -82,12 +82,12 @@ batch-rounds o number b vs x m {s₁} {begun} after rs result same at are plays 
     (subst (λ n. PlaysMasks s₁ k n begun after rs result) count (plays k are)))
 
 -- all of them were played
-pub whole-batch : {X : Type 0} (b : MaskedBatch) (after : Standing) (rs : List ℕ) (x : X) →
+pub whole-batch : {X : Type 0} (b : MaskedBatch) (after : ProverState) (rs : List ℕ) (x : X) →
     PlaysMasks b.setting (masking_of b) (length b.masks) (start_of b) after rs (Ok x) → PlaysMasked b after rs
 whole-batch b after rs x p = record { whole = sym p.1; played = p.0 }
 
 -- or they are broken off
-pub broken-batch : (X : Type 0) {Y : Type 0} (number : Y → ℕ) (b : MaskedBatch) (after : Standing) (rs rs' : List ℕ) (e : SumcheckError) (result : Result Y SumcheckError) → result ≡ Err e →
+pub broken-batch : (X : Type 0) {Y : Type 0} (number : Y → ℕ) (b : MaskedBatch) (after : ProverState) (rs rs' : List ℕ) (e : SumcheckError) (result : Result Y SumcheckError) → result ≡ Err e →
     PlaysMasks {X = X} b.setting (masking_of b) (length b.masks) (start_of b) after rs (Err e) → PlaysBatch number b after rs' result
 broken-batch X {Y} number b after rs rs' e result is p = subst (PlaysBatch number b after rs') (sym is) (cases e p) where
   cases : (e : SumcheckError) → PlaysMasks {X = X} b.setting (masking_of b) (length b.masks) (start_of b) after rs (Err e) → PlaysBatch {X = Y} number b after rs' (Err e)
@@ -98,28 +98,28 @@ broken-batch X {Y} number b after rs rs' e result is p = subst (PlaysBatch numbe
 -- ---- what a batch hands on, or how it ends
 
 -- one batch under other names
-pub same-batch : (R : Rules) (E : Extension) (size : ℕ) {bits bits' : ℕ} (o : Ops) (s : Shown) (h : List Event) {w : Wire} {l l' : ℕ} {masks masks' : List (List ℕ)} {ws ws' : List ℕ} (aux : ℕ) {q : ZkPrelude} →
+pub same-batch : (R : Rules) (E : Extension) (size : ℕ) {bits bits' : ℕ} (o : Ops) (s : ProverView) (h : List Event) {w : Wire} {l l' : ℕ} {masks masks' : List (List ℕ)} {ws ws' : List ℕ} (aux : ℕ) {q : ZkPrelude} →
     q ≡ InheritedClaim → bits ≡ bits' → w ≡ empty_wire → l ≡ l' → masks ≡ masks' → ws ≡ ws' →
-    batch_from q (setting_at (channel R E size bits) o s) (standing_at s h w) (asked_masks l masks ws aux)
-    ≡ batch_asked (setting_at (channel R E size bits') o s) (standing_at s h empty_wire) (asked_masks l' masks' ws' aux)
+    batch_from q (setting_at (channel R E size bits) o s) (prover_state_at s h w) (asked_masks l masks ws aux)
+    ≡ batch_asked (setting_at (channel R E size bits') o s) (prover_state_at s h empty_wire) (asked_masks l' masks' ws' aux)
 same-batch R E size o s h aux eq eb ew el em ews = rw (eq, eb, ew, el, em, ews) refl
 
 -- what a prover shows after rounds, by where these stand
-pub shown-after : (c : Channel) (o : Ops) (before now : Shown) (h : List Event) (w : Wire) → KeepsForm before now →
-    now ≡ shown_from (setting_at c o before) (standing_at now h w)
+pub shown-after : (c : Channel) (o : Ops) (before now : ProverView) (h : List Event) (w : Wire) → KeepsForm before now →
+    now ≡ shown_from (setting_at c o before) (prover_state_at now h w)
 shown-after c o before now h w form =
     λ i. record { basis = form.basis i; order = form.order i; variables = now.variables; evals = now.evals; weights = now.weights; claim = now.claim }
 
 -- a whole batch is handed on
-pub hands-on : (c : Channel) (o : Ops) (before now after : Shown) (b : MaskedBatch) (h : List Event) (w : Wire) (rs rs' : List ℕ) (x : ℕ) (held : Option ℕ) → b.setting ≡ setting_at c o before →
-    KeepsForm before now → PlaysMasked b (standing_at now h w) rs → rs' ≡ rs → x ≡ eps_of b → after ≡ with_scaled o now x → held ≡ None →
-    HandsOn b (standing_at now h w) (record { shown = after; held = held; randomness = rs'; eps = x })
+pub hands-on : (c : Channel) (o : Ops) (before now after : ProverView) (b : MaskedBatch) (h : List Event) (w : Wire) (rs rs' : List ℕ) (x : ℕ) (held : Option ℕ) → b.setting ≡ setting_at c o before →
+    KeepsForm before now → PlaysMasked b (prover_state_at now h w) rs → rs' ≡ rs → x ≡ eps_of b → after ≡ with_scaled o now x → held ≡ None →
+    HandsOn b (prover_state_at now h w) (record { shown = after; held = held; randomness = rs'; eps = x })
 hands-on c o before now after b h w rs rs' x held setting form played drawn eps scaled none = record {
-  played = subst (PlaysMasked b (standing_at now h w)) (sym drawn) played;
+  played = subst (PlaysMasked b (prover_state_at now h w)) (sym drawn) played;
   eps = eps;
   shown =
       scaled ∙ ap (with_scaled o now) eps ∙ ap (λ s. with_scaled o s (eps_of b)) (shown-after c o before now h w form)
-      ∙ ap (λ (s : Setting). with_scaled s.ops (shown_from s (standing_at now h w)) (eps_of b)) (sym setting);
+      ∙ ap (λ (s : Setting). with_scaled s.ops (shown_from s (prover_state_at now h w)) (eps_of b)) (sym setting);
   settled = none;
 }
 
@@ -129,7 +129,7 @@ pub stops-batch : {X : Type 0} (number : X → ℕ) (b : MaskedBatch) (h : List 
 stops-batch number b h rs result is part = rw is (inl (record { history = part; kept = refl }))
 
 -- a batch of one setting under other rules of a challenger
-pub batch-as : {X : Type 0} (number : X → ℕ) (E : Extension) (size bits : ℕ) (o : Ops) (prelude : ZkPrelude) (v : Shown) (t after : Standing) (m : AskedMasks) (rs : List ℕ) (R R' : Rules) (result : Result X SumcheckError) →
+pub batch-as : {X : Type 0} (number : X → ℕ) (E : Extension) (size bits : ℕ) (o : Ops) (prelude : ZkPrelude) (v : ProverView) (t after : ProverState) (m : AskedMasks) (rs : List ℕ) (R R' : Rules) (result : Result X SumcheckError) →
     R ≡ R' → PlaysBatch number (batch_from prelude (setting_at (channel R E size bits) o v) t m) after rs result →
     PlaysBatch number (batch_from prelude (setting_at (channel R' E size bits) o v) t m) after rs result
 batch-as number E size bits o prelude v t after m rs R R' result same = subst (λ r. PlaysBatch number (batch_from prelude (setting_at (channel r E size bits) o v) t m) after rs result) same
@@ -146,7 +146,7 @@ ends-before handed b h sent result is history wire = rw is (record {
 })
 
 -- a batch is broken off
-pub ends-broken : {X Y : Type 0} (handed : X → Handed) (number : Y → ℕ) (b : MaskedBatch) (after : Standing) (rs : List ℕ) (sent : Sent) (result : Result X SumcheckError) (e : SumcheckError) →
+pub ends-broken : {X Y : Type 0} (handed : X → Handed) (number : Y → ℕ) (b : MaskedBatch) (after : ProverState) (rs : List ℕ) (sent : Sent) (result : Result X SumcheckError) (e : SumcheckError) →
     result ≡ Err e → PlaysBatch {X = Y} number b after rs (Err e) → sent.wire ≡ after.wire → EndsMasked handed b after.history sent result
 ends-broken handed number b after rs sent result e is broken wire = rw is (record { after = after; left = broken; history = refl; wire = wire; total = tt })
 

@@ -3,33 +3,33 @@ use Rattle.std.proofs.Common.{◌≡◌, ℕ, zero, suc, ◌-◌, ◌<◌, List,
 use Rattle.sc_definitions.specs.declared.events.Event.{Event}
 use Rattle.sc_definitions.specs.Ring.{Ops, IsRing}
 use Rattle.std.proofs.lemmas.List.{append-nil}
-use Rattle.sc_definitions.specs.Tables.{evaluation, IsOffered, bound_by}
+use Rattle.sc_definitions.specs.Tables.{evaluation, IsOffered, folded_by}
 use Rattle.sc_definitions.specs.Rounds.{next_claim, claim_along}
 use Rattle.sc_definitions.specs.Transcript.{round_of}
 use Rattle.sc_definitions.specs.Channels.{Channel, Wire, with_rounds, IsSent, NoWitnessFound}
-use Rattle.sc_definitions.specs.Shown.{Shown, honest_shown, message_shown, with_bound, setting_at, standing_at}
-use Rattle.sc_rounds.proofs.HeldLaws.{honest_message}
+use Rattle.sc_definitions.specs.ProverViews.{ProverView, honest_shown, message_shown, with_bound, setting_at, prover_state_at}
+use Rattle.sc_rounds.proofs.HeldLaws.{honest_shown-message}
 use Rattle.sc_transcript.specs.declared.error.SumcheckError.{SumcheckError}
 use Rattle.sc_transcript.specs.declared.error.SumcheckError.TheVariants as errors
 use Rattle.sc_transcript.specs.Drivers.{IsRefused}
 use Rattle.sc_zk_transcript.specs.Causes.{masked_cause}
 use Rattle.sc_commitments.specs.Matrices.{lists_in}
-use Rattle.sc_definitions.specs.Standings.{Setting, Standing}
+use Rattle.sc_definitions.specs.ProverStates.{Setting, ProverState}
 use Rattle.sc_zk_definitions.proofs.GrownLaws.{runs_grow, message_honest}
 use Rattle.sc_zk_rounds.specs.declared.mixing.Mixing.{Mixing}
 use Rattle.sc_zk_rounds.specs.Mixings.{IsMixing}
 use Rattle.sc_zk_rounds.specs.Rounds.{MovesMasked, IsOfMask, AreMasks, PlaysMasks}
-use Rattle.sc_definitions.proofs.StandingLaws.{IsSized, entries-is, with_none}
+use Rattle.sc_definitions.proofs.ProverStateLaws.{IsSized, entries-is, with_none}
 use Rattle.sc_zk_definitions.specs.Masks.{piece, pair_of}
 use Rattle.sc_zk_definitions.specs.MaskedRuns.{Masking, IsMaskedRound, IsMasked, piece_of, wire_after}
 
-module _ (o : Ops) (ring : IsRing o) (s : Shown) (is : s.basis ≡ evaluation) (some : 0 < s.variables) (c0 c_inf : ℕ) (honest : c0 ∷ c_inf ∷ [] ≡ honest_shown o s) where
+module _ (o : Ops) (ring : IsRing o) (s : ProverView) (is : s.basis ≡ evaluation) (some : 0 < s.variables) (c0 c_inf : ℕ) (honest : c0 ∷ c_inf ∷ [] ≡ honest_shown o s) where
   offered : IsOffered s.basis s.order
   offered = subst (λ b. IsOffered b s.order) (sym is) tt
 
   -- the two values are the message of the tables
   message : c0 ∷ c_inf ∷ [] ≡ message_shown o s
-  message = honest ∙ honest_message o ring s offered some
+  message = honest ∙ honest_shown-message o ring s offered some
 
   -- and its piece
   pub piece-is : piece c0 c_inf ≡ piece_of (message_shown o s)
@@ -43,11 +43,11 @@ module _ (o : Ops) (ring : IsRing o) (s : Shown) (is : s.basis ≡ evaluation) (
       ∙ ap (λ m. next_claim evaluation o s.claim (pair_of (piece_of m)) r) message
 
   -- the round
-  pub masked-round : (c : Channel) (k : Masking) (rs : List ℕ) (t : Shown) (h h' : List Event) (w w' : Wire) (values : List ℕ) (witness r : ℕ) →
+  pub masked-round : (c : Channel) (k : Masking) (rs : List ℕ) (t : ProverView) (h h' : List Event) (w w' : Wire) (values : List ℕ) (witness r : ℕ) →
       t ≡ with_bound o s r → values ≡ wire_after o k rs (piece c0 c_inf) → IsSent c h (round_of values witness) r h' → w' ≡ with_rounds c.bits w (round_of values witness ∷ []) →
-      IsMaskedRound (setting_at c o s) k (standing_at s h w) (standing_at t h' w') rs r
+      IsMaskedRound (setting_at c o s) k (prover_state_at s h w) (prover_state_at t h' w') rs r
   masked-round c k rs t h h' w w' values witness r bound made sent wire =
-      subst (λ u. IsMaskedRound (setting_at c o s) k (standing_at s h w) (standing_at u h' w') rs r) (sym bound) (record {
+      subst (λ u. IsMaskedRound (setting_at c o s) k (prover_state_at s h w) (prover_state_at u h' w') rs r) (sym bound) (record {
         round = round_of values witness;
         fewer = omega (arith, some);
         values = made ∙ ap (wire_after o k rs) piece-is;
@@ -59,16 +59,16 @@ module _ (o : Ops) (ring : IsRing o) (s : Shown) (is : s.basis ≡ evaluation) (
       })
 
   -- a round that is refused
-  pub refused-moves : {X : Type 0} (number : X → ℕ) (c : Channel) (k : Masking) (rs : List ℕ) (i : ℕ) (t : Shown) (h h' : List Event) (w w' : Wire) (values : List ℕ) (e : SumcheckError)
+  pub refused-moves : {X : Type 0} (number : X → ℕ) (c : Channel) (k : Masking) (rs : List ℕ) (i : ℕ) (t : ProverView) (h h' : List Event) (w w' : Wire) (values : List ℕ) (e : SumcheckError)
       (result : Result X SumcheckError) → t ≡ s → w' ≡ w → length rs ≡ i → values ≡ wire_after o k rs (piece c0 c_inf) → IsRefused c i h values h' (masked_cause e) → result ≡ Err e →
-      MovesMasked number (setting_at c o s) k rs (standing_at s h w) (standing_at t h' w') result
+      MovesMasked number (setting_at c o s) k rs (prover_state_at s h w) (prover_state_at t h' w') result
   refused-moves {X} number c k rs i t h h' w w' values e result same_shown same_wire size made why is =
-      subst (MovesMasked number (setting_at c o s) k rs (standing_at s h w) (standing_at t h' w')) (sym is) (cases e why) where
-        same : standing_at t h' w' ≡ standing_at s h' w
-        same = ap (λ u. standing_at u h' w') same_shown ∙ ap (standing_at s h') same_wire
+      subst (MovesMasked number (setting_at c o s) k rs (prover_state_at s h w) (prover_state_at t h' w')) (sym is) (cases e why) where
+        same : prover_state_at t h' w' ≡ prover_state_at s h' w
+        same = ap (λ u. prover_state_at u h' w') same_shown ∙ ap (prover_state_at s h') same_wire
 
-        cases : (e : SumcheckError) → IsRefused c i h values h' (masked_cause e) → MovesMasked {X = X} number (setting_at c o s) k rs (standing_at s h w) (standing_at t h' w') (Err e)
-        cases errors.NoMemory why = same ∙ ap (λ x. standing_at s x w) why
+        cases : (e : SumcheckError) → IsRefused c i h values h' (masked_cause e) → MovesMasked {X = X} number (setting_at c o s) k rs (prover_state_at s h w) (prover_state_at t h' w') (Err e)
+        cases errors.NoMemory why = same ∙ ap (λ x. prover_state_at s x w) why
         cases (errors.NoWitness j) why = (why.0 ∙ sym size, subst (λ v. NoWitnessFound c h v h') (made ∙ ap (wire_after o k rs) piece-is) why.1, same)
         cases e why = absurd why
 
@@ -94,13 +94,13 @@ of-mask o number k vs x first now i rs v mask low is same size are mixing = reco
 }
 
 -- one round more
-pub one-more : {s s₁ : Setting} → IsRing s.ops → IsOffered s.basis s.order → {k : Masking} {t u v : Standing} {rs rs' : List ℕ} {r : ℕ} → s₁ ≡ s → rs' ≡ rs ++ r ∷ [] →
+pub one-more : {s s₁ : Setting} → IsRing s.ops → IsOffered s.basis s.order → {k : Masking} {t u v : ProverState} {rs rs' : List ℕ} {r : ℕ} → s₁ ≡ s → rs' ≡ rs ++ r ∷ [] →
     IsMasked s k t u rs → IsMaskedRound s₁ k u v rs r → IsMasked s k t v rs'
 one-more {s} ring offered {k} {t} {u} {v} {rs} {r} same drawn p q =
     subst (IsMasked s k t v) (sym drawn) (runs_grow s k t u v rs r ring offered p (subst (λ z. IsMaskedRound z k u v rs r) same q))
 
 -- a round that is refused stops them
-pub stops-masks : {X Y : Type 0} (number : Y → ℕ) {s s₁ : Setting} {k : Masking} {t u : Standing} (v : Standing) {rs : List ℕ} (rs' : List ℕ) (n : ℕ) (e : SumcheckError) (result : Result X SumcheckError) →
+pub stops-masks : {X Y : Type 0} (number : Y → ℕ) {s s₁ : Setting} {k : Masking} {t u : ProverState} (v : ProverState) {rs : List ℕ} (rs' : List ℕ) (n : ℕ) (e : SumcheckError) (result : Result X SumcheckError) →
     s₁ ≡ s → IsRing s.ops → IsOffered s.basis s.order → length rs < n → 0 < u.variables → IsMasked s k t u rs → MovesMasked {X = Y} number s₁ k rs u v (Err e) → result ≡ Err e →
     PlaysMasks s k n t v rs' result
 stops-masks {X} {Y} number {s} {s₁} {k} {t} {u} v {rs} rs' n e result same ring offered low some p why is =
@@ -126,8 +126,8 @@ stops-masks {X} {Y} number {s} {s₁} {k} {t} {u} v {rs} rs' n e result same rin
       cases e why = absurd why
 
 -- no round was played yet
-pub masked_none : (s : Setting) (k : Masking) (t : Standing) → IsSized t → IsMasked s k t t []
-unfolding bound_by claim_along
+pub masked_none : (s : Setting) (k : Masking) (t : ProverState) → IsSized t → IsMasked s k t t []
+unfolding folded_by claim_along
 masked_none s k t sized = record {
   rounds = [];
   built = tt;

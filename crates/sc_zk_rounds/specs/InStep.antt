@@ -4,7 +4,7 @@ use Rattle.sc_definitions.specs.declared.events.Event.{Event}
 use Rattle.sc_definitions.specs.Ring.{◌+⟨◌⟩◌, ◌*⟨◌⟩◌}
 use Rattle.sc_definitions.specs.Transcript.{Round, rounds_events}
 use Rattle.sc_definitions.specs.Channels.{Wire, IsBuilt}
-use Rattle.sc_definitions.specs.Standings.{Standing}
+use Rattle.sc_definitions.specs.ProverStates.{ProverState}
 use Rattle.sc_zk_definitions.specs.Masks.{masks_at, masks_total, aux_after}
 use Rattle.sc_zk_definitions.specs.MaskedRuns.{IsMaskedWithoutWitness, masked_in}
 use Rattle.sc_zk_definitions.specs.MaskedBatches.{MaskedBatch, PlaysMasked, IsHeadPart, head_of, eps_of, masking_of, start_of}
@@ -40,7 +40,7 @@ run_in base number r = record {
 
 -- The batch was played whole and replayed, to one history and with the same challenges, and these are its figures.
 pub record StepsThrough (b : MaskedBatch) (h : List Event) (f : MaskedFigures) : Type 0 where
-  pub after : Standing
+  pub after : ProverState
   pub played : PlaysMasked b after f.challenges
   pub mu : f.mu ≡ masks_total b.setting.ops b.masks
   pub wire : f.wire ≡ after.wire
@@ -54,7 +54,7 @@ pub record StepsThrough (b : MaskedBatch) (h : List Event) (f : MaskedFigures) :
 -- No witness was found in round i, after the rounds before it, whose witnesses are numbers of elements.
 pub record LacksWitness (b : MaskedBatch) (i : ℕ) : Type 0 where
   pub below : i < length b.masks
-  pub after : Standing
+  pub after : ProverState
   pub played : IsMaskedWithoutWitness b.setting (masking_of b) (start_of b) after
   pub count : length played.rs ≡ i
   pub low : All (λ w. w < b.setting.channel.base_size) after.wire.witnesses

@@ -3,7 +3,7 @@ use Rattle.std.specs.Prelude.{◌≡◌, ◌<◌, ◌≤◌, ℕ, ◌+◌, List,
 use Rattle.std.specs.declared.vec.Vec.{Vec}
 use Rattle.sc_definitions.specs.Ring.{Ops}
 use Rattle.sc_definitions.specs.Channels.{NoWitnessFound}
-use Rattle.sc_definitions.specs.Standings.{Setting, Standing, message_in}
+use Rattle.sc_definitions.specs.ProverStates.{Setting, ProverState, message_in}
 use Rattle.sc_zk_definitions.specs.MaskedRuns.{Masking, IsHalf, IsMaskedRound, piece_of, wire_after, IsMasked, IsMaskedInPart, IsMaskedWithoutWitness}
 use Rattle.sc_commitments.specs.Matrices.{lists_in}
 use Rattle.sc_transcript.specs.declared.error.SumcheckError.{SumcheckError}
@@ -37,7 +37,7 @@ pub record IsOfMask {EF : Type 0} (o : Ops) (number : EF → ℕ) (k : Masking) 
 
 -- What the round after the challenges rs leaves, by its answer: it is played; no witness was found, and the history ends with its wire; or memory ran out,
 -- and nothing has moved.
-abbrev pub MovesMasked : {X : Type 0} → (X → ℕ) → Setting → Masking → List ℕ → Standing → Standing → Result X SumcheckError → Type 0
+abbrev pub MovesMasked : {X : Type 0} → (X → ℕ) → Setting → Masking → List ℕ → ProverState → ProverState → Result X SumcheckError → Type 0
 MovesMasked number s k rs before after (Ok r) = IsMaskedRound s k before after rs (number r)
 MovesMasked number s k rs before after (Err (NoWitness j)) =
     (j ≡ length rs) × NoWitnessFound s.channel before.history (wire_after s.ops k rs (piece_of (message_in s before))) after.history
@@ -47,7 +47,7 @@ MovesMasked number s k rs before after (Err e) = ⊥
 
 -- What rounds of masks leave, from a start on, by their answer: all n were played, with the challenges rs; or some of them, and then memory ran out or no
 -- witness was found.
-abbrev pub PlaysMasks : {X : Type 0} → Setting → Masking → ℕ → Standing → Standing → List ℕ → Result X SumcheckError → Type 0
+abbrev pub PlaysMasks : {X : Type 0} → Setting → Masking → ℕ → ProverState → ProverState → List ℕ → Result X SumcheckError → Type 0
 PlaysMasks s k n start now rs (Ok x) = IsMasked s k start now rs × (length rs ≡ n)
 PlaysMasks s k n start now rs (Err NoMemory) = IsMaskedInPart s k start now
 PlaysMasks s k n start now rs (Err (NoWitness i)) = (i < n) × ((p : IsMaskedWithoutWitness s k start now) × (length p.rs ≡ i))

@@ -3,7 +3,7 @@ use Rattle.std.specs.Prelude.{◌≡◌, ◌⊎◌, ℕ, List, length, map, Resu
 use Rattle.sc_definitions.specs.declared.events.Event.{Event}
 use Rattle.sc_definitions.specs.Ring.{Ops}
 use Rattle.sc_definitions.specs.Events.{Extension}
-use Rattle.sc_definitions.specs.Channels.{Channel, Wire, Footing, footing}
+use Rattle.sc_definitions.specs.Channels.{Channel, Wire, VerifierState, verifier_state}
 use Rattle.sc_challenger.specs.Parties.{Party, channel_by}
 use Rattle.sc_zk_definitions.specs.Masks.{next_target, first_target}
 use Rattle.sc_zk_definitions.specs.MaskedTranscripts.{Head, rounds_from}
@@ -62,8 +62,8 @@ abbrev pub eps_in : MaskedReplay → ℕ
 eps_in p = combination_of p.channel (fixed_by p.shape) p.head p.begun
 
 -- where it stands after the head: the first target is the combination times the claim, and the masks' total
-abbrev pub begins_at : MaskedReplay → Footing
-begins_at p = footing (rounds_from p.channel.extension p.begun (fixed_by p.shape) p.head) (first_target p.ops (eps_in p) p.head.claim p.head.mu)
+abbrev pub begins_at : MaskedReplay → VerifierState
+begins_at p = verifier_state (rounds_from p.channel.extension p.begun (fixed_by p.shape) p.head) (first_target p.ops (eps_in p) p.head.claim p.head.mu)
 
 -- the replay of its rounds from there: each makes the next target of its wire
 abbrev pub rounds_of : MaskedReplay → Replay
@@ -82,19 +82,19 @@ told_by number h = record { randomness = map number h.randomness; residual = num
 -- All rounds were taken, and the answer tells of them.
 pub record IsVerified (p : MaskedReplay) (t : Told) (h : List Event) : Type 0 where
   pub can : CanReplay p.base p.shape p.came
-  pub walked : LeavesWalk (rounds_of p).walk (Ok t.randomness) (footing h t.residual)
+  pub walked : LeavesWalk (rounds_of p).walk (Ok t.randomness) (verifier_state h t.residual)
   pub eps : t.eps ≡ eps_in p
 
 -- Why they are not, and the history that this leaves: what cannot be replayed leaves it as it was; a wire that is too long or too short leaves it after the
 -- rounds before it, and a witness that fails with its test; the want of memory before the rounds or after some of them.
 abbrev pub IsRefuted : MaskedReplay → SumcheckError → List Event → Type 0
 IsRefuted p (errors.WireSizeMismatch i n m) h =
-    CanReplay p.base p.shape p.came × ((t : ℕ) × LeavesWalk (rounds_of p).walk (Err (Some (rounds.WrongWidth i n m))) (footing h t))
+    CanReplay p.base p.shape p.came × ((t : ℕ) × LeavesWalk (rounds_of p).walk (Err (Some (rounds.WrongWidth i n m))) (verifier_state h t))
 IsRefuted p (errors.InvalidPowWitness i bits) h =
-    CanReplay p.base p.shape p.came × ((t : ℕ) × LeavesWalk (rounds_of p).walk (Err (Some (rounds.InvalidWitness i bits))) (footing h t))
+    CanReplay p.base p.shape p.came × ((t : ℕ) × LeavesWalk (rounds_of p).walk (Err (Some (rounds.InvalidWitness i bits))) (verifier_state h t))
 IsRefuted p errors.NoMemory h =
     CanReplay p.base p.shape p.came
-    × (IsHeadPart p.channel (fixed_by p.shape) p.head.claim p.begun h ⊎ ((t : ℕ) × LeavesWalk (rounds_of p).walk (Err (Some rounds.NoMemory)) (footing h t)))
+    × (IsHeadPart p.channel (fixed_by p.shape) p.head.claim p.begun h ⊎ ((t : ℕ) × LeavesWalk (rounds_of p).walk (Err (Some rounds.NoMemory)) (verifier_state h t)))
 IsRefuted p e h = CannotReplay p.base p.shape p.came e × (h ≡ p.begun)
 
 -- what a replay leaves, by its answer

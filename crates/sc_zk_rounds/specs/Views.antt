@@ -5,8 +5,8 @@ use Rattle.std.specs.declared.cmp.PartialEq.{Ghosts as PartialEqOf}
 use Rattle.sc_definitions.specs.Ring.{Ops}
 use Rattle.sc_definitions.specs.Events.{Extension}
 use Rattle.sc_definitions.specs.Channels.{Wire}
-use Rattle.sc_definitions.specs.Standings.{Setting, Standing}
-use Rattle.sc_definitions.specs.Shown.{Shown, setting_at, standing_at}
+use Rattle.sc_definitions.specs.ProverStates.{Setting, ProverState}
+use Rattle.sc_definitions.specs.ProverViews.{ProverView, setting_at, prover_state_at}
 use Rattle.sc_field.specs.declared.field.Field.{Ghosts as FieldOf}
 use Rattle.sc_field.specs.declared.algebra.Algebra.{Ghosts as AlgebraOf}
 use Rattle.sc_field.specs.declared.algebra.ExtensionField.{Ghosts as ExtensionOf}
@@ -31,22 +31,22 @@ use Rattle.sc_zk_rounds.specs.Handoffs.{AskedMasks, asked_masks, batch_from, Han
 
 -- what a residual prover tells: what it shows, and the challenge that it holds, if it holds one
 pub record Residual : Type 0 where
-  pub shown : Shown
+  pub shown : ProverView
   pub held : Option ℕ
 
 -- A prover that plays: its challenger, what it shows, and what is on the wire.
 pub record Player : Type 0 where
   pub party : Party
-  pub shown : Shown
+  pub shown : ProverView
   pub wire : Wire
 
 -- the record of these, by data that is on the wire
-abbrev pub player : {F EF : Type 0} → (F → ℕ) → (EF → ℕ) → Party → Shown → ZkSumcheckData F EF → Player
+abbrev pub player : {F EF : Type 0} → (F → ℕ) → (EF → ℕ) → Party → ProverView → ZkSumcheckData F EF → Player
 player base number p s d = record { party = p; shown = s; wire = masked_wire_in base number d }
 
 -- where it stands
-abbrev pub stands_at : Player → Standing
-stands_at p = standing_at p.shown p.party.history p.wire
+abbrev pub stands_at : Player → ProverState
+stands_at p = prover_state_at p.shown p.party.history p.wire
 
 -- Over which fields rounds go, and at which difficulty: the operations of the base field and of its extension, how elements of the latter go over a
 -- channel, and the bits.

@@ -1,7 +1,7 @@
 //! A prover that goes on under masks.
 ghost use Rattle.std.specs.Prelude.{◌≡◌, ◌≤◌, IfOk, OnErr, length};
 ghost use Rattle.sc_definitions.specs.Tables.{evaluation};
-ghost use Rattle.sc_definitions.specs.Shown.{Shown};
+ghost use Rattle.sc_definitions.specs.ProverViews.{ProverView};
 ghost use Rattle.sc_commitments.specs.Draws.{drawn, masks_from, SomeMasksDrawn};
 ghost use Rattle.sc_commitments.specs.Matrices.{lists_in};
 ghost use Rattle.sc_zk_transcript.specs.Shapes.{IsFit};
@@ -31,7 +31,7 @@ pub trait IntoZk<F: Field, EF: ExtensionField<F>>: Sized + Drop {
     type Residual: Drop;
 
     // What it shows.
-    ghost shown: { Self → Shown };
+    ghost shown: { Self → ProverView };
 
     // What the prover of what is left tells.
     ghost told: { Self.Residual → Residual };

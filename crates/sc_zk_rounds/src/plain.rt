@@ -9,11 +9,11 @@ use std::alloc::Global;
 /// What plays plain rounds on two tables and a claim, which masks are added to. It need not have
 /// the tables: it shows what they are, and tells each round's message.
 pub trait PlainRounds<F: Field, EF: ExtensionField<F>> {
-    ghost use Rattle.sc_definitions.specs.Shown.{Shown, honest_shown, with_bound};
+    ghost use Rattle.sc_definitions.specs.ProverViews.{ProverView, honest_shown, with_bound};
     ghost use Rattle.sc_zk_rounds.specs.Plain.{HasTables};
 
     // The tables with all challenges bound, and the claim.
-    ghost shown: { Self → Shown };
+    ghost shown: { Self → ProverView };
 
     // How many rounds it can still play.
     ghost left: { Self → ℕ };
@@ -49,7 +49,7 @@ pub trait PlainRounds<F: Field, EF: ExtensionField<F>> {
 }
 
 impl<F: Field, EF: ExtensionField<F>> PlainRounds<F, EF> for SumcheckProver<F, EF> {
-    ghost use Rattle.sc_definitions.specs.Shown.{honest_shown, with_bound};
+    ghost use Rattle.sc_definitions.specs.ProverViews.{honest_shown, with_bound};
     ghost use Rattle.sc_rounds.specs.ProverViews.{shown_by};
     ghost use Rattle.std.proofs.Common.{le_refl};
     ghost use Rattle.sc_zk_rounds.specs.PlainLaws.{prover_tables};

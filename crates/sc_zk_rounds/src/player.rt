@@ -1,7 +1,7 @@
 //! Masked rounds, played on what plays plain ones.
 ghost use Rattle.std.specs.Prelude.{◌≡◌, ◌+◌, ◌-◌, ◌<◌, ◌≤◌, ℕ, List, [], IfOk, OnOk, length, map};
 ghost use Rattle.sc_definitions.specs.Tables.{evaluation};
-ghost use Rattle.sc_definitions.specs.Shown.{KeepsForm};
+ghost use Rattle.sc_definitions.specs.ProverViews.{KeepsForm};
 ghost use Rattle.sc_zk_definitions.specs.Masks.{masks_total};
 ghost use Rattle.sc_zk_definitions.specs.MaskedRuns.{Masking};
 ghost use Rattle.sc_commitments.specs.Matrices.{lists_in};

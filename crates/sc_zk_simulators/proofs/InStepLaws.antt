@@ -6,7 +6,7 @@ use Rattle.sc_definitions.specs.Ring.{Ops}
 use Rattle.sc_definitions.specs.Events.{Rules, Extension}
 use Rattle.sc_challenger.specs.Parties.{Party, channel_by}
 use Rattle.sc_definitions.specs.Transcript.{Round, rounds_events, challenges}
-use Rattle.sc_definitions.specs.Channels.{Channel, Wire, empty_wire, with_rounds, Footing, footing, IsReplayed, FailsAt}
+use Rattle.sc_definitions.specs.Channels.{Channel, Wire, empty_wire, with_rounds, VerifierState, verifier_state, IsReplayed, FailsAt}
 use Rattle.sc_definitions.proofs.BuiltLaws.{length-messages}
 use Rattle.sc_transcript.specs.declared.error.SumcheckError.{SumcheckError}
 use Rattle.sc_transcript.specs.declared.error.SumcheckError.TheVariants as errors
@@ -17,7 +17,7 @@ use Rattle.sc_transcript.proofs.GivenRounds.{given_played, count_witnesses}
 use Rattle.sc_transcript.proofs.InStep.{none_failing}
 use Rattle.sc_zk_definitions.specs.Masks.{next_target, target_after}
 use Rattle.sc_zk_definitions.specs.MaskedTranscripts.{Head, head, wire_length}
-use Rattle.sc_zk_definitions.specs.MaskedBatches.{HeadedBatch, IsHeadPart, IsSimulated, after_head, head_footing, combination_of}
+use Rattle.sc_zk_definitions.specs.MaskedBatches.{HeadedBatch, IsHeadPart, IsSimulated, after_head, head_verifier_state, combination_of}
 use Rattle.sc_zk_definitions.proofs.MaskedLaws.{simulations_replay}
 use Rattle.sc_zk_transcript.specs.declared.shape.ZkSumcheckShape.{ZkSumcheckShape}
 use Rattle.sc_zk_transcript.specs.Shapes.{fixed_by, masked_batch, IsFit}
@@ -33,7 +33,7 @@ use Rattle.sc_zk_simulators.specs.Sendings.{sending, IsSentInPart, wire_at}
 pub record IsTold (o : Ops) (b : HeadedBatch) (ws : List (List ℕ)) (rs : List ℕ) (h₀ : List Event) (told : Told) (h : List Event) : Type 0 where
   pub challenges : told.randomness ≡ rs
   pub eps : told.eps ≡ combination_of b.channel b.shape b.given b.begun
-  pub residual : told.residual ≡ target_after o (head_footing o b).claim ws rs
+  pub residual : told.residual ≡ target_after o (head_verifier_state o b).claim ws rs
   pub history : h ≡ h₀
 
 module _ (base o : Ops) (c : Channel) (shape : ZkSumcheckShape) (H : Head) (begun : List Event) (ws : List (List ℕ)) (rounds : List Round) (rs : List ℕ) (h₀ : List Event)
@@ -62,19 +62,19 @@ module _ (base o : Ops) (c : Channel) (shape : ZkSumcheckShape) (H : Head) (begu
   }
 
   -- a replay of what was sent is one of the rounds that were simulated
-  moved : (end : Footing) (out : List ℕ) → IsReplayed (next_target o) c (begins_at asked) end (rounds_on w) out → IsReplayed (next_target o) c (head_footing o b) end rounds out
-  moved end out r = subst (λ qs. IsReplayed (next_target o) c (head_footing o b) end qs out) given r
+  moved : (end : VerifierState) (out : List ℕ) → IsReplayed (next_target o) c (begins_at asked) end (rounds_on w) out → IsReplayed (next_target o) c (head_verifier_state o b) end rounds out
+  moved end out r = subst (λ qs. IsReplayed (next_target o) c (head_verifier_state o b) end qs out) given r
 
   -- it is accepted, and leaves this
   pub accepted : {X : Type 0} (told : X → Told) (x : X) (h : List Event) → LeavesMaskedReplay told asked (Ok x) h → IsTold o b ws rs h₀ (told x) h
   accepted told x h left =
-      let r = moved (footing h (told x).residual) (told x).randomness left.walked.replays in
+      let r = moved (verifier_state h (told x).residual) (told x).randomness left.walked.replays in
       let q = (simulations_replay o b ws rounds rs h₀ sent).1 in
       record {
         challenges = r.drawn ∙ sym q.drawn;
         eps = left.eps;
-        residual = r.claim ∙ ap (λ ms. target_after o (head_footing o b).claim ms (challenges c.rules c.extension c.bits (after_head b) rounds)) sent.sent.0
-            ∙ ap (target_after o (head_footing o b).claim ws) (sym q.drawn);
+        residual = r.claim ∙ ap (λ ms. target_after o (head_verifier_state o b).claim ms (challenges c.rules c.extension c.bits (after_head b) rounds)) sent.sent.0
+            ∙ ap (target_after o (head_verifier_state o b).claim ws) (sym q.drawn);
         history = r.history ∙ sym q.history;
       }
 
@@ -93,7 +93,7 @@ module _ (base o : Ops) (c : Channel) (shape : ZkSumcheckShape) (H : Head) (begu
     ],
   )
   refused told (errors.InvalidPowWitness i n) h fit wide left =
-      absurd (none_failing (next_target o) (wire_at ws) c (head_footing o b) (footing h left.1.0) (length ws) rounds i sent.sent.1 (subst (λ qs. FailsAt (next_target o) c (head_footing o b) (footing h left.1.0) qs i) given left.1.1.1.at))
+      absurd (none_failing (next_target o) (wire_at ws) c (head_verifier_state o b) (verifier_state h left.1.0) (length ws) rounds i sent.sent.1 (subst (λ qs. FailsAt (next_target o) c (head_verifier_state o b) (verifier_state h left.1.0) qs i) given left.1.1.1.at))
   refused told (errors.RoundCountMismatch n k) h fit wide left = absurd (left.0.1.2 (left.0.1.1 ∙ counted.as_rounds ∙ sym left.0.1.0))
   refused told (errors.PowWitnessCountMismatch n k) h fit wide left = absurd (left.0.1.2 (left.0.1.1 ∙ counted.as_witnesses ∙ sym left.0.1.0))
   refused told (errors.WireSizeMismatch i n k) h fit wide left =
@@ -152,5 +152,5 @@ module _ {K : Type 0} (base o : Ops) (p : Party) (E : Extension) (size : ℕ) (s
           wire = ap (λ (v : Sent). v.wire) sent ∙ whole.wire;
         };
         eps = eps ∙ t.eps;
-        residual = residual ∙ t.residual ∙ ap (target_after o (head_footing o s.batch).claim s.wires) (sym drawn);
+        residual = residual ∙ t.residual ∙ ap (target_after o (head_verifier_state o s.batch).claim s.wires) (sym drawn);
       }

@@ -8,7 +8,7 @@ use Rattle.sc_definitions.specs.declared.events.Event.{Event}
 use Rattle.sc_definitions.specs.Transcript.{Round, round_of, round_events, rounds_events, challenge, HasFirstWitness}
 use Rattle.sc_definitions.specs.Channels.{Channel, Wire, empty_wire, with_rounds, IsSent, NoWitnessFound}
 use Rattle.sc_definitions.proofs.BuiltLaws.{IsBuilt-append, challenges-append, length-challenges}
-use Rattle.sc_definitions.proofs.StandingLaws.{with_more}
+use Rattle.sc_definitions.proofs.ProverStateLaws.{with_more}
 use Rattle.sc_commitments.specs.Draws.{draws_from, lists_from, SomeDrawn}
 use Rattle.sc_transcript.specs.declared.error.SumcheckError.{SumcheckError}
 use Rattle.sc_transcript.specs.declared.error.SumcheckError.TheVariants as errors

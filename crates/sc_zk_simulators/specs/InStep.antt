@@ -3,7 +3,7 @@ use Rattle.std.specs.Prelude.{◌≡◌, ℕ, List, map, Result, Ok, Err}
 use Rattle.sc_definitions.specs.declared.events.Event.{Event}
 use Rattle.sc_definitions.specs.Ring.{Ops}
 use Rattle.sc_zk_definitions.specs.Masks.{target_after}
-use Rattle.sc_zk_definitions.specs.MaskedBatches.{combination_of, head_footing}
+use Rattle.sc_zk_definitions.specs.MaskedBatches.{combination_of, head_verifier_state}
 use Rattle.sc_transcript.specs.declared.error.SumcheckError.{SumcheckError}
 use Rattle.sc_transcript.specs.declared.error.SumcheckError.TheVariants.{NoWitness, NoMemory}
 use Rattle.sc_zk_rounds.specs.Data.{sent_in}
@@ -29,7 +29,7 @@ run_in base number r = record {
 pub record IsAccepted (o : Ops) (s : Simulation) (f : RunFigures) (h : List Event) : Type 0 where
   pub whole : IsWhole s f.answer h
   pub eps : f.eps ≡ combination_of s.batch.channel s.batch.shape s.batch.given s.batch.begun
-  pub residual : f.residual ≡ target_after o (head_footing o s.batch).claim s.wires f.answer.challenges
+  pub residual : f.residual ≡ target_after o (head_verifier_state o s.batch).claim s.wires f.answer.challenges
 
 -- No witness was found for wire i, and the verifier has not begun.
 pub record IsNotReplayed (s : Simulation) (i : ℕ) (h : List Event) : Type 0 where

@@ -4,7 +4,7 @@ use Rattle.sumcheck_audit.specs.declared.job.Job.{Job}
 use Rattle.sumcheck_members.specs.Elements.{sizes_of}
 use Rattle.sumcheck_audit.specs.Job.{JobFits}
 use Rattle.sumcheck_audit.proofs.JobLaws.{job_of-fits}
-use Rattle.sc_verdicts.specs.declared.error.AuditError.{AuditError}
+use Rattle.sc_audit_errors.specs.declared.error.AuditError.{AuditError}
 use Rattle.sc_jobs.specs.Refusals.{refusal_of}
 use Rattle.sc_jobs.specs.Figures.{Reported}
 use Rattle.sc_jobs.specs.Cases.{Asked}

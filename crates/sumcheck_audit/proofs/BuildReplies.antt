@@ -10,12 +10,12 @@ use Rattle.sc_definitions.specs.Channels.{IsBuilt}
 use Rattle.sc_definitions.specs.Problem.{honest_of}
 use Rattle.sc_definitions.specs.Lucky.{luck_of}
 use Rattle.sc_definitions.proofs.BuildLaws.{built-residual, first_false_claim-all}
-use Rattle.sc_statements.specs.FalseClaims.{capped}
+use Rattle.sc_constraints.specs.FalseClaims.{capped}
 use Rattle.sc_table.specs.declared.strategy.Strategy.{Strategy}
-use Rattle.sc_verdicts.specs.declared.error.AuditError.{AuditError}
+use Rattle.sc_audit_errors.specs.declared.error.AuditError.{AuditError}
 use Rattle.sc_jobs.specs.Cases.{build, Asked, start_of}
 use Rattle.sc_jobs.specs.Refusals.{or_later, strategy_refusal, shape_refusal, refusal_for, false_refusal, refusal_of}
-use Rattle.sc_verdicts.specs.Findings.{holds}
+use Rattle.sc_audit_errors.specs.Findings.{holds}
 use Rattle.sc_jobs.specs.Figures.{Reported, finding_by, false_claim_of, is_matched, figures_of}
 use Rattle.sc_jobs.specs.Audits.{figures_from}
 use Rattle.sumcheck_audit.specs.declared.job.Job.{Job}

@@ -8,8 +8,8 @@ use Rattle.sc_definitions.specs.Statements.{Statement}
 use Rattle.sc_definitions.specs.Events.{Rules}
 use Rattle.sc_definitions.specs.Channels.{channel}
 use Rattle.sc_table.specs.Strategy.{basis_of, order_of}
-use Rattle.sc_verdicts.specs.declared.error.AuditError.{AuditError}
-use Rattle.sc_verdicts.specs.declared.error.AuditError.TheVariants.{NoMemory}
+use Rattle.sc_audit_errors.specs.declared.error.AuditError.{AuditError}
+use Rattle.sc_audit_errors.specs.declared.error.AuditError.TheVariants.{NoMemory}
 use Rattle.sc_jobs.specs.Cases.{Task, Asked}
 use Rattle.sc_jobs.specs.Figures.{Reported}
 use Rattle.sumcheck_audit.specs.declared.job.Job.{Job}

@@ -1,16 +1,16 @@
 -- What is said of statements that are made of claims: which ones they are, and on tables of how many variables.
 use Rattle.std.specs.Prelude.{◌≡◌, ℕ, List}
 use Rattle.sc_definitions.specs.Statements.{Statement}
-use Rattle.sc_claims.specs.declared.statement.eq.EqStatement.{EqStatement}
-use Rattle.sc_claims.specs.declared.statement.next.NextStatement.{NextStatement}
-use Rattle.sc_claims.specs.declared.statement.select.SelectStatement.{SelectStatement}
-use Rattle.sc_claims.specs.EqStatements.{eq_arity, eq_statements}
-use Rattle.sc_claims.specs.NextStatements.{next_arity, next_statements}
-use Rattle.sc_claims.specs.SelectStatements.{select_arity, select_statements}
-use Rattle.sc_statements.specs.declared.statement.Statements.{Statements}
-use Rattle.sc_statements.specs.declared.constraint.Constraint.{Constraint}
-use Rattle.sc_statements.specs.Constraints.{constraint_arity, constraint_statements}
-use Rattle.sc_statements.specs.Groups.{group_arity, group_statements}
+use Rattle.sc_statements.specs.declared.statement.eq.EqStatement.{EqStatement}
+use Rattle.sc_statements.specs.declared.statement.next.NextStatement.{NextStatement}
+use Rattle.sc_statements.specs.declared.statement.select.SelectStatement.{SelectStatement}
+use Rattle.sc_statements.specs.EqStatements.{eq_arity, eq_statements}
+use Rattle.sc_statements.specs.NextStatements.{next_arity, next_statements}
+use Rattle.sc_statements.specs.SelectStatements.{select_arity, select_statements}
+use Rattle.sc_constraints.specs.declared.statement.Statements.{Statements}
+use Rattle.sc_constraints.specs.declared.constraint.Constraint.{Constraint}
+use Rattle.sc_constraints.specs.Constraints.{constraint_arity, constraint_statements}
+use Rattle.sc_constraints.specs.Groups.{group_arity, group_statements}
 
 -- These are on tables of n variables, and they are the listed ones.
 abbrev pub EqStates : {F : Type 0} → (F → ℕ) → ℕ → List Statement → EqStatement F → Type 0

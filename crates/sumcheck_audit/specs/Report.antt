@@ -7,7 +7,7 @@ use Rattle.sc_definitions.specs.Events.{Rules}
 use Rattle.sc_definitions.specs.Channels.{channel}
 use Rattle.sc_definitions.specs.Problem.{Problem}
 use Rattle.sc_table.specs.Strategy.{basis_of, order_of}
-use Rattle.sc_verdicts.specs.declared.error.AuditError.{AuditError}
+use Rattle.sc_audit_errors.specs.declared.error.AuditError.{AuditError}
 use Rattle.sc_jobs.specs.Cases.{Case, Given, Task, build, check, Asked}
 use Rattle.sc_jobs.specs.Figures.{Figures, Reported}
 use Rattle.sc_jobs.specs.Results.{answer_to}

@@ -1,6 +1,6 @@
 //! The statements that the claims of a job make.
 ghost use Rattle.std.specs.Prelude.{◌≡◌, All, IfOk, map};
-ghost use Rattle.sc_statements.specs.Constraints.{constraint_challenge, constraint_power};
+ghost use Rattle.sc_constraints.specs.Constraints.{constraint_challenge, constraint_power};
 ghost use Rattle.sumcheck_members.specs.Statements.{EqualityFits, GroupFits, ProductFits};
 ghost use Rattle.sumcheck_members.specs.Statements.{ScalarFits, SuccessorFits, all_claims};
 ghost use Rattle.sumcheck_members.specs.Statements.{equality_statement, group_claims};
@@ -10,8 +10,8 @@ ghost use Rattle.sumcheck_replies.specs.Fields.{sizes_over};
 ghost use Rattle.sumcheck_audit.specs.Claimed.{ConstraintStates, EqStates, GroupStates};
 ghost use Rattle.sumcheck_audit.specs.Claimed.{NextStates, SelectStates};
 
+use sc_constraints::{Constraint, EqStatement, NextStatement, SelectStatement, Statements};
 use sc_field::{ExtensionField, Field, NoMemory};
-use sc_statements::{Constraint, EqStatement, NextStatement, SelectStatement, Statements};
 use sc_table::Point;
 use std::alloc::Global;
 use sumcheck_members::{EqualityClaim, Group, ProductClaim, ScalarClaim, SuccessorClaim};

@@ -2,8 +2,8 @@
 use Rattle.std.specs.Prelude.{◌≡◌, ◌⊎◌, ℕ, Bool, true, false, List, [], ◌++◌, length, take, drop, Option, Some, None, Result, Ok, Err}
 use Rattle.sc_definitions.specs.Tables.{Basis, evaluation, projective, Order, prefix, suffix}
 use Rattle.sc_definitions.specs.Lucky.{in_batch, in_round}
-use Rattle.sc_verdicts.specs.declared.error.AuditError.TheVariants.{NoMemory}
-use Rattle.sc_verdicts.specs.Findings.{Finding, holds, refuted, lucky}
+use Rattle.sc_audit_errors.specs.declared.error.AuditError.TheVariants.{NoMemory}
+use Rattle.sc_audit_errors.specs.Findings.{Finding, holds, refuted, lucky}
 use Rattle.sc_jobs.specs.Cases.{Task}
 use Rattle.sc_jobs.specs.Figures.{Figures, Reported}
 use Rattle.sumcheck_replies.specs.declared.reply.Outcome.TheVariants.{JobRefused}

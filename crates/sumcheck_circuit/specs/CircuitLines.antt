@@ -1,6 +1,6 @@
 -- The lines of a report on a circuit, and the texts of its refusals, of the numbers in them. Each line ends with a line feed.
 use Rattle.std.specs.Prelude.{ℕ, suc, List, [], ◌∷◌, ◌++◌, codes, decimal, Option}
-use Rattle.sc_definitions.specs.Lucky.{Luck, in_batch, in_round}
+use Rattle.sc_definitions.specs.Lucky.{LuckyChallenge, in_batch, in_round}
 use Rattle.sc_circuit.specs.Runs.{GivenLayer}
 use Rattle.sumcheck_replies.specs.Lines.{spaced, round_line, lines_by, layer_name, round_text}
 
@@ -42,7 +42,7 @@ lucky_layer_name i j roots =
     codes "verdict lucky-round layer " ++ decimal i ++ codes " round " ++ decimal j ++ codes " vanishing " ++ decimal roots ++ codes " poly"
 
 -- which challenge of a layer was lucky, with the number of roots of the polynomial that certifies it, and its coefficients
-abbrev pub lucky_layer_line : ℕ → Luck → List ℕ
+abbrev pub lucky_layer_line : ℕ → LuckyChallenge → List ℕ
 lucky_layer_line i (in_batch polynomial roots) = lucky_merge_name i roots ++ spaced polynomial ++ codes "\n"
 lucky_layer_line i (in_round j polynomial roots) = lucky_layer_name i j roots ++ spaced polynomial ++ codes "\n"
 

@@ -16,22 +16,22 @@ use Rattle.sc_definitions.proofs.StatementLaws.{first_false_claim-true, first_fa
 use Rattle.sc_small_fields.specs.ResiduesLaws.{residues_field}
 use Rattle.sc_table.specs.declared.strategy.Strategy.{Strategy}
 use Rattle.sc_table.specs.declared.strategy.Strategy.TheVariants.{Plain, Represented, SmallValue}
-use Rattle.sc_statements.specs.declared.statement.Statements.{Statements}
-use Rattle.sc_statements.specs.declared.statement.Statements.TheVariants.{Eq, Next}
-use Rattle.sc_claims.specs.declared.statement.eq.EqStatement.{EqStatement}
-use Rattle.sc_claims.specs.declared.statement.next.NextStatement.{NextStatement}
-use Rattle.sc_claims.specs.EqStatements.{eq_statements}
-use Rattle.sc_claims.specs.NextStatements.{next_statements}
-use Rattle.sc_statements.specs.Groups.{all_statements}
-use Rattle.sc_statements.specs.FalseClaims.{capped}
+use Rattle.sc_constraints.specs.declared.statement.Statements.{Statements}
+use Rattle.sc_constraints.specs.declared.statement.Statements.TheVariants.{Eq, Next}
+use Rattle.sc_statements.specs.declared.statement.eq.EqStatement.{EqStatement}
+use Rattle.sc_statements.specs.declared.statement.next.NextStatement.{NextStatement}
+use Rattle.sc_statements.specs.EqStatements.{eq_statements}
+use Rattle.sc_statements.specs.NextStatements.{next_statements}
+use Rattle.sc_constraints.specs.Groups.{all_statements}
+use Rattle.sc_constraints.specs.FalseClaims.{capped}
 use Rattle.sc_svo.specs.Grids.{most_rounds}
-use Rattle.sc_verdicts.specs.declared.error.AuditError.TheVariants.{StrategyUnfit}
-use Rattle.sc_verdicts.specs.declared.error.FitFault.TheVariants.{Variables}
+use Rattle.sc_audit_errors.specs.declared.error.AuditError.TheVariants.{StrategyUnfit}
+use Rattle.sc_audit_errors.specs.declared.error.FitFault.TheVariants.{Variables}
 use Rattle.sc_jobs.specs.Cases.{build, Asked}
-use Rattle.sc_verdicts.specs.Arities.{exponent_from, arity_of}
+use Rattle.sc_audit_errors.specs.Arities.{exponent_from, arity_of}
 use Rattle.sc_jobs.specs.Refusals.{or_later, variables_refusal, first_unfit, strategy_refusal, shape_by, false_refusal, shape_refusal, refusal_of}
 use Rattle.sc_jobs.specs.Stated.{asked_truly}
-use Rattle.sc_verdicts.proofs.ArityLaws.{exponent-next, exponent-found}
+use Rattle.sc_audit_errors.proofs.ArityLaws.{exponent-next, exponent-found}
 use Rattle.sumcheck_make.specs.declared.recipe.Recipe.{Recipe}
 use Rattle.sumcheck_replies.specs.declared.reply.Outcome.TheVariants.{Holds}
 use Rattle.sumcheck_audit.specs.Report.{case_reply}

@@ -2,7 +2,7 @@
 use Rattle.std.specs.Prelude.{◌≡◌, ℕ, min, ◌<◌, ◌≤◌}
 use Rattle.sc_table.specs.declared.strategy.Strategy.{Strategy}
 use Rattle.sc_table.specs.declared.strategy.Strategy.TheVariants.{Plain, Represented, SmallValue}
-use Rattle.sc_verdicts.specs.Arities.{most_variables}
+use Rattle.sc_audit_errors.specs.Arities.{most_variables}
 use Rattle.sumcheck_make.specs.declared.recipe.Recipe.{Recipe}
 
 -- the greatest number of variables that the small-value rounds of a job that is made bind

@@ -5,7 +5,7 @@ use Rattle.std.proofs.lemmas.List.Elements.{All-nil, All-append, All-map}
 use Rattle.sc_definitions.specs.Transcript.{Round}
 use Rattle.sc_definitions.specs.Channels.{Wire}
 use Rattle.sc_merge_definitions.specs.Matrices.{MatmulCase, IsMatmulCase, MatmulFigures, matmul_figures, CertifiesMatmul, false_entry}
-use Rattle.sc_verdicts.specs.Findings.{Finding, holds, refuted, lucky}
+use Rattle.sc_audit_errors.specs.Findings.{Finding, holds, refuted, lucky}
 use Rattle.sc_matmul.specs.declared.error.MatmulError.{MatmulError}
 use Rattle.sc_matmul.specs.declared.error.MatmulError.TheVariants as errors
 use Rattle.sc_matmul.specs.Shapes.{shape_fault, difficulty_fault, early_fault}

@@ -1,6 +1,6 @@
 -- The lines of a report on a claimed product, and the texts of its refusals, of the numbers in them. Each line ends with a line feed.
 use Rattle.std.specs.Prelude.{ℕ, ◌==◌, List, ◌++◌, codes, decimal, if◌then◌else◌}
-use Rattle.sc_definitions.specs.Lucky.{Luck, in_batch, in_round}
+use Rattle.sc_definitions.specs.Lucky.{LuckyChallenge, in_batch, in_round}
 use Rattle.sumcheck_replies.specs.Lines.{spaced, lucky_round_line}
 
 unfoldable pub point_line : ℕ → List ℕ
@@ -22,7 +22,7 @@ abbrev pub lucky_point_line : List ℕ → ℕ → List ℕ
 lucky_point_line polynomial roots = lucky_point_name roots ++ spaced polynomial ++ codes "\n"
 
 -- which challenge was lucky: the point, as what batches the entries, or that of a round
-abbrev pub matmul_luck_line : Luck → List ℕ
+abbrev pub matmul_luck_line : LuckyChallenge → List ℕ
 matmul_luck_line (in_batch polynomial roots) = lucky_point_line polynomial roots
 matmul_luck_line (in_round round polynomial roots) = lucky_round_line round polynomial roots
 

@@ -5,7 +5,7 @@ use Rattle.std.proofs.lemmas.List.Elements.{All-map}
 use Rattle.sc_definitions.specs.Statements.{Statement}
 use Rattle.sc_definitions.specs.Transcript.{Round}
 use Rattle.sc_merge_definitions.specs.Openings.{TableClaim, OpeningsCase, IsOpeningsCase, OpeningsFigures, openings_figures, CertifiesOpenings, first_false_table_claim}
-use Rattle.sc_verdicts.specs.Findings.{Finding, holds, refuted, lucky}
+use Rattle.sc_audit_errors.specs.Findings.{Finding, holds, refuted, lucky}
 use Rattle.sc_openings.specs.declared.error.MergeError.{MergeError}
 use Rattle.sc_openings.specs.declared.error.MergeError.TheVariants as errors
 use Rattle.sc_openings.specs.OpeningsJobs.{OpeningsJob as AskedOpenings, CameOpenings}

@@ -4,9 +4,9 @@ use Rattle.std.proofs.lemmas.Bool.{cond-true, lt-ltb}
 use Rattle.std.specs.Prelude.{if◌then◌else◌, nat_lt}
 use Rattle.serde_json.specs.Data.{Data}
 use Rattle.sc_forms.specs.Values.{value_of}
-use Rattle.sc_verdicts.specs.declared.error.AuditError.{AuditError}
-use Rattle.sc_verdicts.specs.declared.error.AuditError.TheVariants.{JobShape, StrategyUnfit, FalseClaim, MissingSumcheckData, RoundCountMismatch, PowWitnessCountMismatch, InvalidPowWitness, NoWitness, NoMemory}
-use Rattle.sc_verdicts.specs.Findings.{Finding, holds, refuted, lucky}
+use Rattle.sc_audit_errors.specs.declared.error.AuditError.{AuditError}
+use Rattle.sc_audit_errors.specs.declared.error.AuditError.TheVariants.{JobShape, StrategyUnfit, FalseClaim, MissingSumcheckData, RoundCountMismatch, PowWitnessCountMismatch, InvalidPowWitness, NoWitness, NoMemory}
+use Rattle.sc_audit_errors.specs.Findings.{Finding, holds, refuted, lucky}
 use Rattle.sumcheck_members.specs.Members.{Name}
 use Rattle.sumcheck_replies.specs.Reply.{Reply, no_witness, no_witness_at, proof_refused, refused}
 use Rattle.sumcheck_replies.specs.Refusals.{refusal_reply, finding_reply}

@@ -1,10 +1,10 @@
 -- The lines of a report, and the texts of refusals, of the numbers in them. Each line ends with a line feed.
 use Rattle.std.specs.Prelude.{◌≡◌, ℕ, suc, List, [], ◌∷◌, ◌++◌, codes, decimal, Option, Some, None, String, string_bytes}
-use Rattle.sc_definitions.specs.Lucky.{Luck, in_batch, in_round}
-use Rattle.sc_verdicts.specs.declared.error.ShapeFault.{ShapeFault}
-use Rattle.sc_verdicts.specs.declared.error.ShapeFault.TheVariants.{TableLength, Difficulty, Arity, ProjectiveSuffix}
-use Rattle.sc_verdicts.specs.declared.error.FitFault.{FitFault}
-use Rattle.sc_verdicts.specs.declared.error.FitFault.TheVariants.{Projective, Variables, Select, Selector}
+use Rattle.sc_definitions.specs.Lucky.{LuckyChallenge, in_batch, in_round}
+use Rattle.sc_audit_errors.specs.declared.error.ShapeFault.{ShapeFault}
+use Rattle.sc_audit_errors.specs.declared.error.ShapeFault.TheVariants.{TableLength, Difficulty, Arity, ProjectiveSuffix}
+use Rattle.sc_audit_errors.specs.declared.error.FitFault.{FitFault}
+use Rattle.sc_audit_errors.specs.declared.error.FitFault.TheVariants.{Projective, Variables, Select, Selector}
 
 -- a text had these bytes added
 abbrev pub Adds : {Z : Type 0} → String Z → String Z → List ℕ → Type 0
@@ -115,7 +115,7 @@ unfoldable pub lucky_round_name : ℕ → ℕ → List ℕ
 lucky_round_name round roots = codes "verdict lucky-round " ++ decimal round ++ codes " vanishing " ++ decimal roots ++ codes " poly"
 
 -- which challenge was lucky
-abbrev pub luck_line : Luck → List ℕ
+abbrev pub luck_line : LuckyChallenge → List ℕ
 luck_line (in_batch polynomial roots) = lucky_batch_line polynomial roots
 luck_line (in_round round polynomial roots) = lucky_round_line round polynomial roots
 

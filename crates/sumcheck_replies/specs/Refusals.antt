@@ -1,8 +1,8 @@
 -- What is replied to a refusal, and to lines with what the rounds say of the statements.
 use Rattle.std.specs.Prelude.{ℕ, List, [], ◌++◌}
-use Rattle.sc_verdicts.specs.declared.error.AuditError.{AuditError}
-use Rattle.sc_verdicts.specs.declared.error.AuditError.TheVariants.{JobShape, StrategyUnfit, FalseClaim, MissingSumcheckData, RoundCountMismatch, PowWitnessCountMismatch, InvalidPowWitness, NoWitness, NoMemory}
-use Rattle.sc_verdicts.specs.Findings.{Finding, holds, refuted, lucky}
+use Rattle.sc_audit_errors.specs.declared.error.AuditError.{AuditError}
+use Rattle.sc_audit_errors.specs.declared.error.AuditError.TheVariants.{JobShape, StrategyUnfit, FalseClaim, MissingSumcheckData, RoundCountMismatch, PowWitnessCountMismatch, InvalidPowWitness, NoWitness, NoMemory}
+use Rattle.sc_audit_errors.specs.Findings.{Finding, holds, refuted, lucky}
 use Rattle.sumcheck_replies.specs.declared.reply.Outcome.TheVariants.{Holds, Refuted, Lucky}
 use Rattle.sumcheck_replies.specs.Reply.{Reply, no_witness, proof_refused, refused}
 use Rattle.sumcheck_replies.specs.Lines.{holds_line, refuted_line, luck_line, shape_fault_text, fit_fault_text, false_claim_text, missing_text, rounds_text, witnesses_text, witness_text}

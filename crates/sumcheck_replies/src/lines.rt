@@ -15,9 +15,9 @@ ghost use Rattle.sc_transcript.specs.Data.{pair_of};
 ghost use Rattle.sumcheck_members.specs.Members.{member_name, misfit_text};
 
 use crate::numbers::number_at;
+use sc_audit_errors::{FitFault, ShapeFault};
 use sc_field::{Field, NoMemory};
 use sc_table::RoundMessage;
-use sc_verdicts::{FitFault, ShapeFault};
 use std::alloc::{AllocError, Global};
 use sumcheck_members::Member;
 

@@ -4,8 +4,8 @@ ghost use Rattle.sumcheck_replies.specs.Refusals.{refusal_reply};
 
 use crate::lines;
 use crate::reply::Answer;
+use sc_audit_errors::AuditError;
 use sc_field::NoMemory;
-use sc_verdicts::AuditError;
 use std::alloc::Global;
 
 /// The refusal of a job or of its proof, in one line. Want of memory has no text.

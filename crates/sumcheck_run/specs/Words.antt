@@ -3,7 +3,7 @@ use Rattle.std.specs.Prelude.{ℕ, min, ◌+◌, ◌==◌, List, codes, decimal,
 use Rattle.std.specs.Option.{option_map}
 use Rattle.sc_table.specs.declared.strategy.Strategy.{Strategy}
 use Rattle.sc_table.specs.declared.strategy.Strategy.TheVariants.{Plain, Represented, SmallValue}
-use Rattle.sc_verdicts.specs.Arities.{most_variables}
+use Rattle.sc_audit_errors.specs.Arities.{most_variables}
 use Rattle.sumcheck_run.specs.declared.command.Command.{Command}
 use Rattle.sumcheck_run.specs.declared.command.Command.TheVariants.{Judge, Make}
 use Rattle.sumcheck_make.specs.declared.recipe.Recipe.{Recipe}

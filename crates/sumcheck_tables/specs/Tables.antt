@@ -9,8 +9,8 @@ use Rattle.sc_definitions.specs.Channels.{channel}
 use Rattle.sc_definitions.specs.Statements.{Statement, claims, equality}
 use Rattle.sc_definitions.specs.Problem.{Problem}
 use Rattle.sc_challenger.specs.Hashed.{hash_rules}
-use Rattle.sc_verdicts.specs.declared.error.AuditError.{AuditError}
-use Rattle.sc_verdicts.specs.declared.error.AuditError.TheVariants.{NoMemory}
+use Rattle.sc_audit_errors.specs.declared.error.AuditError.{AuditError}
+use Rattle.sc_audit_errors.specs.declared.error.AuditError.TheVariants.{NoMemory}
 use Rattle.sc_jobs.specs.declared.report.Report.{Report}
 use Rattle.sc_jobs.specs.Cases.{Asked, Case, Given, Task, build, check}
 use Rattle.sc_jobs.specs.Figures.{Reported, report_in}

@@ -1,6 +1,6 @@
 //! The audit that a job asks for.
 ghost use Rattle.std.specs.Prelude.{◌≡◌, ◌*◌, ◌<◌, All, IsTrue, IfOk, length};
-ghost use Rattle.sc_claims.specs.EqStatements.{eq_arity, eq_statements};
+ghost use Rattle.sc_statements.specs.EqStatements.{eq_arity, eq_statements};
 ghost use Rattle.sc_jobs.specs.Cases as cases;
 ghost use Rattle.sumcheck_replies.specs.Fields.{fields_over, sizes_over};
 ghost use Rattle.sumcheck_tables.specs.Tables.{draws_below, has_elements, task_below};
@@ -11,8 +11,8 @@ ghost use Rattle.sumcheck_tables.specs.Views.{case_in, draws_in, task_in};
 use crate::job::{Draws, TableJob, TableMode};
 use crate::numbers::{all_below, elements, messages, rounds_below};
 use sc_audit::{Job, Mode};
+use sc_constraints::{Constraint, EqStatement, Statements};
 use sc_field::{ExtensionField, Field, NoMemory};
-use sc_statements::{Constraint, EqStatement, Statements};
 use sc_table::Point;
 use sc_transcript::SumcheckData;
 use std::alloc::Global;

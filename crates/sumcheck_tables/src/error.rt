@@ -1,6 +1,6 @@
 //! Why there is no report on a table.
+use sc_audit_errors::AuditError;
 use sc_field::NoMemory;
-use sc_verdicts::AuditError;
 use thiserror::Error;
 
 /// Why there is no report on a table.
@@ -19,7 +19,7 @@ pub enum TableError {
 
 impl From<NoMemory> for TableError {
     ghost use Rattle.std.specs.Prelude.{◌≡◌};
-    ghost use Rattle.sc_verdicts.specs.declared.error.AuditError.TheVariants as audit;
+    ghost use Rattle.sc_audit_errors.specs.declared.error.AuditError.TheVariants as audit;
     ghost use Rattle.sumcheck_tables.specs.declared.error.TableError.TheVariants.{Audit};
 
     ghost from_gives = { λ _ e. e ≡ Audit audit.NoMemory };

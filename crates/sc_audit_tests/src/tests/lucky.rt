@@ -10,7 +10,7 @@ use sc_definitions::Event::{Draw, Word};
 use sc_field::Field;
 use sc_sixteen::Tower16;
 use sc_small_fields::F65537;
-use sc_statements::{Constraint, Statements};
+use sc_constraints::{Constraint, Statements};
 use sc_table::VariableOrder;
 use std::process::Abort;
 

@@ -20,7 +20,7 @@ ghost use Rattle.sc_definitions.specs.Tables.{IsOffered, entries, sum_below};
 ghost use Rattle.sc_definitions.specs.Offers.{IsOffered-prop};
 ghost use Rattle.sc_table.specs.Polys.{variables_of};
 ghost use Rattle.sc_table.specs.Strategy.{basis_of, order_of};
-ghost use Rattle.sc_definitions.specs.Shown.{KeepsForm, IsTrueClaim};
+ghost use Rattle.sc_definitions.specs.ProverViews.{KeepsForm, IsTrueClaim};
 ghost use Rattle.sc_rounds.specs.BaseProducts.{based, BaseAgrees};
 
 use crate::held_product::HeldProduct;
@@ -52,7 +52,7 @@ pub struct BaseProduct<'a, F: Field, EF: ExtensionField<F>> {
 }
 
 impl<'a, F: Field, EF: ExtensionField<F>> BaseProduct<'a, F, EF> {
-    ghost use Rattle.sc_definitions.specs.Standings.{IsRound};
+    ghost use Rattle.sc_definitions.specs.ProverStates.{IsRound};
     ghost use Rattle.sc_transcript.specs.Data.{wire_in};
     ghost use Rattle.sc_transcript.specs.Drivers.{Continues, HasRoundLeft, IsDone};
     ghost use Rattle.sc_transcript.specs.Transcripts.{driver_in};
@@ -64,9 +64,9 @@ impl<'a, F: Field, EF: ExtensionField<F>> BaseProduct<'a, F, EF> {
       StopsFrom,
       BreaksOffAt,
     };
-    ghost use Rattle.sc_definitions.specs.Shown.{message_shown, with_bound};
-    ghost use Rattle.sc_rounds.specs.ProverViews.{shown_by, standing_of};
-    ghost use Rattle.sc_rounds.specs.HeldProducts.{shown_in, setting_over, standing_over};
+    ghost use Rattle.sc_definitions.specs.ProverViews.{message_shown, with_bound};
+    ghost use Rattle.sc_rounds.specs.ProverViews.{shown_by, prover_state_of};
+    ghost use Rattle.sc_rounds.specs.HeldProducts.{shown_in, setting_over, prover_state_over};
     ghost use Rattle.sc_rounds.specs.BaseViews.{base_shown, base_batch_of};
 
     /// The table, in a basis that is offered with this order, which has as many rows as the
@@ -134,7 +134,7 @@ impl<'a, F: Field, EF: ExtensionField<F>> BaseProduct<'a, F, EF> {
             (λ p. KeepsForm (base_shown self.entry) (shown_by p.0)) }
         ensures whole { IfOk result (λ p. PlaysWhole
             (base_batch_of self.entry sumcheck_data.old (C.party challenger.old) folding_factor pow_bits)
-            (standing_of p.0 sumcheck_data.new (C.party challenger.new).history) (map EF.number p.1)) }
+            (prover_state_of p.0 sumcheck_data.new (C.party challenger.new).history) (map EF.number p.1)) }
         ensures refused { IfErr result (BreaksOffAt
             (base_batch_of self.entry sumcheck_data.old (C.party challenger.old) folding_factor pow_bits)
             (C.party challenger.new).history (wire_in F.number EF.number sumcheck_data.new)) }
@@ -174,12 +174,12 @@ impl<'a, F: Field, EF: ExtensionField<F>> BaseProduct<'a, F, EF> {
         ensures form { IfOk result (λ t. KeepsForm (base_shown self.entry) (shown_in t)) }
         ensures played { IfOk result (λ t. PlaysFrom
             (setting_over EF.extension EF.ops (base_shown self.entry) transcript.old)
-            (standing_over EF.number (base_shown self.entry) transcript.old sumcheck_data.old)
-            (standing_over EF.number (shown_in t) transcript.new sumcheck_data.new)
+            (prover_state_over EF.number (base_shown self.entry) transcript.old sumcheck_data.old)
+            (prover_state_over EF.number (shown_in t) transcript.new sumcheck_data.new)
             (map EF.number challenges.new.items) (driver_in transcript.new)) }
         ensures stopped { IfErr result (StopsFrom
             (setting_over EF.extension EF.ops (base_shown self.entry) transcript.old)
-            (standing_over EF.number (base_shown self.entry) transcript.old sumcheck_data.old)
+            (prover_state_over EF.number (base_shown self.entry) transcript.old sumcheck_data.old)
             (driver_in transcript.new)
             (wire_in F.number EF.number sumcheck_data.new)) }
     {
@@ -205,13 +205,13 @@ impl<'a, F: Field, EF: ExtensionField<F>> BaseProduct<'a, F, EF> {
             ≡ message_shown EF.ops (base_shown self.now)) }
         ensures round { IfOk result (λ p. IsRound
             (setting_over EF.extension EF.ops (base_shown self.now) transcript.old)
-            (standing_over EF.number (base_shown self.now) transcript.old sumcheck_data.old)
-            (standing_over EF.number (with_bound EF.ops (base_shown self.now) (EF.number p.1))
+            (prover_state_over EF.number (base_shown self.now) transcript.old sumcheck_data.old)
+            (prover_state_over EF.number (with_bound EF.ops (base_shown self.now) (EF.number p.1))
             transcript.new sumcheck_data.new) (EF.number p.1)) }
         ensures halted { IfErr result (IsHalted
             (setting_over EF.extension EF.ops (base_shown self.now) transcript.old)
-            (standing_over EF.number (base_shown self.now) transcript.old sumcheck_data.old)
-            (standing_over EF.number (base_shown self.now) transcript.new sumcheck_data.new)
+            (prover_state_over EF.number (base_shown self.now) transcript.old sumcheck_data.old)
+            (prover_state_over EF.number (base_shown self.now) transcript.new sumcheck_data.new)
             (driver_in transcript.old).played) }
     {
         let message = self.measure();

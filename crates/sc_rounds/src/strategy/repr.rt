@@ -5,7 +5,7 @@ ghost use Rattle.sc_table.specs.Polys.{variables_of, table_of};
 ghost use Rattle.sc_rounds.specs.Products.{numbers_of};
 ghost use Rattle.sc_rounds.specs.Provers.{held_shown, number_if_some};
 ghost use Rattle.sc_definitions.specs.Tables.{evaluation};
-ghost use Rattle.sc_definitions.specs.Shown.{KeepsForm, IsTrueClaim};
+ghost use Rattle.sc_definitions.specs.ProverViews.{KeepsForm, IsTrueClaim};
 
 use crate::held_product::HeldProduct;
 use crate::product_polynomial::{ProductPolynomial, dot};
@@ -39,7 +39,7 @@ impl<F: Field, EF: ExtensionField<F>, R: IntoTranscriptField<EF>> ReprSumcheckPr
       stored_by,
       image_shown_by,
       image_stored_by,
-      image_standing_of,
+      image_prover_state_of,
       image_batch_of,
     };
     ghost use Rattle.sc_rounds.specs.Represented.{TablesAgree, tables_shown};
@@ -173,7 +173,8 @@ impl<F: Field, EF: ExtensionField<F>, R: IntoTranscriptField<EF>> ReprSumcheckPr
         ensures form { KeepsForm (image_shown_by self.old) (image_shown_by self.new) }
         ensures batch { LeavesBatch (map EF.number)
             (image_batch_of self.old sumcheck_data.old (C.party challenger.old) folding_factor pow_bits)
-            (image_standing_of self.new sumcheck_data.new (C.party challenger.new).history) result }
+            (image_prover_state_of self.new sumcheck_data.new (C.party challenger.new).history)
+            result }
 
         // The last challenge is held, and the stored tables have all others bound. Where no round
         // is asked for, all that is kept stays.

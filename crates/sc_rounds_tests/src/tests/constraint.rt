@@ -8,7 +8,7 @@ use sc_challenger::Challenger;
 use sc_field::{ExtensionField, Field};
 use sc_rounds::{SumcheckData, SumcheckProver};
 use sc_small_fields::F65537;
-use sc_statements::Constraint;
+use sc_constraints::Constraint;
 use sc_table::{Basis, VariableOrder};
 use sc_tests_common::{are_pairs, elements, of};
 use std::alloc::Global;

@@ -1,7 +1,7 @@
 //! Provers with their verifiers, by figures by hand and from a script that is no part of this.
 ghost use Rattle.std.specs.Prelude.{◌≡◌, IfOk, IsTrue, length};
-ghost use Rattle.sc_claims.specs.EqStatements.{eq_arity};
-ghost use Rattle.sc_statements.specs.Constraints.{constraint_arity};
+ghost use Rattle.sc_statements.specs.EqStatements.{eq_arity};
+ghost use Rattle.sc_constraints.specs.Constraints.{constraint_arity};
 ghost use Rattle.sc_rounds.specs.ProverViews.{shown_by, IsNoneOrTrueOf};
 
 use super::{Form, PLAYS, Standing, are_standing, pair_of};
@@ -12,7 +12,7 @@ use sc_rounds::{
     shape_laws,
 };
 use sc_small_fields::F65537;
-use sc_statements::{Constraint, EqStatement, Statements};
+use sc_constraints::{Constraint, EqStatement, Statements};
 use sc_table::{Basis, Point, VariableOrder};
 use sc_tests_common::{are_pairs, have_numbers, of, point};
 use std::alloc::Global;

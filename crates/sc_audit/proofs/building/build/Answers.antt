@@ -1,5 +1,5 @@
 use Rattle.std.proofs.Common.{◌≡◌, None, refl, sym, ◌∙◌, ap}
-use Rattle.sc_statements.specs.FalseClaims.{capped}
+use Rattle.sc_constraints.specs.FalseClaims.{capped}
 use Rattle.sc_jobs.specs.Cases.{asked_to, build, problem_in}
 use Rattle.sc_jobs.specs.Refusals.{or_later, false_refusal, task_refusal}
 use Rattle.sc_jobs.specs.Figures.{false_claim_of}

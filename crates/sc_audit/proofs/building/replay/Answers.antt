@@ -1,7 +1,7 @@
 use Rattle.std.proofs.Common.{refl, sym, map, subst}
 use Rattle.sc_definitions.specs.Rounds.{next_claim}
 use Rattle.sc_definitions.specs.Replays.{given_rounds}
-use Rattle.sc_definitions.specs.Channels.{footing, IsReplayed}
+use Rattle.sc_definitions.specs.Channels.{verifier_state, IsReplayed}
 use Rattle.sc_jobs.specs.Cases.{asked_to, build}
 use Rattle.sc_audit.specs.Built.{kept_in}
 use Rattle.sc_jobs.proofs.CauseLaws.{caused_err}
@@ -17,7 +17,7 @@ returns-clause-answers g c = λ strategy built.
     let q = asked_to job (build strategy) (g.C.Challenger.party c.args.challenger.now).rules (g.C.Challenger.party c.args.challenger.now).history in
     let kept = kept_in g.F.Field.number N c.args.built in
     let start = start_is q _ _ _ (sym g.met.EF.ExtensionField.degree_is) c.num_variables.ensures built.claim in
-    let end = footing (g.C.Challenger.party c.verify_rounds.new.challenger).history (N c.verify_rounds.new.claimed_sum) in
+    let end = verifier_state (g.C.Challenger.party c.verify_rounds.new.challenger).history (N c.verify_rounds.new.claimed_sum) in
     let replayed = subst (λ f. IsReplayed (next_claim q.case.problem.basis g.EF.Field.ops) q.channel f end (given_rounds kept.wire.messages kept.wire.witnesses) (map N c.in_default.field-0)) start c.in_default.ensures.left.1.replays in
     report_built q g.met.EF.Field.is_field.ring c.args.fitting.now.offered kept built strategy end (map N c.in_default.field-0) built.grids c.requires.all_true replayed
 
@@ -29,6 +29,6 @@ returns-in-Err-clause-answers g c = λ strategy built.
     let q = asked_to job (build strategy) (g.C.Challenger.party c.args.challenger.now).rules (g.C.Challenger.party c.args.challenger.now).history in
     let kept = kept_in g.F.Field.number N c.args.built in
     let start = start_is q _ _ _ (sym g.met.EF.ExtensionField.degree_is) c.num_variables.ensures built.claim in
-    let end = footing (g.C.Challenger.party c.verify_rounds.new.challenger).history (N c.verify_rounds.new.claimed_sum) in
+    let end = verifier_state (g.C.Challenger.party c.verify_rounds.new.challenger).history (N c.verify_rounds.new.claimed_sum) in
     caused_err _ q _ _ _ c.refusal.ensures
     (replay_broken q g.met.EF.Field.is_field.ring c.args.fitting.now.offered kept built strategy _ _ _ end _ c.in-Err.error c.num_variables.ensures refl start (λ untouched. untouched) c.in-Err.ensures.left)

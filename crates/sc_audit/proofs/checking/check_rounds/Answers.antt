@@ -1,8 +1,8 @@
 use Rattle.std.proofs.Common.{◌≡◌, Some, sym, ◌∙◌, ap, map}
 use Rattle.std.proofs.lemmas.List.{length-map}
-use Rattle.sc_definitions.specs.Channels.{footing}
+use Rattle.sc_definitions.specs.Channels.{verifier_state}
 use Rattle.sc_definitions.specs.Problem.{claim_of}
-use Rattle.sc_claims.proofs.BatchSteps.{claim-alone}
+use Rattle.sc_statements.proofs.BatchSteps.{claim-alone}
 use Rattle.sc_jobs.specs.Cases.{asked_of, with_task, check, problem_in, given_in}
 use Rattle.sc_jobs.proofs.CauseLaws.{unrefused, caused_err, refused_err}
 use Rattle.sc_jobs.proofs.CountLaws.{count-none}
@@ -24,7 +24,7 @@ report_on-requires-clause-count g c =
     let claim : N c.combine_evals.new.eval ≡ claim_of g.EF.Field.ops (problem_in job) =
     claim-batched g.EF.Field.ops _ _ (claim-alone g.EF.Field.ops g.met.EF.Field.is_field.ring _ _ _ (ap N c.ZERO-claim.ensures ∙ g.met.EF.Field.zero_is) c.combine_evals.ensures) in
     let start = start_is q _ _ _ (sym g.met.EF.ExtensionField.degree_is) c.num_variables.ensures claim in
-    let end = footing (g.C.Challenger.party c.verify_rounds.new.challenger).history (N c.verify_rounds.new.claimed_sum) in
+    let end = verifier_state (g.C.Challenger.party c.verify_rounds.new.challenger).history (N c.verify_rounds.new.claimed_sum) in
     let out = map N c.in-Ok.challenges in
     let whole = checked_whole q given end out _ _ c.num_variables.ensures start c.in-Ok.ensures.left in
     sym (length-map c.in-Ok.challenges N) ∙ challenges_checked q given end out whole
@@ -38,7 +38,7 @@ report_on-requires-clause-residual g c =
     let claim : N c.combine_evals.new.eval ≡ claim_of g.EF.Field.ops (problem_in job) =
     claim-batched g.EF.Field.ops _ _ (claim-alone g.EF.Field.ops g.met.EF.Field.is_field.ring _ _ _ (ap N c.ZERO-claim.ensures ∙ g.met.EF.Field.zero_is) c.combine_evals.ensures) in
     let start = start_is q _ _ _ (sym g.met.EF.ExtensionField.degree_is) c.num_variables.ensures claim in
-    let end = footing (g.C.Challenger.party c.verify_rounds.new.challenger).history (N c.verify_rounds.new.claimed_sum) in
+    let end = verifier_state (g.C.Challenger.party c.verify_rounds.new.challenger).history (N c.verify_rounds.new.claimed_sum) in
     let out = map N c.in-Ok.challenges in
     let whole = checked_whole q given end out _ _ c.num_variables.ensures start c.in-Ok.ensures.left in
     residual_checked q given end out whole
@@ -53,7 +53,7 @@ returns-clause-task g c =
     let claim : N c.combine_evals.new.eval ≡ claim_of g.EF.Field.ops (problem_in job) =
     claim-batched g.EF.Field.ops _ _ (claim-alone g.EF.Field.ops g.met.EF.Field.is_field.ring _ _ _ (ap N c.ZERO-claim.ensures ∙ g.met.EF.Field.zero_is) c.combine_evals.ensures) in
     let start = start_is q _ _ _ (sym g.met.EF.ExtensionField.degree_is) c.num_variables.ensures claim in
-    let end = footing (g.C.Challenger.party c.verify_rounds.new.challenger).history (N c.verify_rounds.new.claimed_sum) in
+    let end = verifier_state (g.C.Challenger.party c.verify_rounds.new.challenger).history (N c.verify_rounds.new.claimed_sum) in
     let out = map N c.in-Ok.challenges in
     let whole = checked_whole q given end out _ _ c.num_variables.ensures start c.in-Ok.ensures.left in
     record {
@@ -71,7 +71,7 @@ returns-in-Err-clause-task g c =
     let claim : N c.combine_evals.new.eval ≡ claim_of g.EF.Field.ops (problem_in job) =
     claim-batched g.EF.Field.ops _ _ (claim-alone g.EF.Field.ops g.met.EF.Field.is_field.ring _ _ _ (ap N c.ZERO-claim.ensures ∙ g.met.EF.Field.zero_is) c.combine_evals.ensures) in
     let start = start_is q _ _ _ (sym g.met.EF.ExtensionField.degree_is) c.num_variables.ensures claim in
-    let end = footing (g.C.Challenger.party c.verify_rounds.new.challenger).history (N c.verify_rounds.new.claimed_sum) in
+    let end = verifier_state (g.C.Challenger.party c.verify_rounds.new.challenger).history (N c.verify_rounds.new.claimed_sum) in
     record {
       answers = caused_err _ (with_task q (check (Some given))) _ _ _ c.refusal.ensures (proof_refused q given _ _ _ end _ c.in-Err.error c.num_variables.ensures start (λ kept. kept) c.in-Err.ensures.left);
       refused = refused_err _ _ _ _ c.refusal.ensures (counts_refused q given _ _ _ end _ c.in-Err.error c.num_variables.ensures c.in-Err.ensures.left);

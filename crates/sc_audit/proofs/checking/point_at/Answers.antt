@@ -1,5 +1,5 @@
 use Rattle.std.proofs.Common.{refl}
-use Rattle.sc_statements.proofs.ConstraintPoints.{reversed_part}
+use Rattle.sc_constraints.proofs.ConstraintPoints.{reversed_part}
 use Rattle.sc_audit.proofs.checking.point_at.Goals as goal
 
 pub returns-in-Suffix : goal.returns-in-Suffix

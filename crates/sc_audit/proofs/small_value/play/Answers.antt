@@ -8,7 +8,7 @@ use Rattle.sc_transcript.specs.Transcripts.{driver_in}
 use Rattle.sc_transcript.specs.declared.rounds.BatchShape.{BatchShape}
 use Rattle.sc_transcript.proofs.ReplayedLaws.{same_channel}
 use Rattle.sc_rounds.specs.Provers.{shown_of}
-use Rattle.sc_rounds.specs.HeldProducts.{standing_over}
+use Rattle.sc_rounds.specs.HeldProducts.{prover_state_over}
 use Rattle.sc_svo.specs.Batches.{batch_in}
 use Rattle.sc_jobs.specs.Cases.{problem_in}
 use Rattle.sc_audit.specs.SmallRounds.{setting_for, begun_for}
@@ -78,7 +78,7 @@ returns-in_err-play_rest-clause-played g c =
     (channel_of g.EF.ExtensionField.extension (driver_in c.play_small.new.transcript))
     (same_channel g.F.Field.ops.size small.continues.rules (ap (λ (k : BatchShape). k.pow_bits) small.continues.shape)) (made.basis ∙ sym c.requires.batch.basis) made.order
     (driver_in c.play_small.new.transcript) (driver_in c.play_rest.new.transcript) (small.counts.played ∙ sym count)
-    (standing_over N (shown_of N c.play_rest.new.left c.play_rest.new.sum) c.play_rest.new.transcript c.play_rest.new.sumcheck_data) rest.left _ refl rest.rounds)
+    (prover_state_over N (shown_of N c.play_rest.new.left c.play_rest.new.sum) c.play_rest.new.transcript c.play_rest.new.sumcheck_data) rest.left _ refl rest.rounds)
 
 -- all were played
 pub returns-clause-played : goal.returns-clause-played
@@ -101,4 +101,4 @@ returns-clause-played g c =
     (channel_of g.EF.ExtensionField.extension (driver_in c.play_small.new.transcript))
     (same_channel g.F.Field.ops.size small.continues.rules (ap (λ (k : BatchShape). k.pow_bits) small.continues.shape)) (made.basis ∙ sym c.requires.batch.basis) made.order
     (driver_in c.play_small.new.transcript) (driver_in c.play_rest.new.transcript) (small.counts.played ∙ sym count)
-    (standing_over N (shown_of N c.play_rest.new.left c.play_rest.new.sum) c.play_rest.new.transcript c.play_rest.new.sumcheck_data) rest.left _ rest.rounds
+    (prover_state_over N (shown_of N c.play_rest.new.left c.play_rest.new.sum) c.play_rest.new.transcript c.play_rest.new.sumcheck_data) rest.left _ rest.rounds

@@ -1,8 +1,8 @@
 use Rattle.std.proofs.Common.{◌≡◌, ◌+◌, ◌<◌, [], ◌∷◌, length, map, refl, ap, sym, ◌∙◌, arith}
 use Rattle.std.proofs.lemmas.List.{length-map, map-append}
-use Rattle.sc_definitions.specs.Channels.{footing}
+use Rattle.sc_definitions.specs.Channels.{verifier_state}
 use Rattle.sc_definitions.specs.Rounds.{next_claim}
-use Rattle.sc_definitions.proofs.StandingLaws.{length-entries_of}
+use Rattle.sc_definitions.proofs.ProverStateLaws.{length-entries_of}
 use Rattle.sc_transcript.specs.Data.{wire_in}
 use Rattle.sc_transcript.specs.Drivers.{channel_of}
 use Rattle.sc_transcript.specs.Transcripts.{driver_in}
@@ -64,12 +64,12 @@ returns-in_err-r-clause-drawn g c = λ p of is.
     omega (arith, count, c.loop-round-test.true, c.len-round-end.ensures, length-map c.grids.result.now.rounds (grid_shown N), ap length c.grids.ensures) in
     let values = N c.in_ok-message.message.c_a ∷ N c.in_ok-message.message.c_inf ∷ [] in
     let played = inv.drawn p of is in
-    let message = read_message o ring p (batch_in c.args.batch.now) of s.channel t.history t.wire rs (footing d.history (N c.loop-round.sum)) on values low played
+    let message = read_message o ring p (batch_in c.args.batch.now) of s.channel t.history t.wire rs (verifier_state d.history (N c.loop-round.sum)) on values low played
     (c.in_ok-message.ensures.honest p.table of.grids ∙ ap (λ xs. honest_of o (batch_in c.args.batch.now) p.table (map N xs)) c.as_slice.ensures.value) in
     let refused = c.in_err-r.ensures.refused in
     let size = ap (λ (k : BatchShape). k.num_rounds) (refused.continues.shape ∙ inv.continues.shape) in
     leaves_stopped s t rs (N c.loop-round.sum) d' (wire_in g.F.Field.number N c.observe_and_sample.new.self) c.from_residual-in_err-r.result _ c.from_residual-in_err-r.ensures.1
-    (drawn_refused s ring (values_offered o p (batch_in c.args.batch.now) of) t rs (footing d.history (N c.loop-round.sum)) on played (omega (arith, low, of.within)) values message (channel_of g.EF.ExtensionField.extension d)
+    (drawn_refused s ring (values_offered o p (batch_in c.args.batch.now) of) t rs (verifier_state d.history (N c.loop-round.sum)) on played (omega (arith, low, of.within)) values message (channel_of g.EF.ExtensionField.extension d)
     (same_channel g.F.Field.ops.size inv.continues.rules (ap (λ (k : BatchShape). k.pow_bits) inv.continues.shape)) d' _ d.played _ refused.why c.in_err-r.ensures.kept
     (inv.played ∙ sym count) refused.played (omega (arith, refused.played, inv.played, count, low, c.requires.within, size)))
 
@@ -102,9 +102,9 @@ loop-round-preserved g c =
           let s = setting_for g.EF.ExtensionField.extension o p c.args.transcript.now in
           let t = begun_for N o p c.args.transcript.now c.args.sumcheck_data.now in
           let played = inv.drawn p of is in
-          let message = read_message o ring p (batch_in c.args.batch.now) of s.channel t.history t.wire rs (footing d.history (N c.loop-round.sum)) on values low played
+          let message = read_message o ring p (batch_in c.args.batch.now) of s.channel t.history t.wire rs (verifier_state d.history (N c.loop-round.sum)) on values low played
           (c.in_ok-message.ensures.honest p.table of.grids ∙ ap (λ xs. honest_of o (batch_in c.args.batch.now) p.table (map N xs)) c.as_slice.ensures.value) in
-          drawn_more s ring (values_offered o p (batch_in c.args.batch.now) of) t rs (footing d.history (N c.loop-round.sum)) on played (omega (arith, low, of.within)) values message (channel_of g.EF.ExtensionField.extension d)
+          drawn_more s ring (values_offered o p (batch_in c.args.batch.now) of) t rs (verifier_state d.history (N c.loop-round.sum)) on played (omega (arith, low, of.within)) values message (channel_of g.EF.ExtensionField.extension d)
           (same_channel g.F.Field.ops.size inv.continues.rules (ap (λ (k : BatchShape). k.pow_bits) inv.continues.shape)) round.puts.witness (N c.in_ok-r.r) _ _ _ _
           (ap (map N) c.push_reserved.ensures.items ∙ map-append N _ _) round.puts.plays.sent round.puts.wire
           (c.reduce_claim.ensures.claim ∙ ap (λ k. next_claim k o (N c.loop-round.sum) values (N c.in_ok-r.r)) (sym of.basis));

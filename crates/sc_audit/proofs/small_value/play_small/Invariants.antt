@@ -1,6 +1,6 @@
 use Rattle.std.proofs.Common.{◌≡◌, ◌≤◌, map, vec_len, vec_capacity}
-use Rattle.sc_definitions.specs.Channels.{footing}
-use Rattle.sc_definitions.specs.Standings.{IsPlayed}
+use Rattle.sc_definitions.specs.Channels.{verifier_state}
+use Rattle.sc_definitions.specs.ProverStates.{IsPlayed}
 use Rattle.sc_definitions.specs.Problem.{Problem, claim_of}
 use Rattle.sc_transcript.specs.Data.{wire_in}
 use Rattle.sc_transcript.specs.Drivers.{Continues}
@@ -22,6 +22,6 @@ invariant-loop-round g l =
       drawn : (p : Problem) → IsBatchOf o p (batch_in l.batch) → N l.fn.sum ≡ claim_of o p →
           IsPlayed (setting_for g.EF.ExtensionField.extension o p l.fn.transcript) (begun_for N o p l.fn.transcript l.fn.sumcheck_data)
           (with_drawn (setting_for g.EF.ExtensionField.extension o p l.fn.transcript) (begun_for N o p l.fn.transcript l.fn.sumcheck_data) (map N l.challenges.items)
-          (footing (driver_in l.transcript).history (N l.sum)) (wire_in g.F.Field.number N l.sumcheck_data))
+          (verifier_state (driver_in l.transcript).history (N l.sum)) (wire_in g.F.Field.number N l.sumcheck_data))
           (map N l.challenges.items);
     }

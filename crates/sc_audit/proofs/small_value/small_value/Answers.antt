@@ -4,10 +4,10 @@ use Rattle.sc_definitions.specs.Channels.{Wire}
 use Rattle.sc_definitions.specs.Problem.{claim_of}
 use Rattle.sc_definitions.proofs.LoopLaws.{entry-read}
 use Rattle.sc_table.specs.declared.strategy.Strategy.TheVariants.{SmallValue}
-use Rattle.sc_claims.proofs.BatchSteps.{claim-alone}
+use Rattle.sc_statements.proofs.BatchSteps.{claim-alone}
 use Rattle.sc_transcript.specs.Data.{wire_in}
 use Rattle.sc_rounds.specs.Products.{variables_in}
-use Rattle.sc_rounds.specs.Standings.{standing_in}
+use Rattle.sc_rounds.specs.ProverStates.{prover_state_in}
 use Rattle.sc_svo.specs.Batches.{batch_in}
 use Rattle.sc_jobs.specs.Cases.{build, asked_to, problem_in}
 use Rattle.sc_jobs.proofs.BuiltReports.{one_entry, same_setting, same_start, built_case}
@@ -34,7 +34,7 @@ returns g c =
     let setting = same_setting q ring c.args.fitting.now.offered c.in_ok-copied.ensures.rules c.in_ok-copied.ensures.history refl c.new-rounds.ensures degree refl in
     let start = same_start q ring c.args.fitting.now.offered c.in_ok-copied.ensures.rules c.in_ok-copied.ensures.history refl c.new-rounds.ensures degree refl in
     let left = c.in-Ok.played.0 in
-    let after = standing_in N left c.play_all.new.sum (g.C.Challenger.party c.play_all.new.challenger).history (wire_in g.F.Field.number N c.play_all.new.sumcheck_data) in
+    let after = prover_state_in N left c.play_all.new.sum (g.C.Challenger.party c.play_all.new.challenger).history (wire_in g.F.Field.number N c.play_all.new.sumcheck_data) in
     let whole = c.in-Ok.ensures in
     let none_left : variables_in left ≡ 0 = omega (arith, whole.whole) in
     let weights_one : length c.as_slice.result.now ≡ 1 = c.as_slice.ensures.size ∙ ap (λ k. 2 ^ k) (c.in_ok-weights.ensures.variables ∙ none_left) in

@@ -1,7 +1,7 @@
 use Rattle.std.proofs.Common.{map, ◌∙◌, ap, subst, refl}
 use Rattle.sc_definitions.specs.Tables.{entries}
-use Rattle.sc_claims.specs.Claimed.{with_values, all_stated_truly}
-use Rattle.sc_claims.proofs.ClaimLaws.{with_true_values}
+use Rattle.sc_statements.specs.Claimed.{with_values, all_stated_truly}
+use Rattle.sc_statements.proofs.ClaimLaws.{with_true_values}
 use Rattle.sc_jobs.specs.Cases.{problem_in}
 use Rattle.sc_audit.specs.Ways.{IsBatchedFor}
 use Rattle.sc_jobs.proofs.StatedLaws.{restated, problem-stated}

@@ -1,9 +1,9 @@
 use Rattle.std.proofs.Common.{◌≡◌, ◌^◌, length, sym, ◌∙◌, ap}
-use Rattle.sc_definitions.specs.Tables.{entries, rows_of, inner}
+use Rattle.sc_definitions.specs.Tables.{entries, rows_of, inner_product}
 use Rattle.sc_definitions.specs.Problem.{weights_of}
 use Rattle.sc_definitions.proofs.BuildLaws.{batch-true, first_false_claim-all}
-use Rattle.sc_definitions.proofs.SameTables.{inner-same}
-use Rattle.sc_definitions.proofs.StandingLaws.{entries-is}
+use Rattle.sc_definitions.proofs.SameTables.{inner_product-same}
+use Rattle.sc_definitions.proofs.ProverStateLaws.{entries-is}
 use Rattle.sc_table.specs.Polys.{variables_of, table_of}
 use Rattle.sc_table.proofs.EntryLaws.{entry-embedded}
 use Rattle.sc_rounds.proofs.BaseLaws.{image_entries, base_rows}
@@ -29,10 +29,10 @@ new-requires-clause-agree g c =
       rows = ap length c.deref.ensures.value ∙ sym job.table.ok.0 ∙ c.args.fitting.now.rows ∙ ap (λ n. 2 ^ n) (sym c.in_ok-weights.ensures.variables);
       sum_is = c.in_ok-weights.ensures.claim
           ∙ sym (batch-true o g.met.EF.Field.is_field.ring n p.table _ _ _ (first_false_claim-all _ _ _ 0 _ c.requires))
-          ∙ sym (inner-same o n _ _ _ _
+          ∙ sym (inner_product-same o n _ _ _ _
           (λ b low. entry-embedded embed read c.deref.result.now b g.met.EF.Algebra.embeds.zero_kept ∙ ap (λ xs. embed (entries read xs b)) c.deref.ensures.value)
           (λ b low. c.in_ok-weights.ensures.weights b low))
-          ∙ ap (λ k. inner o k (entries (λ x. embed (read x)) c.deref.result.now) (table_of N w)) (sym c.in_ok-weights.ensures.variables);
+          ∙ ap (λ k. inner_product o k (entries (λ x. embed (read x)) c.deref.result.now) (table_of N w)) (sym c.in_ok-weights.ensures.variables);
     }
 
 -- what a prover of the images would show

@@ -7,7 +7,7 @@ use Rattle.sc_definitions.specs.Lucky.{true_claim_of, course_of, first_turn, in_
 use Rattle.sc_transcript.specs.Data.{pair_of, messages_in}
 use Rattle.sc_rounds.specs.Turns.{turn_in}
 use Rattle.sc_jobs.specs.Fitting.{stated_in}
-use Rattle.sc_verdicts.specs.Findings.{lucky, named}
+use Rattle.sc_audit_errors.specs.Findings.{lucky, named}
 use Rattle.sc_jobs.specs.Figures.{finding_in}
 use Rattle.sc_audit.proofs.LuckFound.{luck-round}
 use Rattle.sc_audit.proofs.verdict.turn_on.Goals as goal

@@ -8,7 +8,7 @@ use Rattle.sc_transcript.specs.Data.{messages_in}
 use Rattle.sc_jobs.specs.Fitting.{stated_in}
 use Rattle.sc_jobs.specs.Figures.{finding_in, finding_by, false_claim_of}
 use Rattle.sc_jobs.proofs.Certified.{claimed-low}
-use Rattle.sc_verdicts.specs.Findings.{holds, lucky, named}
+use Rattle.sc_audit_errors.specs.Findings.{holds, lucky, named}
 use Rattle.sc_audit.proofs.LuckFound.{luck-batch, batch-right, batch-wrong, finding-none, finding-some}
 use Rattle.sc_audit.proofs.verdict.verdict_on.Goals as goal
 

@@ -1,7 +1,7 @@
 use Rattle.std.proofs.Common.{ap, ◌∙◌}
 use Rattle.sc_definitions.specs.Tables.{entries}
 use Rattle.sc_definitions.specs.Statements.{first_false_claim}
-use Rattle.sc_statements.specs.FalseClaims.{capped}
+use Rattle.sc_constraints.specs.FalseClaims.{capped}
 use Rattle.sc_jobs.specs.Cases.{problem_in}
 use Rattle.sc_jobs.proofs.ClaimTests.{tests_by}
 use Rattle.sc_audit.proofs.ways.check_claims.Goals as goal

@@ -1,7 +1,7 @@
 use Rattle.std.proofs.Common.{◌≡◌, ◌<◌, ◌^◌, Ok, length, map, sym, ◌∙◌, ap, arith}
 use Rattle.std.proofs.lemmas.List.{length-map}
 use Rattle.sc_definitions.specs.Statements.{claimed_values, true_value, true_values}
-use Rattle.sc_statements.proofs.FalseGroups.{capped-exact}
+use Rattle.sc_constraints.proofs.FalseGroups.{capped-exact}
 use Rattle.sc_jobs.specs.Cases.{problem_in}
 use Rattle.sc_jobs.proofs.ClaimTests.{tests_by, tests_err}
 use Rattle.sc_audit.proofs.ways.true_batch.Goals as goal

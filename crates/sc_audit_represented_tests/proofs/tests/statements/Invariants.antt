@@ -1,5 +1,5 @@
 use Rattle.std.proofs.Common.{◌≡◌}
-use Rattle.sc_claims.specs.EqStatements.{eq_arity}
+use Rattle.sc_statements.specs.EqStatements.{eq_arity}
 use Rattle.sc_audit_represented_tests.proofs.tests.statements.Given as goal
 
 abbrev pub invariant-loop-coords : goal.invariant-loop-coords

@@ -3,7 +3,7 @@ use Rattle.std.specs.Prelude.{Ok, Err}
 use Rattle.std.specs.Result.{result_err}
 use Rattle.std.proofs.lemmas.List.{length-map}
 use Rattle.sc_definitions.specs.Ring.{power}
-use Rattle.sc_definitions.specs.Statements.{powers_sum}
+use Rattle.sc_definitions.specs.Statements.{batched_by_powers}
 use Rattle.sc_definitions.specs.Tables.{entries}
 use Rattle.sc_soundness.specs.Differences.{first_difference}
 use Rattle.sc_circuit_definitions.specs.Circuits.{all_values, top_width, IsCircuit}
@@ -84,8 +84,8 @@ drawn : (g : Over) (c : After-copy-2 g) → g.EF.Field.number c.in_ok-challenge.
 drawn g c = c.in_ok-challenge.ensures.drawn ∙ ap output_challenge (copied g c)
 
 claimed : (g : Over) (c : After-copy-2 g) →
-    g.EF.Field.number c.in_ok-reached.reached.claim ≡ powers_sum (case g c).ops (output_challenge (case g c)) 0 (map (case g c).embedding (case g c).outputs)
-claimed g c = c.in_ok-reached.ensures.claim ∙ ap (λ x. powers_sum (case g c).ops x 0 (map (case g c).embedding (case g c).outputs)) (drawn g c)
+    g.EF.Field.number c.in_ok-reached.reached.claim ≡ batched_by_powers (case g c).ops (output_challenge (case g c)) 0 (map (case g c).embedding (case g c).outputs)
+claimed g c = c.in_ok-reached.ensures.claim ∙ ap (λ x. batched_by_powers (case g c).ops x 0 (map (case g c).embedding (case g c).outputs)) (drawn g c)
 
 reached : (g : Over) (c : After-copy-2 g) → IsReachedBy g.EF.Field.number (case g c) c.stack-stack.result c.in_ok-reached.reached (first_start (case g c)).weights
 reached g c =

@@ -2,7 +2,7 @@ use Rattle.std.proofs.Common.{◌≡◌, List, ◌++◌, Some, None, Ok, Err, le
 use Rattle.std.specs.Result.{result_err}
 use Rattle.std.proofs.lemmas.List.{length-map}
 use Rattle.sc_definitions.specs.Ring.{power}
-use Rattle.sc_definitions.specs.Statements.{powers_sum}
+use Rattle.sc_definitions.specs.Statements.{batched_by_powers}
 use Rattle.sc_definitions.specs.Tables.{entries}
 use Rattle.sc_circuit_definitions.specs.Circuits.{top_width, IsCircuit}
 use Rattle.sc_circuit_definitions.specs.CircuitPlays.{CircuitCase, LayerStart, first_start, output_challenge, circuit_events}
@@ -77,8 +77,8 @@ case g c = case_by (fields g.F.Field.ops g.EF.Field.ops g.EF.Algebra.embedding g
     (g.C.Challenger.party c.args.challenger.now)
 
 claimed : (g : Over) (c : After-deref-2 g) →
-    g.EF.Field.number c.in_ok-reached.reached.claim ≡ powers_sum (case g c).ops (output_challenge (case g c)) 0 (map (case g c).embedding (case g c).outputs)
-claimed g c = c.in_ok-reached.ensures.claim ∙ ap (λ x. powers_sum (case g c).ops x 0 (map (case g c).embedding (case g c).outputs)) c.in_ok-challenge.ensures.drawn
+    g.EF.Field.number c.in_ok-reached.reached.claim ≡ batched_by_powers (case g c).ops (output_challenge (case g c)) 0 (map (case g c).embedding (case g c).outputs)
+claimed g c = c.in_ok-reached.ensures.claim ∙ ap (λ x. batched_by_powers (case g c).ops x 0 (map (case g c).embedding (case g c).outputs)) c.in_ok-challenge.ensures.drawn
 
 reached : (g : Over) (c : After-deref-2 g) → IsReachedBy g.EF.Field.number (case g c) c.stack-stack.result c.in_ok-reached.reached (first_start (case g c)).weights
 reached g c =

@@ -1,8 +1,8 @@
 use Rattle.std.proofs.Common.{◌∙◌, ap}
 use Rattle.sc_definitions.specs.Ring.{power}
-use Rattle.sc_statements.specs.Constraints.{constraint_arity, constraint_challenge, constraint_power}
-use Rattle.sc_statements.proofs.GroupSteps.{arity-of}
-use Rattle.sc_statements.specs.Groups.{group_arity}
+use Rattle.sc_constraints.specs.Constraints.{constraint_arity, constraint_challenge, constraint_power}
+use Rattle.sc_constraints.proofs.GroupSteps.{arity-of}
+use Rattle.sc_constraints.specs.Groups.{group_arity}
 use Rattle.sc_jobs.proofs.ClaimLaws.{gathered_begun, here_taken, gathered_more, gathered_claims, gathered_values}
 use Rattle.sc_jobs.proofs.claims.claims_of.Goals as goal
 

@@ -1,4 +1,4 @@
-use Rattle.sc_statements.specs.Constraints.{constraint_arity, constraint_challenge, constraint_power}
+use Rattle.sc_constraints.specs.Constraints.{constraint_arity, constraint_challenge, constraint_power}
 use Rattle.sc_jobs.proofs.ClaimLaws.{IsGathered}
 use Rattle.sc_jobs.proofs.claims.claims_of.Given as goal
 

@@ -1,6 +1,6 @@
 use Rattle.std.proofs.Common.{◌≡◌, ◌<◌, length, slice_index, ap, ◌∙◌, arith}
 use Rattle.std.proofs.lemmas.List.{length-map}
-use Rattle.sc_claims.proofs.FalseSteps.{other_from_ne, same_from_ne, search-next, search-found, search-end}
+use Rattle.sc_statements.proofs.FalseSteps.{other_from_ne, same_from_ne, search-next, search-found, search-end}
 use Rattle.sc_jobs.proofs.ClaimTests.{read_there}
 use Rattle.sc_jobs.proofs.claims.first_other.Goals as goal
 

@@ -1,6 +1,6 @@
 use Rattle.std.proofs.Common.{map, ap, subst, ◌∙◌, ◌+◌, length, ◌≡◌, [], arith}
 use Rattle.sc_definitions.specs.Ring.{power}
-use Rattle.sc_statements.specs.Groups.{group_statements}
+use Rattle.sc_constraints.specs.Groups.{group_statements}
 use Rattle.sc_jobs.specs.Taken.{AreTaken}
 use Rattle.sc_jobs.proofs.ClaimLaws.{no_selects, appends_none}
 use Rattle.sc_jobs.proofs.claims.push_group.Goals as goal

@@ -1,6 +1,6 @@
 use Rattle.std.proofs.Common.{◌<◌, length, refl, ◌∙◌, arith}
 use Rattle.std.proofs.lemmas.List.{drop_all}
-use Rattle.sc_claims.specs.NextStatements.{next_arity, next_statements}
+use Rattle.sc_statements.specs.NextStatements.{next_arity, next_statements}
 use Rattle.sc_jobs.proofs.ClaimLaws.{successors_on, pushed_none, pushed_successor, pushed_all, pushed_next}
 use Rattle.sc_jobs.proofs.claims.push_successors.Goals as goal
 

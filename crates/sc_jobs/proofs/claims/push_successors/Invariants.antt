@@ -1,5 +1,5 @@
 use Rattle.std.proofs.Common.{drop}
-use Rattle.sc_claims.specs.NextStatements.{next_arity, next_statements}
+use Rattle.sc_statements.specs.NextStatements.{next_arity, next_statements}
 use Rattle.sc_jobs.proofs.ClaimLaws.{IsPushed}
 use Rattle.sc_jobs.proofs.claims.push_successors.Given as goal
 

@@ -1,8 +1,8 @@
 use Rattle.std.proofs.Common.{◌++◌, ◌∷◌, [], length, false, map, refl, ap, ◌∙◌}
 use Rattle.std.proofs.lemmas.List.{length-append}
 use Rattle.sc_definitions.specs.Statements.{equality, claims}
-use Rattle.sc_claims.specs.EqStatements.{eq_arity, eq_statements}
-use Rattle.sc_claims.specs.EqIterators.{pairs_left}
+use Rattle.sc_statements.specs.EqStatements.{eq_arity, eq_statements}
+use Rattle.sc_statements.specs.EqIterators.{pairs_left}
 use Rattle.sc_jobs.proofs.ClaimLaws.{points_taken, pushed_none, value_claim, next_on, pushed_more, pushed_all, pushed_next}
 use Rattle.sc_jobs.proofs.claims.push_values.Goals as goal
 

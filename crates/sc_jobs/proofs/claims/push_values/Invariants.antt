@@ -1,6 +1,6 @@
 use Rattle.std.proofs.Common.{length}
-use Rattle.sc_claims.specs.EqStatements.{eq_arity, eq_statements}
-use Rattle.sc_claims.specs.EqIterators.{pairs_left}
+use Rattle.sc_statements.specs.EqStatements.{eq_arity, eq_statements}
+use Rattle.sc_statements.specs.EqIterators.{pairs_left}
 use Rattle.sc_jobs.proofs.ClaimLaws.{IsPushed}
 use Rattle.sc_jobs.proofs.claims.push_values.Given as goal
 

@@ -1,6 +1,6 @@
 use Rattle.std.proofs.Common.{◌≡◌, [], true, false, map, sym, ◌∙◌, ap, arith}
-use Rattle.sc_statements.specs.Groups.{group_statements}
-use Rattle.sc_claims.specs.SelectStatements.{select_statements}
+use Rattle.sc_constraints.specs.Groups.{group_statements}
+use Rattle.sc_statements.specs.SelectStatements.{select_statements}
 use Rattle.sc_jobs.specs.Refusals.{first_unfit}
 use Rattle.sc_jobs.proofs.UnfitLaws.{unfit-points, unfit-selects, unfit-none}
 use Rattle.sc_jobs.proofs.fit.unfit_of_group.Goals as goal

@@ -1,4 +1,4 @@
-use Rattle.sc_statements.specs.Groups.{group_statements}
+use Rattle.sc_constraints.specs.Groups.{group_statements}
 use Rattle.sc_jobs.proofs.UnfitLaws.{none_from_default, passed_found, passed_more, passed_all}
 use Rattle.sc_jobs.proofs.fit.unfit_statement.Goals as goal
 

@@ -1,4 +1,4 @@
-use Rattle.sc_statements.specs.Groups.{group_statements}
+use Rattle.sc_constraints.specs.Groups.{group_statements}
 use Rattle.sc_jobs.proofs.UnfitLaws.{IsPassed}
 use Rattle.sc_jobs.proofs.fit.unfit_statement.Given as goal
 

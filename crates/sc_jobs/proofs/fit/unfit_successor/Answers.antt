@@ -1,7 +1,7 @@
 use Rattle.std.proofs.Common.{◌≡◌, ◌+◌, ◌<◌, suc, true, false, length, drop, sym, ◌∙◌, ap, arith}
-use Rattle.sc_claims.specs.NextStatements.{next_statements}
-use Rattle.sc_verdicts.specs.declared.error.AuditError.TheVariants.{StrategyUnfit}
-use Rattle.sc_verdicts.specs.declared.error.FitFault.TheVariants.{Selector}
+use Rattle.sc_statements.specs.NextStatements.{next_statements}
+use Rattle.sc_audit_errors.specs.declared.error.AuditError.TheVariants.{StrategyUnfit}
+use Rattle.sc_audit_errors.specs.declared.error.FitFault.TheVariants.{Selector}
 use Rattle.std.proofs.Common.{Some}
 use Rattle.sc_jobs.specs.Refusals.{first_unfit}
 use Rattle.sc_jobs.proofs.UnfitLaws.{unfit-selector, unfit-no_selector, unfit-end}

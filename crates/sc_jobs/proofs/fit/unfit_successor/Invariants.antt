@@ -1,5 +1,5 @@
 use Rattle.std.proofs.Common.{◌≡◌, ◌+◌, drop}
-use Rattle.sc_claims.specs.NextStatements.{next_statements}
+use Rattle.sc_statements.specs.NextStatements.{next_statements}
 use Rattle.sc_jobs.specs.Refusals.{first_unfit}
 use Rattle.sc_jobs.proofs.fit.unfit_successor.Given as goal
 

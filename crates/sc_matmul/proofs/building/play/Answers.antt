@@ -1,9 +1,9 @@
 use Rattle.std.proofs.Common.{◌≡◌, ◌<◌, map, Err, sym, ◌∙◌, ap, subst}
 use Rattle.std.proofs.lemmas.List.Elements.{All-map}
-use Rattle.sc_definitions.specs.Statements.{powers_sum}
+use Rattle.sc_definitions.specs.Statements.{batched_by_powers}
 use Rattle.sc_transcript.specs.Batches.{PlaysWhole, BreaksOff}
 use Rattle.sc_transcript.specs.Data.{wire_in}
-use Rattle.sc_rounds.specs.ProverViews.{standing_of}
+use Rattle.sc_rounds.specs.ProverViews.{prover_state_of}
 use Rattle.sc_merge_definitions.specs.Matrices.{MatmulCase, IsMatmulCase, drawn_point, entries_claim}
 use Rattle.sc_matmul.specs.MatmulJobs.{Fields, ClaimedProduct, fields, claimed_in, case_of}
 use Rattle.sc_matmul.specs.MatmulPlays.{refusal_by, AreBuilt, IsDrawnAt, LeavesBuilt}
@@ -27,8 +27,8 @@ new-prover-requires g c =
     fitting.pow_bits copy fitting.fits in
     let drawn : e.number c.in_ok-point.point ≡ drawn_point q = c.in_ok-point.ensures.drawn in
     let claim : e.number c.claim_at-claim.result ≡ entries_claim q =
-    c.claim_at-claim.ensures ∙ ap (λ x. powers_sum e.ops x 0 (map g.EF.Algebra.embedding (map B c.as_slice.result.now))) drawn
-    ∙ ap (λ l. powers_sum e.ops (drawn_point q) 0 (map g.EF.Algebra.embedding (map B l))) c.as_slice.ensures in
+    c.claim_at-claim.ensures ∙ ap (λ x. batched_by_powers e.ops x 0 (map g.EF.Algebra.embedding (map B c.as_slice.result.now))) drawn
+    ∙ ap (λ l. batched_by_powers e.ops (drawn_point q) 0 (map g.EF.Algebra.embedding (map B l))) c.as_slice.ensures in
     let pair = c.new_unpacked-pair.result in
     let made = c.new_unpacked-pair.ensures in
     let is = pair-made e.number q pair c.in_ok-left.left c.in_ok-right.right c.in_ok-left.ensures.variables c.in_ok-right.ensures.variables made.variables made.basis made.order
@@ -48,13 +48,13 @@ returns-in-Ok g c =
     let q : MatmulCase = case_of fs m fitting.pow_bits copy in
     let drawn : e.number c.in_ok-point.point ≡ drawn_point q = c.in_ok-point.ensures.drawn in
     let claim : e.number c.claim_at-claim.result ≡ entries_claim q =
-    c.claim_at-claim.ensures ∙ ap (λ x. powers_sum e.ops x 0 (map g.EF.Algebra.embedding (map B c.as_slice.result.now))) drawn
-    ∙ ap (λ l. powers_sum e.ops (drawn_point q) 0 (map g.EF.Algebra.embedding (map B l))) c.as_slice.ensures in
+    c.claim_at-claim.ensures ∙ ap (λ x. batched_by_powers e.ops x 0 (map g.EF.Algebra.embedding (map B c.as_slice.result.now))) drawn
+    ∙ ap (λ l. batched_by_powers e.ops (drawn_point q) 0 (map g.EF.Algebra.embedding (map B l))) c.as_slice.ensures in
     let pair = c.new_unpacked-pair.result in
     let made = c.new_unpacked-pair.ensures in
     let is = pair-made e.number q pair c.in_ok-left.left c.in_ok-right.right c.in_ok-left.ensures.variables c.in_ok-right.ensures.variables made.variables made.basis made.order
     made.evals made.weights (c.in_ok-left.ensures.table copy drawn) (c.in_ok-right.ensures.table copy drawn) in
-    let after = standing_of c.compute_sumcheck_polynomials.new.self c.compute_sumcheck_polynomials.new.sumcheck_data
+    let after = prover_state_of c.compute_sumcheck_polynomials.new.self c.compute_sumcheck_polynomials.new.sumcheck_data
     (g.C.Challenger.party c.compute_sumcheck_polynomials.new.challenger).history in
     let same = batch-is q ring (c.in_ok-copied.ensures.rules ∙ c.in_ok-point.ensures.rules) (c.in_ok-copied.ensures.history ∙ c.in_ok-point.ensures.after) (c.new-prover.ensures.shown ∙ shown-pair q ring e.number pair c.claim_at-claim.result is claim)
     c.new-rounds.ensures (sym g.met.EF.ExtensionField.degree_is) c.variables.ensures.number in
@@ -80,13 +80,13 @@ returns-in-Err g c =
     let q : MatmulCase = case_of fs m fitting.pow_bits copy in
     let drawn : e.number c.in_ok-point.point ≡ drawn_point q = c.in_ok-point.ensures.drawn in
     let claim : e.number c.claim_at-claim.result ≡ entries_claim q =
-    c.claim_at-claim.ensures ∙ ap (λ x. powers_sum e.ops x 0 (map g.EF.Algebra.embedding (map B c.as_slice.result.now))) drawn
-    ∙ ap (λ l. powers_sum e.ops (drawn_point q) 0 (map g.EF.Algebra.embedding (map B l))) c.as_slice.ensures in
+    c.claim_at-claim.ensures ∙ ap (λ x. batched_by_powers e.ops x 0 (map g.EF.Algebra.embedding (map B c.as_slice.result.now))) drawn
+    ∙ ap (λ l. batched_by_powers e.ops (drawn_point q) 0 (map g.EF.Algebra.embedding (map B l))) c.as_slice.ensures in
     let pair = c.new_unpacked-pair.result in
     let made = c.new_unpacked-pair.ensures in
     let is = pair-made e.number q pair c.in_ok-left.left c.in_ok-right.right c.in_ok-left.ensures.variables c.in_ok-right.ensures.variables made.variables made.basis made.order
     made.evals made.weights (c.in_ok-left.ensures.table copy drawn) (c.in_ok-right.ensures.table copy drawn) in
-    let after = standing_of c.compute_sumcheck_polynomials.new.self c.compute_sumcheck_polynomials.new.sumcheck_data
+    let after = prover_state_of c.compute_sumcheck_polynomials.new.self c.compute_sumcheck_polynomials.new.sumcheck_data
     (g.C.Challenger.party c.compute_sumcheck_polynomials.new.challenger).history in
     let same = batch-is q ring (c.in_ok-copied.ensures.rules ∙ c.in_ok-point.ensures.rules) (c.in_ok-copied.ensures.history ∙ c.in_ok-point.ensures.after) (c.new-prover.ensures.shown ∙ shown-pair q ring e.number pair c.claim_at-claim.result is claim)
     c.new-rounds.ensures (sym g.met.EF.ExtensionField.degree_is) c.variables.ensures.number in

@@ -1,7 +1,7 @@
 use Rattle.std.proofs.Common.{◌≡◌, Err, map, Some, refl, sym, ◌∙◌, ap, subst}
 use Rattle.std.proofs.lemmas.List.{length-map}
-use Rattle.sc_definitions.specs.Channels.{Footing, footing}
-use Rattle.sc_definitions.specs.Statements.{powers_sum}
+use Rattle.sc_definitions.specs.Channels.{VerifierState, verifier_state}
+use Rattle.sc_definitions.specs.Statements.{batched_by_powers}
 use Rattle.sc_transcript.specs.Causes.{cause_of}
 use Rattle.sc_transcript.specs.Data.{wire_in}
 use Rattle.sc_transcript.specs.Walks.{IsWalked}
@@ -25,10 +25,10 @@ returns-in-Err-clause-answered g c = λ party at.
     let q : MatmulCase = case_by c.args.fitting.now party in
     let w = wire_in B N c.args.rounds in
     let claim : N c.claim_at-claim.result ≡ entries_claim q =
-    c.claim_at-claim.ensures ∙ ap (λ x. powers_sum o x 0 (map emb (map B c.as_slice.result.now))) at.point
-    ∙ ap (λ l. powers_sum o (drawn_point q) 0 (map emb (map B l))) c.as_slice.ensures in
+    c.claim_at-claim.ensures ∙ ap (λ x. batched_by_powers o x 0 (map emb (map B c.as_slice.result.now))) at.point
+    ∙ ap (λ l. batched_by_powers o (drawn_point q) 0 (map emb (map B l))) c.as_slice.ensures in
     let after = g.C.Challenger.party c.verify_rounds.new.challenger in
-    let end : Footing = footing after.history (N c.verify_rounds.new.claimed_sum) in
+    let end : VerifierState = verifier_state after.history (N c.verify_rounds.new.claimed_sum) in
     let untouched = IsUnmoved (place (g.C.Challenger.party c.args.challenger.now) c.claim_at-claim.result) (place after c.verify_rounds.new.claimed_sum) in
     let same = replay-is q w at.rules at.history c.variables.ensures.number (sym g.met.EF.ExtensionField.degree_is) claim in
     let left = subst (λ (p : Replay). LeavesReplay untouched p (Err (cause_of c.in-Err.error)) end) same c.in-Err.ensures.left in
@@ -42,7 +42,7 @@ report_on-requires-clause-challenges g c =
     let N = g.EF.Field.number in
     let w = wire_in B N c.args.rounds in
     let rs = map N c.in-Ok.challenges in
-    let end : Footing = footing (g.C.Challenger.party c.verify_rounds.new.challenger).history (N c.verify_rounds.new.claimed_sum) in
+    let end : VerifierState = verifier_state (g.C.Challenger.party c.verify_rounds.new.challenger).history (N c.verify_rounds.new.claimed_sum) in
     sym (length-map c.in-Ok.challenges N) ∙ walked-count _ w rs end refl c.in-Ok.ensures.left.1
     ∙ (counted (side_variables (cols_in c.args.fitting.now.left.now)) c.args.fitting.now.pow_bits w c.requires.counted).0
 
@@ -56,11 +56,11 @@ returns-in_err-report-clause-answered g c = λ party at.
     let q : MatmulCase = case_by c.args.fitting.now party in
     let w = wire_in B N c.args.rounds in
     let claim : N c.claim_at-claim.result ≡ entries_claim q =
-    c.claim_at-claim.ensures ∙ ap (λ x. powers_sum o x 0 (map emb (map B c.as_slice.result.now))) at.point
-    ∙ ap (λ l. powers_sum o (drawn_point q) 0 (map emb (map B l))) c.as_slice.ensures in
+    c.claim_at-claim.ensures ∙ ap (λ x. batched_by_powers o x 0 (map emb (map B c.as_slice.result.now))) at.point
+    ∙ ap (λ l. batched_by_powers o (drawn_point q) 0 (map emb (map B l))) c.as_slice.ensures in
     let rs = map N c.in-Ok.challenges in
     let after = g.C.Challenger.party c.verify_rounds.new.challenger in
-    let end : Footing = footing after.history (N c.verify_rounds.new.claimed_sum) in
+    let end : VerifierState = verifier_state after.history (N c.verify_rounds.new.claimed_sum) in
     let same = replay-is q w at.rules at.history c.variables.ensures.number (sym g.met.EF.ExtensionField.degree_is) claim in
     let walked = subst (λ (p : Replay). IsWalked p.walk rs end) same c.in-Ok.ensures.left.1 in
     subst (λ a. IsAnswered q (Some w) a after.history) (sym (passed_on B N c.from_residual.result NoMemory c.from_residual.ensures.1))
@@ -76,10 +76,10 @@ returns-clause-answered g c = λ party at.
     let q : MatmulCase = case_by c.args.fitting.now party in
     let w = wire_in B N c.args.rounds in
     let claim : N c.claim_at-claim.result ≡ entries_claim q =
-    c.claim_at-claim.ensures ∙ ap (λ x. powers_sum o x 0 (map emb (map B c.as_slice.result.now))) at.point
-    ∙ ap (λ l. powers_sum o (drawn_point q) 0 (map emb (map B l))) c.as_slice.ensures in
+    c.claim_at-claim.ensures ∙ ap (λ x. batched_by_powers o x 0 (map emb (map B c.as_slice.result.now))) at.point
+    ∙ ap (λ l. batched_by_powers o (drawn_point q) 0 (map emb (map B l))) c.as_slice.ensures in
     let rs = map N c.in-Ok.challenges in
-    let end : Footing = footing (g.C.Challenger.party c.verify_rounds.new.challenger).history (N c.verify_rounds.new.claimed_sum) in
+    let end : VerifierState = verifier_state (g.C.Challenger.party c.verify_rounds.new.challenger).history (N c.verify_rounds.new.claimed_sum) in
     let same = replay-is q w at.rules at.history c.variables.ensures.number (sym g.met.EF.ExtensionField.degree_is) claim in
     let walked = subst (λ (p : Replay). IsWalked p.walk rs end) same c.in-Ok.ensures.left.1 in
     whole-answered q w c.requires.counted rs end (figures_in B N c.in_ok-report.report) walked

@@ -1,6 +1,6 @@
 use Rattle.std.proofs.Common.{sym, ◌∙◌, arith}
 use Rattle.sc_matmul.proofs.SideLaws.{side-found, side-none, side-large}
-use Rattle.sc_verdicts.proofs.ArityLaws.{arity-tells}
+use Rattle.sc_audit_errors.proofs.ArityLaws.{arity-tells}
 use Rattle.sc_matmul.proofs.shape.variables_of.Goals as goal
 use Rattle.sc_matmul.proofs.shape.variables_of.Goals.{in_default-via-in-Some+else-n-le-MOST_SIDE_VARIABLES, in_default-via-in_default}
 

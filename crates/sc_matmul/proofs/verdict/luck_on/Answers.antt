@@ -6,7 +6,7 @@ use Rattle.sc_definitions.specs.Lucky.{course_on, first_turn, in_batch, in_round
 use Rattle.sc_definitions.proofs.ReplayLaws.{messages-given_rounds}
 use Rattle.sc_transcript.specs.Data.{pair_of, wire_in}
 use Rattle.sc_rounds.specs.Turns.{turn_in}
-use Rattle.sc_verdicts.specs.Findings.{Finding, lucky, named}
+use Rattle.sc_audit_errors.specs.Findings.{Finding, lucky, named}
 use Rattle.sc_merge_definitions.specs.Matrices.{MatmulCase, matmul_tables, inner_variables, matmul_stage}
 use Rattle.sc_matmul.specs.FittingClaims.{case_by}
 use Rattle.sc_matmul.specs.MatmulRounds.{rounds_given}

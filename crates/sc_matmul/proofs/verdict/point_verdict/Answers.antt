@@ -1,7 +1,7 @@
 use Rattle.std.proofs.Common.{map, ◌∙◌, ap}
 use Rattle.sc_definitions.specs.Roots.{root_count}
 use Rattle.sc_definitions.specs.Lucky.{in_batch}
-use Rattle.sc_verdicts.specs.Findings.{lucky}
+use Rattle.sc_audit_errors.specs.Findings.{lucky}
 use Rattle.sc_matmul.proofs.verdict.point_verdict.Goals as goal
 
 pub returns : goal.returns

@@ -5,7 +5,7 @@ use Rattle.sc_transcript.specs.declared.rounds.BatchShape.{BatchShape}
 use Rattle.sc_transcript.specs.Drivers.{channel_of}
 use Rattle.sc_transcript.specs.Transcripts.{driver_in}
 use Rattle.sc_transcript.proofs.ReplayedLaws.{same_channel}
-use Rattle.sc_merged.specs.MergedPlays.{standing_in, IsMergedRound, IsHalted, ArePlayed}
+use Rattle.sc_merged.specs.MergedPlays.{prover_state_in, IsMergedRound, IsHalted, ArePlayed}
 use Rattle.sc_merged.proofs.PlayLaws.{played-none, played-more, stopped}
 use Rattle.sc_merged.proofs.play.play_rounds.Goals as goal
 
@@ -14,7 +14,7 @@ loop-round-init g c =
     let e = g.EF.Field in
     let begun = driver_in c.args.transcript.now in
     let C = channel_of g.EF.ExtensionField.extension begun in
-    let start = standing_in g.F.Field.number e.number c.args.tables.now c.args.sumcheck_data.now begun.history in
+    let start = prover_state_in g.F.Field.number e.number c.args.tables.now c.args.sumcheck_data.now begun.history in
     record {
       continues = record { lender = refl; rules = refl; shape = refl; kind = refl };
       count = c.requires.none_played;
@@ -34,9 +34,9 @@ loop-round-preserved g c =
     let round = c.in-Ok.ensures in
     let begun = driver_in c.args.transcript.now in
     let C = channel_of g.EF.ExtensionField.extension begun in
-    let start = standing_in base N c.args.tables.now c.args.sumcheck_data.now begun.history in
-    let s = standing_in base N c.loop-round.tables c.loop-round.sumcheck_data (driver_in c.loop-round.transcript).history in
-    let t = standing_in base N c.play_round.new.tables c.play_round.new.sumcheck_data (driver_in c.play_round.new.transcript).history in
+    let start = prover_state_in base N c.args.tables.now c.args.sumcheck_data.now begun.history in
+    let s = prover_state_in base N c.loop-round.tables c.loop-round.sumcheck_data (driver_in c.loop-round.transcript).history in
+    let t = prover_state_in base N c.play_round.new.tables c.play_round.new.sumcheck_data (driver_in c.play_round.new.transcript).history in
     let same = same_channel g.F.Field.ops.size inv.continues.rules (ap (λ (b : BatchShape). b.pow_bits) inv.continues.shape) in
     let one = subst (λ (k : Channel). IsMergedRound e.ops k s t (N c.in-Ok.r)) same round.round in
     record {
@@ -64,9 +64,9 @@ returns-in-Err-clause-rounds g c =
     let inv = c.loop-round.invariant in
     let begun = driver_in c.args.transcript.now in
     let C = channel_of g.EF.ExtensionField.extension begun in
-    let start = standing_in base N c.args.tables.now c.args.sumcheck_data.now begun.history in
-    let s = standing_in base N c.loop-round.tables c.loop-round.sumcheck_data (driver_in c.loop-round.transcript).history in
-    let t = standing_in base N c.play_round.new.tables c.play_round.new.sumcheck_data (driver_in c.play_round.new.transcript).history in
+    let start = prover_state_in base N c.args.tables.now c.args.sumcheck_data.now begun.history in
+    let s = prover_state_in base N c.loop-round.tables c.loop-round.sumcheck_data (driver_in c.loop-round.transcript).history in
+    let t = prover_state_in base N c.play_round.new.tables c.play_round.new.sumcheck_data (driver_in c.play_round.new.transcript).history in
     let same = same_channel g.F.Field.ops.size inv.continues.rules (ap (λ (b : BatchShape). b.pow_bits) inv.continues.shape) in
     let played = (driver_in c.loop-round.transcript).played in
     let count : length (map N c.loop-round.challenges.items) ≡ played = length-map c.loop-round.challenges.items N ∙ inv.made ∙ sym inv.count in

@@ -3,7 +3,7 @@ use Rattle.std.proofs.lemmas.List.{length-map}
 use Rattle.sc_definitions.specs.Tables.{evaluation}
 use Rattle.sc_definitions.specs.Polynomials.{poly_minus}
 use Rattle.sc_definitions.specs.Rounds.{sent_polynomial}
-use Rattle.sc_definitions.specs.Standings.{half_rows}
+use Rattle.sc_definitions.specs.ProverStates.{half_rows}
 use Rattle.sc_soundness.specs.Merged.{merged_message}
 use Rattle.sc_transcript.specs.Data.{pair_of}
 use Rattle.sc_merged.specs.MergedViews.{pairs_in}

@@ -10,7 +10,7 @@ use Rattle.sc_definitions.specs.Seeds.{quadratic_seed}
 use Rattle.sc_definitions.specs.Channels.{channel}
 use Rattle.sc_definitions.proofs.BuiltLaws.{length-challenges}
 use Rattle.sc_merge_definitions.specs.Openings.{OpeningsCase, merging_challenge, after_merging}
-use Rattle.sc_merged.specs.MergedPlays.{standing_in, seeded, ArePlayed, LeavesPlay}
+use Rattle.sc_merged.specs.MergedPlays.{prover_state_in, seeded, ArePlayed, LeavesPlay}
 use Rattle.sc_openings.specs.OpeningsJobs.{fields}
 use Rattle.sc_openings.specs.OpeningsRounds.{rounds_start}
 use Rattle.sc_openings.specs.FittingClaims.{claimed_by, case_by}
@@ -39,8 +39,8 @@ returns-in-Err g c =
       history = c.in_ok-challenge.ensures.after ∙ ap (λ l. copy.history ++ sent E l ++ replicate E.degree Draw) claimed;
     } in
     let is = c.in_ok-tables.ensures.tables copy at.challenge in
-    let before = standing_in B N c.in_ok-tables.tables c.new-rounds.result (g.C.Challenger.party c.in_ok-copied.copied).history in
-    let after = standing_in B N c.play-played.new.self c.play-played.new.sumcheck_data (g.C.Challenger.party c.play-played.new.challenger).history in
+    let before = prover_state_in B N c.in_ok-tables.tables c.new-rounds.result (g.C.Challenger.party c.in_ok-copied.copied).history in
+    let after = prover_state_in B N c.play-played.new.self c.play-played.new.sumcheck_data (g.C.Challenger.party c.play-played.new.challenger).history in
     let start = seeded q.channel before in
     let rules = c.in_ok-copied.ensures.rules ∙ at.rules in
     let left = subst (λ R. LeavesPlay (map N) e.ops (channel R E g.F.Field.ops.size fitting.pow_bits) before after (Err c.in-Err.error)) rules c.in-Err.ensures.left in
@@ -83,8 +83,8 @@ returns g c =
       history = c.in_ok-challenge.ensures.after ∙ ap (λ l. copy.history ++ sent E l ++ replicate E.degree Draw) claimed;
     } in
     let is = c.in_ok-tables.ensures.tables copy at.challenge in
-    let before = standing_in B N c.in_ok-tables.tables c.new-rounds.result (g.C.Challenger.party c.in_ok-copied.copied).history in
-    let after = standing_in B N c.play-played.new.self c.play-played.new.sumcheck_data (g.C.Challenger.party c.play-played.new.challenger).history in
+    let before = prover_state_in B N c.in_ok-tables.tables c.new-rounds.result (g.C.Challenger.party c.in_ok-copied.copied).history in
+    let after = prover_state_in B N c.play-played.new.self c.play-played.new.sumcheck_data (g.C.Challenger.party c.play-played.new.challenger).history in
     let start = seeded q.channel before in
     let rs = map N c.in-Ok.challenges in
     let rules = c.in_ok-copied.ensures.rules ∙ at.rules in

@@ -1,7 +1,7 @@
 use Rattle.std.proofs.Common.{◌≡◌, ◌++◌, Err, length, map, Some, refl, sym, ◌∙◌, ap, subst}
 use Rattle.std.proofs.lemmas.List.{length-map}
-use Rattle.sc_definitions.specs.Channels.{Footing, footing}
-use Rattle.sc_definitions.specs.Statements.{powers_sum}
+use Rattle.sc_definitions.specs.Channels.{VerifierState, verifier_state}
+use Rattle.sc_definitions.specs.Statements.{batched_by_powers}
 use Rattle.sc_definitions.specs.Transcript.{sent}
 use Rattle.sc_transcript.specs.Causes.{cause_of}
 use Rattle.sc_transcript.specs.Walks.{IsWalked}
@@ -25,10 +25,10 @@ returns-in-Err-clause-answered g c = λ party at.
     let came : CameOpenings = came_in B N c.args.proof in
     let none = counted-case q came g.EF.Algebra.embedding B fitting.tables.now refl c.requires.counted in
     let claim : N c.claim_at-claim.result ≡ merging_claim q =
-    c.claim_at-claim.ensures ∙ ap (λ x. powers_sum q.ops x 0 (map N c.deref.result.now)) at.challenge
-    ∙ ap (powers_sum q.ops (merging_challenge q) 0) (ap (map N) c.deref.ensures.value ∙ (c.requires.values party).claimed) in
+    c.claim_at-claim.ensures ∙ ap (λ x. batched_by_powers q.ops x 0 (map N c.deref.result.now)) at.challenge
+    ∙ ap (batched_by_powers q.ops (merging_challenge q) 0) (ap (map N) c.deref.ensures.value ∙ (c.requires.values party).claimed) in
     let after = g.C.Challenger.party c.verify_rounds.new.challenger in
-    let end : Footing = footing after.history (N c.verify_rounds.new.claimed_sum) in
+    let end : VerifierState = verifier_state after.history (N c.verify_rounds.new.claimed_sum) in
     let untouched = IsUnmoved (place (g.C.Challenger.party c.args.challenger.now) c.claim_at-claim.result) (place after c.verify_rounds.new.claimed_sum) in
     let same = replay-is q came at.rules at.history refl (sym g.met.EF.ExtensionField.degree_is) claim in
     let left = subst (λ (p : Replay). LeavesReplay untouched p (Err (cause_of c.in-Err.error)) end) same c.in-Err.ensures.left in
@@ -45,10 +45,10 @@ returns-in_err-observe_openings-clause-answered g c = λ party at.
     let came : CameOpenings = came_in B N c.args.proof in
     let none = counted-case q came g.EF.Algebra.embedding B fitting.tables.now refl c.requires.counted in
     let claim : N c.claim_at-claim.result ≡ merging_claim q =
-    c.claim_at-claim.ensures ∙ ap (λ x. powers_sum q.ops x 0 (map N c.deref.result.now)) at.challenge
-    ∙ ap (powers_sum q.ops (merging_challenge q) 0) (ap (map N) c.deref.ensures.value ∙ (c.requires.values party).claimed) in
+    c.claim_at-claim.ensures ∙ ap (λ x. batched_by_powers q.ops x 0 (map N c.deref.result.now)) at.challenge
+    ∙ ap (batched_by_powers q.ops (merging_challenge q) 0) (ap (map N) c.deref.ensures.value ∙ (c.requires.values party).claimed) in
     let rs = map N c.in-Ok.challenges in
-    let end : Footing = footing (g.C.Challenger.party c.verify_rounds.new.challenger).history (N c.verify_rounds.new.claimed_sum) in
+    let end : VerifierState = verifier_state (g.C.Challenger.party c.verify_rounds.new.challenger).history (N c.verify_rounds.new.claimed_sum) in
     let h' = (g.C.Challenger.party c.observe_openings.new.challenger).history in
     let same = replay-is q came at.rules at.history refl (sym g.met.EF.ExtensionField.degree_is) claim in
     let walked = subst (λ (p : Replay). IsWalked p.walk rs end) same c.in-Ok.ensures.left.1 in
@@ -63,7 +63,7 @@ report_on-requires-clause-challenges g c =
     let fitting = c.args.fitting.now in
     let came : CameOpenings = came_in B N c.args.proof in
     let rs = map N c.in-Ok.challenges in
-    let end : Footing = footing (g.C.Challenger.party c.verify_rounds.new.challenger).history (N c.verify_rounds.new.claimed_sum) in
+    let end : VerifierState = verifier_state (g.C.Challenger.party c.verify_rounds.new.challenger).history (N c.verify_rounds.new.claimed_sum) in
     sym (length-map c.in-Ok.challenges N) ∙ walked-count _ came.wire rs end refl c.in-Ok.ensures.left.1
     ∙ (rounds-counted (length fitting.tables.now) fitting.num_variables fitting.pow_bits came c.requires.counted).0
 
@@ -77,10 +77,10 @@ returns-in_err-report-clause-answered g c = λ party at.
     let came : CameOpenings = came_in B N c.args.proof in
     let none = counted-case q came g.EF.Algebra.embedding B fitting.tables.now refl c.requires.counted in
     let claim : N c.claim_at-claim.result ≡ merging_claim q =
-    c.claim_at-claim.ensures ∙ ap (λ x. powers_sum q.ops x 0 (map N c.deref.result.now)) at.challenge
-    ∙ ap (powers_sum q.ops (merging_challenge q) 0) (ap (map N) c.deref.ensures.value ∙ (c.requires.values party).claimed) in
+    c.claim_at-claim.ensures ∙ ap (λ x. batched_by_powers q.ops x 0 (map N c.deref.result.now)) at.challenge
+    ∙ ap (batched_by_powers q.ops (merging_challenge q) 0) (ap (map N) c.deref.ensures.value ∙ (c.requires.values party).claimed) in
     let rs = map N c.in-Ok.challenges in
-    let end : Footing = footing (g.C.Challenger.party c.verify_rounds.new.challenger).history (N c.verify_rounds.new.claimed_sum) in
+    let end : VerifierState = verifier_state (g.C.Challenger.party c.verify_rounds.new.challenger).history (N c.verify_rounds.new.claimed_sum) in
     let h' = (g.C.Challenger.party c.observe_openings.new.challenger).history in
     let same = replay-is q came at.rules at.history refl (sym g.met.EF.ExtensionField.degree_is) claim in
     let walked = subst (λ (p : Replay). IsWalked p.walk rs end) same c.in-Ok.ensures.left.1 in
@@ -98,10 +98,10 @@ returns-clause-answered g c = λ party at.
     let came : CameOpenings = came_in B N c.args.proof in
     let none = counted-case q came g.EF.Algebra.embedding B fitting.tables.now refl c.requires.counted in
     let claim : N c.claim_at-claim.result ≡ merging_claim q =
-    c.claim_at-claim.ensures ∙ ap (λ x. powers_sum q.ops x 0 (map N c.deref.result.now)) at.challenge
-    ∙ ap (powers_sum q.ops (merging_challenge q) 0) (ap (map N) c.deref.ensures.value ∙ (c.requires.values party).claimed) in
+    c.claim_at-claim.ensures ∙ ap (λ x. batched_by_powers q.ops x 0 (map N c.deref.result.now)) at.challenge
+    ∙ ap (batched_by_powers q.ops (merging_challenge q) 0) (ap (map N) c.deref.ensures.value ∙ (c.requires.values party).claimed) in
     let rs = map N c.in-Ok.challenges in
-    let end : Footing = footing (g.C.Challenger.party c.verify_rounds.new.challenger).history (N c.verify_rounds.new.claimed_sum) in
+    let end : VerifierState = verifier_state (g.C.Challenger.party c.verify_rounds.new.challenger).history (N c.verify_rounds.new.claimed_sum) in
     let h' = (g.C.Challenger.party c.observe_openings.new.challenger).history in
     let same = replay-is q came at.rules at.history refl (sym g.met.EF.ExtensionField.degree_is) claim in
     let walked = subst (λ (p : Replay). IsWalked p.walk rs end) same c.in-Ok.ensures.left.1 in

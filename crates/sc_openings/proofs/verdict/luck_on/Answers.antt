@@ -7,7 +7,7 @@ use Rattle.sc_definitions.specs.Roots.{root_count}
 use Rattle.sc_definitions.specs.Lucky.{first_turn, in_batch, in_round}
 use Rattle.sc_definitions.proofs.ReplayLaws.{messages-given_rounds}
 use Rattle.sc_transcript.specs.Data.{pair_of, wire_in}
-use Rattle.sc_verdicts.specs.Findings.{Finding, lucky, named}
+use Rattle.sc_audit_errors.specs.Findings.{Finding, lucky, named}
 use Rattle.sc_soundness.specs.Merged.{merged_inner, merged_course}
 use Rattle.sc_merge_definitions.specs.Openings.{merging_claim, weighted_tables, openings_stage}
 use Rattle.sc_merged.specs.MergedViews.{left_in, pairs_in}

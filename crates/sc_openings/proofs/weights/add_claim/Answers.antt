@@ -1,7 +1,7 @@
 use Rattle.std.proofs.Common.{◌^◌, ◌<◌, length, map, sym, ◌∙◌, ap, subst}
 use Rattle.std.proofs.lemmas.List.{length-map}
 use Rattle.sc_definitions.specs.Ring.{plus, times}
-use Rattle.sc_definitions.specs.Tables.{weight}
+use Rattle.sc_definitions.specs.Tables.{equality_weight}
 use Rattle.sc_definitions.specs.Statements.{successor_weight, weight_of}
 use Rattle.sc_definitions.proofs.RingLaws.{times_comm, times-one, element-times}
 use Rattle.sc_merge_definitions.specs.Openings.{claim_kind}
@@ -36,9 +36,9 @@ returns-in_ok-weights-2-clause-weights g c = λ b low.
     let ring = g.met.EF.Field.is_field.ring in
     let claim = c.args.claim.now in
     let zs = map N claim.point in
-    let term = times o (N c.args.scale) (weight o zs b) in
+    let term = times o (N c.args.scale) (equality_weight o zs b) in
     let within : b < 2 ^ length claim.point = subst (λ k. b < 2 ^ k) (sym c.requires.point) low in
     c.add_equality.ensures.weights b low
     ∙ ap (λ t. plus o (weights_in N c.args.pair.now b) (times o 1 t)) (c.in_ok-weights-2.ensures.weights b within)
-    ∙ ap (plus o (weights_in N c.args.pair.now b)) (times_comm o ring 1 term ∙ times-one o ring term ∙ element-times o ring (N c.args.scale) (weight o zs b))
+    ∙ ap (plus o (weights_in N c.args.pair.now b)) (times_comm o ring 1 term ∙ times-one o ring term ∙ element-times o ring (N c.args.scale) (equality_weight o zs b))
     ∙ sym (ap (λ s. plus o (weights_in N c.args.pair.now b) (times o (N c.args.scale) (weight_of o (claim_kind s zs) b))) c.if-claim.false)

@@ -1,6 +1,6 @@
 use Rattle.std.proofs.Common.{◌∙◌}
 use Rattle.sc_definitions.specs.Tables.{entries}
-use Rattle.sc_definitions.specs.Grids.{nought, infinity}
+use Rattle.sc_definitions.specs.Grids.{digit_zero, infinity}
 use Rattle.sc_table.specs.Strategy.{order_of}
 use Rattle.sc_partials.proofs.ProductLaws.{gains-three_variables, cube-infinity}
 use Rattle.sc_partials.proofs.products.add_of_three.Goals as goal
@@ -11,8 +11,8 @@ returns-clause-at_zero g c =
     let x = c.cube_of-x.result in
     let y = c.cube_of-y.result in
     gains-three_variables e.number e.ops g.met.EF.Field.is_field.ring (order_of c.args.order) (entries e.number c.args.table.now) (entries e.number c.args.weights.now)
-    nought x.low y.low c.args.at_zero.now c.add_squares.new.sums
-    (λ d s. c.cube_of-x.ensures d s nought) (λ d s. c.cube_of-y.ensures d s nought) c.add_squares.ensures
+    digit_zero x.low y.low c.args.at_zero.now c.add_squares.new.sums
+    (λ d s. c.cube_of-x.ensures d s digit_zero) (λ d s. c.cube_of-y.ensures d s digit_zero) c.add_squares.ensures
 
 pub returns-clause-at_infinity : goal.returns-clause-at_infinity
 returns-clause-at_infinity g c =

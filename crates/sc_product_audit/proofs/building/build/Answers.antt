@@ -1,5 +1,5 @@
 use Rattle.std.proofs.Common.{Err, map, refl, sym, subst}
-use Rattle.sc_definitions.specs.Channels.{Footing, channel, footing}
+use Rattle.sc_definitions.specs.Channels.{VerifierState, channel, verifier_state}
 use Rattle.sc_transcript.specs.Walks.{IsWalked}
 use Rattle.sc_transcript.specs.Replayed.{Replay}
 use Rattle.sc_degree.specs.Proofs.{proof_wire, LeavesVerify}
@@ -32,7 +32,7 @@ returns-in-Ok-verify g c =
     let built = c.in-Ok.built in
     let came = proof_wire B N built.proof in
     let rs = map N c.in-Ok-verify.challenges in
-    let end : Footing = footing (g.C.Challenger.party c.verify.new.challenger).history (N c.in-Ok-verify.residual) in
+    let end : VerifierState = verifier_state (g.C.Challenger.party c.verify.new.challenger).history (N c.in-Ok-verify.residual) in
     let same = replay-is k _ _ (N built.proof.claimed_sum) came c.num_variables-variables.ensures c.degree-degree.ensures in
     let replayed = subst (λ (p : Replay). IsWalked p.walk rs end) same c.in-Ok-verify.ensures.left.1.1 in
     record {

@@ -1,7 +1,7 @@
 use Rattle.std.proofs.Common.{◌≡◌, ◌≢◌, Err, [], length, map, sym, ◌∙◌, ap, subst}
 use Rattle.std.specs.Prelude.{option_map}
 use Rattle.std.proofs.lemmas.List.{length-map}
-use Rattle.sc_definitions.specs.Channels.{Footing, channel, footing}
+use Rattle.sc_definitions.specs.Channels.{VerifierState, channel, verifier_state}
 use Rattle.sc_definitions.specs.Products.{values_product}
 use Rattle.sc_definitions.specs.Lucky.{first_turn, product_course}
 use Rattle.sc_transcript.specs.Walks.{IsWalked}
@@ -26,7 +26,7 @@ end_at-requires-clause-rounds g c =
     (channel (g.C.Challenger.party c.args.challenger.now).rules g.EF.ExtensionField.extension g.F.Field.ops.size c.args.pow_bits) (g.C.Challenger.party c.args.challenger.now).history in
     let p : ProductGiven = given_by B N c.args.proof in
     let rs = map N c.in-Ok.challenges in
-    let end : Footing = footing (g.C.Challenger.party c.verify.new.challenger).history (N c.in-Ok.residual) in
+    let end : VerifierState = verifier_state (g.C.Challenger.party c.verify.new.challenger).history (N c.in-Ok.residual) in
     let same = replay-is k _ _ p.claimed p.came c.num_variables-variables.ensures c.degree-degree.ensures in
     let counted = subst IsCounted same c.in-Ok.ensures.left.1.0 in
     let walked = subst (λ (t : Replay). IsWalked t.walk rs end) same c.in-Ok.ensures.left.1.1 in
@@ -46,7 +46,7 @@ returns-in_ok-product-in-Ok g c =
     let p : ProductGiven = given_by B N c.args.proof in
     let rs = map N c.in-Ok.challenges in
     let h' = (g.C.Challenger.party c.verify.new.challenger).history in
-    let end : Footing = footing h' (N c.in-Ok.residual) in
+    let end : VerifierState = verifier_state h' (N c.in-Ok.residual) in
     let same = replay-is k _ _ p.claimed p.came c.num_variables-variables.ensures c.degree-degree.ensures in
     let replayed = subst (λ (t : Replay). IsWalked t.walk rs end) same c.in-Ok.ensures.left.1.1 in
     let value : N c.in_ok-product-in-Ok.product ≡ values_product k.ops k.tables rs =
@@ -85,7 +85,7 @@ returns-in_err-product-in-Ok-clause-history g c =
     let p : ProductGiven = given_by B N c.args.proof in
     let rs = map N c.in-Ok.challenges in
     let h' = (g.C.Challenger.party c.verify.new.challenger).history in
-    let end : Footing = footing h' (N c.in-Ok.residual) in
+    let end : VerifierState = verifier_state h' (N c.in-Ok.residual) in
     let same = replay-is k _ _ p.claimed p.came c.num_variables-variables.ensures c.degree-degree.ensures in
     let replayed = subst (λ (t : Replay). IsWalked t.walk rs end) same c.in-Ok.ensures.left.1.1 in
     subst (λ a. LeavesHistory k (to_check p) a h') (sym (passed_on B N c.from_residual.result NoMemory c.from_residual.ensures.1)) (given-broken k p rs end replayed)

@@ -1,8 +1,8 @@
 use Rattle.std.proofs.Common.{◌≡◌, ◌^◌, All, length, Err, sym, ◌∙◌, ap, subst, arith, rules}
 use Rattle.std.proofs.lemmas.List.{take_all}
 use Rattle.std.proofs.lemmas.List.Elements.{All-more}
-use Rattle.sc_verdicts.specs.Arities.{arity_of}
-use Rattle.sc_verdicts.proofs.ArityLaws.{arity-tells, shifted}
+use Rattle.sc_audit_errors.specs.Arities.{arity_of}
+use Rattle.sc_audit_errors.proofs.ArityLaws.{arity-tells, shifted}
 use Rattle.sc_product_audit.proofs.TableShapes.{arity_with-all, arity_with-other, arity_over-first}
 use Rattle.sc_product_audit.proofs.shape.common_arity.Goals as goal
 

@@ -1,7 +1,7 @@
 use Rattle.std.proofs.Common.{◌-◌, ◌∙◌, ap, sym}
 use Rattle.std.proofs.lemmas.List.{append-nil}
 use Rattle.std.proofs.lemmas.Result.{IfOk-from_err}
-use Rattle.sc_statements.proofs.ConstraintPoints.{last_part, part_size, reversed_part, reversed_size, rest_within}
+use Rattle.sc_constraints.proofs.ConstraintPoints.{last_part, part_size, reversed_part, reversed_size, rest_within}
 use Rattle.sc_rounds.proofs.eval_constraints.last_point.Goals as goal
 
 pub returns-in-Suffix-clause-point : goal.returns-in-Suffix-clause-point

@@ -4,12 +4,12 @@ use Rattle.sc_definitions.specs.Rounds.{next_claim}
 use Rattle.sc_definitions.specs.Events.{words}
 use Rattle.sc_definitions.specs.Seeds.{quadratic_seed}
 use Rattle.sc_definitions.specs.declared.events.Event.{Event}
-use Rattle.sc_definitions.specs.Channels.{channel, Footing, footing, IsReplayed}
-use Rattle.sc_rounds.proofs.TakenLaws.{claim_begun, same_footing}
+use Rattle.sc_definitions.specs.Channels.{channel, VerifierState, verifier_state, IsReplayed}
+use Rattle.sc_rounds.proofs.TakenLaws.{claim_begun, same_verifier_state}
 use Rattle.sc_transcript.proofs.InStep.{message_count, found_count, same_challenges, same_ends, wants_memory, step_as, not_begun}
 use Rattle.sc_transcript.specs.Shapes.{shape_of, batch_of}
 use Rattle.sc_transcript.specs.Data.{wire_in}
-use Rattle.sc_transcript.specs.Replayed.{AreCounted, Replay, replay_of, LeavesReplay, place, footing_at, IsUnmoved}
+use Rattle.sc_transcript.specs.Replayed.{AreCounted, Replay, replay_of, LeavesReplay, place, verifier_state_at, IsUnmoved}
 use Rattle.sc_transcript.specs.Causes.{cause_of}
 use Rattle.sc_transcript.specs.Steps.{rounds_on}
 use Rattle.sc_rounds.specs.ProverViews.{shown_by, stated_to}
@@ -46,7 +46,7 @@ returns-in_err-replayed g c =
     let same = ap (λ R. channel R g.EF.ExtensionField.extension g.F.Field.ops.size c.args.pow_bits) c.requires.rules in
     let seed = λ (h : List Event). h ++ words (quadratic_seed g.EF.ExtensionField.DEGREE (shown_by c.args.prover.now).basis c.args.pow_bits c.args.folding_factor) in
     let claim = claim_begun g.EF.Field.ops (stated_to c.args.prover.now c.args.constraint) _ _ _ c.claimed_sum.ensures.number c.with_claim-claim.ensures in
-    let begun = same_footing (ap seed c.requires.history) claim in
+    let begun = same_verifier_state (ap seed c.requires.history) claim in
     let whole = c.in_ok-drawn.ensures.batch.whole in
     let played = c.in_ok-drawn.ensures.batch.played in
     let shape = batch_of (shape_of c.args.folding_factor c.args.pow_bits c.basis-basis.result) in
@@ -55,12 +55,12 @@ returns-in_err-replayed g c =
       as_witnesses = found_count _ _ _ _ C _ c.requires.empty same begun played c.args.folding_factor whole;
     } in
     let walk : Basis → Replay = λ b.
-    replay_of (next_claim b g.EF.Field.ops) C shape (footing ((g.C.Challenger.party c.args.verifier_challenger.now).history
+    replay_of (next_claim b g.EF.Field.ops) C shape (verifier_state ((g.C.Challenger.party c.args.verifier_challenger.now).history
     ++ words (quadratic_seed g.EF.ExtensionField.DEGREE b c.args.pow_bits c.args.folding_factor)) (N c.with_claim-claim.result))
     (wire_in g.F.Field.number N c.compute_sumcheck_polynomials.new.sumcheck_data) in
     let before = place (g.C.Challenger.party c.args.verifier_challenger.now) c.with_claim-claim.result in
     let after = place (g.C.Challenger.party c.verify_rounds.new.challenger) c.verify_rounds.new.claimed_sum in
-    let left = subst (λ p. LeavesReplay (IsUnmoved before after) p (Err (cause_of c.in_err-replayed.field-0.0)) (footing_at N after)) (ap walk c.basis-basis.ensures) c.in_err-replayed.ensures.left in
+    let left = subst (λ p. LeavesReplay (IsUnmoved before after) p (Err (cause_of c.in_err-replayed.field-0.0)) (verifier_state_at N after)) (ap walk c.basis-basis.ensures) c.in_err-replayed.ensures.left in
     let told = wants_memory _ _ _ _ C _ c.requires.empty same begun played _ _ shape c.in_err-replayed.field-0.0 _ counted left in
     record {
       step = step_as (map N) N _ _ _ _ c.from_residual-in_err-replayed.result _ (rw told.0 at c.from_residual-in_err-replayed.ensures.1)
@@ -78,14 +78,14 @@ returns g c =
     let same = ap (λ R. channel R g.EF.ExtensionField.extension g.F.Field.ops.size c.args.pow_bits) c.requires.rules in
     let seed = λ (h : List Event). h ++ words (quadratic_seed g.EF.ExtensionField.DEGREE (shown_by c.args.prover.now).basis c.args.pow_bits c.args.folding_factor) in
     let claim = claim_begun g.EF.Field.ops (stated_to c.args.prover.now c.args.constraint) _ _ _ c.claimed_sum.ensures.number c.with_claim-claim.ensures in
-    let begun = same_footing (ap seed c.requires.history) claim in
+    let begun = same_verifier_state (ap seed c.requires.history) claim in
     let played = c.in_ok-drawn.ensures.batch.played in
     let came = wire_in g.F.Field.number N c.compute_sumcheck_polynomials.new.sumcheck_data in
     let after = place (g.C.Challenger.party c.verify_rounds.new.challenger) c.verify_rounds.new.claimed_sum in
-    let from : Basis → Footing = λ b.
-    footing ((g.C.Challenger.party c.args.verifier_challenger.now).history
+    let from : Basis → VerifierState = λ b.
+    verifier_state ((g.C.Challenger.party c.args.verifier_challenger.now).history
     ++ words (quadratic_seed g.EF.ExtensionField.DEGREE b c.args.pow_bits c.args.folding_factor)) (N c.with_claim-claim.result) in
-    let replayed = subst (λ b. IsReplayed (next_claim b g.EF.Field.ops) C (from b) (footing_at N after) (rounds_on came) (map N c.in_ok-replayed.replayed))
+    let replayed = subst (λ b. IsReplayed (next_claim b g.EF.Field.ops) C (from b) (verifier_state_at N after) (rounds_on came) (map N c.in_ok-replayed.replayed))
     c.basis-basis.ensures c.in_ok-replayed.ensures.left.1.replays in
     record {
       step = record {

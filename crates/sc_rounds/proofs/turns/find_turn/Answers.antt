@@ -1,10 +1,10 @@
 use Rattle.std.proofs.Common.{◌≡◌, [], ◌∷◌, suc, ◌-◌, map, refl, sym, ap, subst, ◌∙◌, arith}
 use Rattle.std.proofs.lemmas.List.{length-map}
-use Rattle.sc_definitions.specs.Tables.{bound_in}
+use Rattle.sc_definitions.specs.Tables.{folded_in}
 use Rattle.sc_definitions.specs.Polynomials.{poly_minus}
 use Rattle.sc_definitions.specs.Rounds.{sent_polynomial, next_claim}
 use Rattle.sc_definitions.specs.Messages.{message_of}
-use Rattle.sc_definitions.specs.Standings.{half_rows}
+use Rattle.sc_definitions.specs.ProverStates.{half_rows}
 use Rattle.sc_transcript.specs.Data.{pair_of}
 use Rattle.sc_rounds.specs.Products.{variables_in, order_in, evals_in, weights_in}
 use Rattle.sc_definitions.proofs.FindLaws.{Finds, finds-begin, finds-more, finds-here, finds-none}
@@ -100,8 +100,8 @@ loop-i-preserved g c =
           ∙ ap (λ k. message_of p.basis p.order e.ops (half_rows k) (evals_in N pair) (weights_in N pair)) some)
           (c.reduce_claim-next_truth.ensures.claim ∙ ap (λ d. next_claim d e.ops (N c.loop-i.truth) (N h.c_a ∷ N h.c_inf ∷ []) (N c.index-challenges-i.result)) same)
           (λ same. c.if-index.false (c.index.ensures ∙ same ∙ sym c.index-in-loop-i.ensures)) (evals_in N new) (weights_in N new)
-          (λ b low. bound.evals b low ∙ ap (λ d. bound_in d (order_in pair) e.ops m (N x) (evals_in N pair) b) basis ∙ ap (λ d. bound_in p.basis d e.ops m (N x) (evals_in N pair) b) order)
-          (λ b low. bound.weights b low ∙ ap (λ d. bound_in d (order_in pair) e.ops m (N x) (weights_in N pair) b) basis ∙ ap (λ d. bound_in p.basis d e.ops m (N x) (weights_in N pair) b) order);
+          (λ b low. bound.evals b low ∙ ap (λ d. folded_in d (order_in pair) e.ops m (N x) (evals_in N pair) b) basis ∙ ap (λ d. folded_in p.basis d e.ops m (N x) (evals_in N pair) b) order)
+          (λ b low. bound.weights b low ∙ ap (λ d. folded_in d (order_in pair) e.ops m (N x) (weights_in N pair) b) basis ∙ ap (λ d. folded_in p.basis d e.ops m (N x) (weights_in N pair) b) order);
     }
 
 -- it never does

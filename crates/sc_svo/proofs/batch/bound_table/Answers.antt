@@ -1,11 +1,11 @@
 use Rattle.std.proofs.Common.{◌≡◌, ℕ, ◌^◌, ◌<◌, length, map, ◌∙◌, ap, sym, subst}
 use Rattle.std.proofs.lemmas.List.{length-map}
-use Rattle.sc_definitions.specs.Tables.{entries, weight}
+use Rattle.sc_definitions.specs.Tables.{entries, equality_weight}
 use Rattle.sc_definitions.proofs.PlacedSums.{length-point_of}
 use Rattle.sc_table.specs.SplitEqs.{split_variables, split_weight}
 use Rattle.sc_table.specs.Strategy.{order_of}
 use Rattle.sc_table.proofs.EntryLaws.{entry-below}
-use Rattle.sc_svo.proofs.PointParts.{weight-once, if_ok_both}
+use Rattle.sc_svo.proofs.PointParts.{equality_weight-once, if_ok_both}
 use Rattle.sc_svo.proofs.BoundLaws.{bound-first, bound-last}
 use Rattle.sc_svo.proofs.batch.bound_table.Goals as goal
 
@@ -19,8 +19,8 @@ returns-in-Prefix g c rs is =
     let k = split_variables split in
     let many : k ≡ length rs =
     c.in_ok-split.ensures.variables ∙ sym (length-map c.args.point.now e.number) ∙ ap length is ∙ length-point_of (order_of c.args.order) rs in
-    let weights : (b : ℕ) → b < 2 ^ k → split_weight e.number e.ops split b ≡ weight e.ops point b =
-    λ b low. weight-once e.ops ring point b (e.number c.ONE.result) _ (ap e.number c.ONE.ensures ∙ g.met.EF.Field.one_is)
+    let weights : (b : ℕ) → b < 2 ^ k → split_weight e.number e.ops split b ≡ equality_weight e.ops point b =
+    λ b low. equality_weight-once e.ops ring point b (e.number c.ONE.result) _ (ap e.number c.ONE.ensures ∙ g.met.EF.Field.one_is)
     (c.in_ok-split.ensures.weights b (subst (λ n. b < 2 ^ n) c.in_ok-split.ensures.variables low)) in
     let below : (b : ℕ) → entries of c.args.table.now b < e.ops.size =
     entry-below e.ops of ring (λ x. g.met.EF.Algebra.embeds.below (g.F.Field.number x) (g.met.F.Field.number_below x)) c.args.table.now in
@@ -39,8 +39,8 @@ returns g c rs is =
     let k = split_variables split in
     let many : k ≡ length rs =
     c.in_ok-split.ensures.variables ∙ sym (length-map c.args.point.now e.number) ∙ ap length is ∙ length-point_of (order_of c.args.order) rs in
-    let weights : (b : ℕ) → b < 2 ^ k → split_weight e.number e.ops split b ≡ weight e.ops point b =
-    λ b low. weight-once e.ops ring point b (e.number c.ONE.result) _ (ap e.number c.ONE.ensures ∙ g.met.EF.Field.one_is)
+    let weights : (b : ℕ) → b < 2 ^ k → split_weight e.number e.ops split b ≡ equality_weight e.ops point b =
+    λ b low. equality_weight-once e.ops ring point b (e.number c.ONE.result) _ (ap e.number c.ONE.ensures ∙ g.met.EF.Field.one_is)
     (c.in_ok-split.ensures.weights b (subst (λ n. b < 2 ^ n) c.in_ok-split.ensures.variables low)) in
     let below : (b : ℕ) → entries of c.args.table.now b < e.ops.size =
     entry-below e.ops of ring (λ x. g.met.EF.Algebra.embeds.below (g.F.Field.number x) (g.met.F.Field.number_below x)) c.args.table.now in

@@ -1,7 +1,7 @@
 use Rattle.std.proofs.Common.{◌≡◌, ℕ, ◌+◌, ◌^◌, ◌<◌, ◌≤◌, [], length, map, refl, ◌∙◌, ap, sym, subst, arith}
 use Rattle.std.proofs.lemmas.List.{with_items_is}
 use Rattle.sc_definitions.specs.Ring.{Ops}
-use Rattle.sc_definitions.specs.Tables.{evaluation, Order, prefix, suffix, entries, point_of, bound_by}
+use Rattle.sc_definitions.specs.Tables.{evaluation, Order, prefix, suffix, entries, point_of, folded_by}
 use Rattle.sc_definitions.specs.Combined.{combined_weight}
 use Rattle.sc_definitions.proofs.Lengths.{pow-same}
 use Rattle.sc_table.specs.Polys.{variables_of}
@@ -23,8 +23,8 @@ no_point suffix = refl
 no_more : (n : ℕ) → 2 ^ (length {A = ℕ} [] + n) ≡ 2 ^ n
 no_more n = let e : length {A = ℕ} [] + n ≡ n = omega arith in ap (λ k. 2 ^ k) e
 
-none_bound : (order : Order) (o : Ops) (m : ℕ) (f : ℕ → ℕ) (b : ℕ) → bound_by evaluation order o [] m f b ≡ f b
-unfolding bound_by
+none_bound : (order : Order) (o : Ops) (m : ℕ) (f : ℕ → ℕ) (b : ℕ) → folded_by evaluation order o [] m f b ≡ f b
+unfolding folded_by
 none_bound order o m f b = refl
 
 pub weights_at-requires-clause-few : goal.weights_at-requires-clause-few

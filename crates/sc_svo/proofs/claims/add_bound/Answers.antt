@@ -1,6 +1,6 @@
 use Rattle.std.proofs.Common.{◌≡◌, ℕ, ◌+◌, ◌^◌, List, length, map, ◌∙◌, ap, sym, subst, arith}
 use Rattle.std.proofs.lemmas.List.{length-map}
-use Rattle.sc_definitions.specs.Tables.{Order, prefix, suffix, weight, digits}
+use Rattle.sc_definitions.specs.Tables.{Order, prefix, suffix, equality_weight, digits}
 use Rattle.sc_definitions.specs.Statements.{successor_weight}
 use Rattle.sc_table.specs.Strategy.{order_of}
 use Rattle.sc_partials.specs.Partials.{joined}
@@ -64,6 +64,6 @@ returns g c m split =
           order suffix at (far_in p) m old w.accumulate_next_suffix_into.new.out (sym (ap order_of w.in-Suffix.is)) left long w.accumulate_next_suffix_into.auto.out many
           w.accumulate_next_suffix_into.ensures)
       | else-claim w ↦ subst (λ new. AddsRows e.number e.ops gain old new) (sym w.rows-is)
-          (bound-added e.ops ring e.number (weight e.ops) claim (point_in p) whole (λ b low. kind-equality e.ops ring claim.successor ys b w.if-claim.false)
+          (bound-added e.ops ring e.number (equality_weight e.ops) claim (point_in p) whole (λ b low. kind-equality e.ops ring claim.successor ys b w.if-claim.false)
           order (order_in p) at (far_in p) m old w.accumulate_into.new.out c.in_ok-point.ensures.order left long w.accumulate_into.auto.out many w.accumulate_into.ensures)
     ]

@@ -1,6 +1,6 @@
 use Rattle.std.proofs.Common.{map, ◌∙◌}
 use Rattle.std.proofs.lemmas.Result.{on_ok_weaker, IfOk-weaker}
-use Rattle.sc_definitions.specs.Tables.{entries, weight}
+use Rattle.sc_definitions.specs.Tables.{entries, equality_weight}
 use Rattle.sc_definitions.specs.Statements.{successor_weight}
 use Rattle.sc_table.specs.Strategy.{order_of}
 use Rattle.sc_svo.specs.Points.{order_in, point_in}
@@ -35,7 +35,7 @@ returns-clause-adds g c =
     let p = c.in_ok-point.point in
     let f = entries (λ (x : g.row.F.Denot). g.EF.Algebra.embedding (g.F.Field.number x)) c.args.table.now in
     on_ok_weaker c.add_equality.result
-    (claim-added e.ops g.met.EF.Field.is_field.ring e.number f (weight e.ops) claim (point_in p) c.in_ok-point.ensures.point (λ b low. kind-equality e.ops g.met.EF.Field.is_field.ring claim.successor (map e.number claim.point) b c.if-claim.false) (order_of c.args.order) (order_in p) c.args.sums.now
+    (claim-added e.ops g.met.EF.Field.is_field.ring e.number f (equality_weight e.ops) claim (point_in p) c.in_ok-point.ensures.point (λ b low. kind-equality e.ops g.met.EF.Field.is_field.ring claim.successor (map e.number claim.point) b c.if-claim.false) (order_of c.args.order) (order_in p) c.args.sums.now
     c.add_equality.new.sums c.in_ok-point.ensures.order c.requires.within)
     c.add_equality.ensures.adds
 
@@ -46,5 +46,5 @@ returns-clause-value g c =
     let p = c.in_ok-point.point in
     let f = entries (λ (x : g.row.F.Denot). g.EF.Algebra.embedding (g.F.Field.number x)) c.args.table.now in
     IfOk-weaker c.add_equality.result _ _
-    (λ v is. value-true e.ops g.met.EF.Field.is_field.ring e.number f (weight e.ops) claim (point_in p) c.in_ok-point.ensures.point (λ b low. kind-equality e.ops g.met.EF.Field.is_field.ring claim.successor (map e.number claim.point) b c.if-claim.false) (e.number v) (is ∙ value-inner e.ops g.met.EF.Field.is_field.ring f (point_in p)))
+    (λ v is. value-true e.ops g.met.EF.Field.is_field.ring e.number f (equality_weight e.ops) claim (point_in p) c.in_ok-point.ensures.point (λ b low. kind-equality e.ops g.met.EF.Field.is_field.ring claim.successor (map e.number claim.point) b c.if-claim.false) (e.number v) (is ∙ value-inner e.ops g.met.EF.Field.is_field.ring f (point_in p)))
     c.add_equality.ensures.value

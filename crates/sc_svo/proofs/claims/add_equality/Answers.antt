@@ -1,6 +1,6 @@
 use Rattle.std.proofs.Common.{◌≡◌, suc, ◌<◌, length, map, get_or, ◌∙◌, ap, sym, subst, arith}
 use Rattle.sc_definitions.specs.Ring.{times}
-use Rattle.sc_definitions.specs.Tables.{entries, weight}
+use Rattle.sc_definitions.specs.Tables.{entries, equality_weight}
 use Rattle.sc_definitions.specs.Partials.{partial}
 use Rattle.sc_table.specs.Strategy.{order_of}
 use Rattle.sc_partials.specs.Partials.{opened}
@@ -39,7 +39,7 @@ loop-j-init g c =
     let e = g.EF.Field in
     let p = c.args.point.now in
     added-none e.number e.ops (opened (order_in p) (entries (λ (x : g.row.F.Denot). g.EF.Algebra.embedding (g.F.Field.number x)) c.args.table.now) (point_in p))
-    (λ b. times e.ops (e.number c.args.coefficient) (weight e.ops (point_in p) b)) c.args.sums.now
+    (λ b. times e.ops (e.number c.args.coefficient) (equality_weight e.ops (point_in p) b)) c.args.sums.now
 
 pub loop-j-preserved : goal.loop-j-preserved
 loop-j-preserved g c =
@@ -58,7 +58,7 @@ loop-j-preserved g c =
     (order_of c.var_order-order.result) (map e.number c.as_slice-near.result.now) (entries e.number c.table-partial.result.now) c.var_order-order.ensures near
     (λ b below. entries-of_numbers e.number c.table-partial.result.now (suc j) (partial order e.ops f (point_in p) (suc j)) b (c.table-partial.ensures ∙ table) below)
     c.in_ok-add_round.ensures in
-    added-more e.number e.ops (opened order f (point_in p)) (λ b. times e.ops x (weight e.ops (point_in p) b)) c.args.sums.now j c.loop-j.sums c.index-sums-j.result c.add_round.new.sums
+    added-more e.number e.ops (opened order f (point_in p)) (λ b. times e.ops x (equality_weight e.ops (point_in p) b)) c.args.sums.now j c.loop-j.sums c.index-sums-j.result c.add_round.new.sums
     c.loop-j-test.true c.loop-j.invariant gains
 
 pub returns-clause-adds : goal.returns-clause-adds
@@ -66,7 +66,7 @@ returns-clause-adds g c =
     let e = g.EF.Field in
     let p = c.args.point.now in
     added-all e.number e.ops (opened (order_in p) (entries (λ (x : g.row.F.Denot). g.EF.Algebra.embedding (g.F.Field.number x)) c.args.table.now) (point_in p))
-    (λ b. times e.ops (e.number c.args.coefficient) (weight e.ops (point_in p) b)) c.args.sums.now c.loop-j.j c.loop-j.sums (omega (arith, c.loop-j-test.false)) c.loop-j.invariant
+    (λ b. times e.ops (e.number c.args.coefficient) (equality_weight e.ops (point_in p) b)) c.args.sums.now c.loop-j.j c.loop-j.sums (omega (arith, c.loop-j-test.false)) c.loop-j.invariant
 
 pub returns-clause-value : goal.returns-clause-value
 returns-clause-value g c =

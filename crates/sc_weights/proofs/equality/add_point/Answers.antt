@@ -1,6 +1,6 @@
 use Rattle.std.proofs.Common.{rules, ◌≡◌, ◌*◌, ◌^◌, ◌<◌, ◌≤◌, length, map, ◌∙◌, ap, sym, subst}
 use Rattle.sc_definitions.specs.Ring.{plus, times}
-use Rattle.sc_definitions.specs.Tables.{entries, weight}
+use Rattle.sc_definitions.specs.Tables.{entries, equality_weight}
 use Rattle.sc_table.proofs.BlockWeights.{parts-size, parts-size_of, parts-inner, parts-joined, blocks-joined}
 use Rattle.sc_weights.proofs.equality.add_point.Goals as goal
 
@@ -26,4 +26,4 @@ returns g c = λ b low.
     ∙ ap (λ k. plus f.ops (entries f.number c.args.rows.now b) (times f.ops (f.number c.args.scale) k))
     (blocks-joined f.ops g.met.EF.Field.is_field.ring (map f.number outer) (map f.number inner) (length weights) (parts-inner f.number z outer inner weights long parted.front parted.back many)
     (entries f.number weights) (λ k below. c.block_weights-weights.ensures k (subst (λ m. k < m) many below)) b inside
-    ∙ ap (λ l. weight f.ops l b) (parts-joined f.number z outer inner weights long parted.front parted.back many))
+    ∙ ap (λ l. equality_weight f.ops l b) (parts-joined f.number z outer inner weights long parted.front parted.back many))

@@ -1,17 +1,17 @@
 use Rattle.std.proofs.Common.{rules, ◌≡◌, ℕ, ◌+◌, ◌-◌, ◌/◌, ◌^◌, ◌<◌, ◌≤◌, ◌∷◌, length, map, take, drop, sym, ◌∙◌, ap, subst, arith}
 use Rattle.std.proofs.lemmas.List.{length-map}
 use Rattle.sc_definitions.specs.Ring.{plus, times}
-use Rattle.sc_definitions.specs.Tables.{sum_below, entries, monomial, inner}
+use Rattle.sc_definitions.specs.Tables.{sum_below, entries, monomial, inner_product}
 use Rattle.sc_definitions.proofs.Sums.{sum-same}
 use Rattle.sc_definitions.proofs.TableLaws.{two_halves}
 use Rattle.sc_field.specs.Products.{products}
 use Rattle.sc_table.proofs.EntryLaws.{entry-embedded}
 use Rattle.sc_weights.proofs.Halves.{split-first, low-shared, high-shared}
-use Rattle.sc_weights.proofs.ProductSteps.{inner-monomial, last-same, rest-size}
+use Rattle.sc_weights.proofs.ProductSteps.{inner_product-monomial, last-same, rest-size}
 use Rattle.sc_weights.proofs.select.+products_value_by_blocks.Goals as goal
 
 pub returns-then-z-eq-BLOCK_COORDINATES : goal.returns-then-z-eq-BLOCK_COORDINATES
-unfolding products inner
+unfolding products inner_product
 returns-then-z-eq-BLOCK_COORDINATES g t c =
     let f = g.EF.Field in
     let embed = g.EF.Algebra-2.embedding in
@@ -104,12 +104,12 @@ returns g t c =
     let low : ℕ → ℕ = λ b. embed (entries g.A.Field.number c.split_at.result.0.now b) in
     let high : ℕ → ℕ = λ b. embed (entries g.A.Field.number c.split_at.result.1.now b) in
     let table : ℕ → ℕ = λ b. embed (entries g.A.Field.number rows b) in
-    let lo : f.number c.products_value_by_blocks-lo.result ≡ inner f.ops (length zs) low (monomial f.ops zs) = c.products_value_by_blocks-lo.ensures ∙ ap (λ n. inner f.ops n low (monomial f.ops zs)) (sym arity) in
-    let hi : f.number c.products_value_by_blocks-hi.result ≡ inner f.ops (length zs) high (monomial f.ops zs) = c.products_value_by_blocks-hi.ensures ∙ ap (λ n. inner f.ops n high (monomial f.ops zs)) (sym arity) in
+    let lo : f.number c.products_value_by_blocks-lo.result ≡ inner_product f.ops (length zs) low (monomial f.ops zs) = c.products_value_by_blocks-lo.ensures ∙ ap (λ n. inner_product f.ops n low (monomial f.ops zs)) (sym arity) in
+    let hi : f.number c.products_value_by_blocks-hi.result ≡ inner_product f.ops (length zs) high (monomial f.ops zs) = c.products_value_by_blocks-hi.ensures ∙ ap (λ n. inner_product f.ops n high (monomial f.ops zs)) (sym arity) in
     c.add.ensures ∙ ap (plus f.ops (f.number c.products_value_by_blocks-lo.result)) c.mul_base.ensures
     ∙ ap (λ k. plus f.ops k (times f.ops (f.number c.products_value_by_blocks-hi.result) (of first))) lo
-    ∙ ap (λ k. plus f.ops (inner f.ops (length zs) low (monomial f.ops zs)) (times f.ops k (of first))) hi
-    ∙ inner-monomial f.ops ring (of first) zs (map of z) mapped table low high
+    ∙ ap (λ k. plus f.ops (inner_product f.ops (length zs) low (monomial f.ops zs)) (times f.ops k (of first))) hi
+    ∙ inner_product-monomial f.ops ring (of first) zs (map of z) mapped table low high
     (λ b below. ap embed (low-shared g.A.Field.number rows p size c.split_at.result.0.now c.split_at.ensures.front b (omega (arith, below, sized))))
     (λ b below. ap embed (high-shared g.A.Field.number rows p size c.split_at.result.1.now c.split_at.ensures.back b ∙ ap (λ n. entries g.A.Field.number rows (n + b)) (sym sized)))
-    ∙ ap (λ n. inner f.ops n table (monomial f.ops (map of z))) (length-map z of)
+    ∙ ap (λ n. inner_product f.ops n table (monomial f.ops (map of z))) (length-map z of)

@@ -1,11 +1,11 @@
 use Rattle.std.proofs.Common.{◌≡◌, ℕ, ◌+◌, ◌-◌, ◌^◌, ◌<◌, ◌∷◌, length, map, take, drop, sym, ◌∙◌, ap, subst, arith}
 use Rattle.std.proofs.lemmas.List.{length-map}
 use Rattle.sc_definitions.specs.Ring.{plus, times}
-use Rattle.sc_definitions.specs.Tables.{entries, monomial, inner}
+use Rattle.sc_definitions.specs.Tables.{entries, monomial, inner_product}
 use Rattle.sc_definitions.proofs.LoopLaws.{entry-read}
 use Rattle.sc_definitions.proofs.TableLaws.{two_halves}
 use Rattle.sc_weights.proofs.Halves.{split-first, low-shared, high-shared}
-use Rattle.sc_weights.proofs.ProductSteps.{inner-none, inner-monomial}
+use Rattle.sc_weights.proofs.ProductSteps.{inner_product-none, inner_product-monomial}
 use Rattle.sc_weights.proofs.select.+products_value_by_halves.Goals as goal
 
 pub returns-in_default : goal.returns-in_default
@@ -20,8 +20,8 @@ returns-in_default g t c =
     let one : 2 ^ length z ≡ 1 = ap (λ k. 2 ^ k) none in
     let read = entry-read g.A.Field.number rows 0 c.index-rows-0.result (omega (arith, c.requires, one)) c.index-rows-0.is in
     let is : f.number c.embed.result ≡ table 0 = c.embed.ensures ∙ ap g.EF.Algebra-2.embedding (sym read) in
-    is ∙ inner-none f.ops met.is_field.ring table (map of z) (omega (arith, none, length-map z of)) (subst (λ k. k < f.ops.size) is (met.number_below c.embed.result))
-    ∙ ap (λ n. inner f.ops n table (monomial f.ops (map of z))) (length-map z of)
+    is ∙ inner_product-none f.ops met.is_field.ring table (map of z) (omega (arith, none, length-map z of)) (subst (λ k. k < f.ops.size) is (met.number_below c.embed.result))
+    ∙ ap (λ n. inner_product f.ops n table (monomial f.ops (map of z))) (length-map z of)
 
 pub returns : goal.returns
 returns g t c =
@@ -43,12 +43,12 @@ returns g t c =
     let low : ℕ → ℕ = λ b. embed (entries g.A.Field.number c.split_at.result.0.now b) in
     let high : ℕ → ℕ = λ b. embed (entries g.A.Field.number c.split_at.result.1.now b) in
     let table : ℕ → ℕ = λ b. embed (entries g.A.Field.number rows b) in
-    let lo : f.number c.products_value_by_halves-lo.result ≡ inner f.ops (length zs) low (monomial f.ops zs) = c.products_value_by_halves-lo.ensures ∙ ap (λ n. inner f.ops n low (monomial f.ops zs)) (sym arity) in
-    let hi : f.number c.products_value_by_halves-hi.result ≡ inner f.ops (length zs) high (monomial f.ops zs) = c.products_value_by_halves-hi.ensures ∙ ap (λ n. inner f.ops n high (monomial f.ops zs)) (sym arity) in
+    let lo : f.number c.products_value_by_halves-lo.result ≡ inner_product f.ops (length zs) low (monomial f.ops zs) = c.products_value_by_halves-lo.ensures ∙ ap (λ n. inner_product f.ops n low (monomial f.ops zs)) (sym arity) in
+    let hi : f.number c.products_value_by_halves-hi.result ≡ inner_product f.ops (length zs) high (monomial f.ops zs) = c.products_value_by_halves-hi.ensures ∙ ap (λ n. inner_product f.ops n high (monomial f.ops zs)) (sym arity) in
     c.add.ensures ∙ ap (plus f.ops (f.number c.products_value_by_halves-lo.result)) c.mul_base.ensures
     ∙ ap (λ k. plus f.ops k (times f.ops (f.number c.products_value_by_halves-hi.result) (of first))) lo
-    ∙ ap (λ k. plus f.ops (inner f.ops (length zs) low (monomial f.ops zs)) (times f.ops k (of first))) hi
-    ∙ inner-monomial f.ops ring (of first) zs (map of z) mapped table low high
+    ∙ ap (λ k. plus f.ops (inner_product f.ops (length zs) low (monomial f.ops zs)) (times f.ops k (of first))) hi
+    ∙ inner_product-monomial f.ops ring (of first) zs (map of z) mapped table low high
     (λ b below. ap embed (low-shared g.A.Field.number rows p size c.split_at.result.0.now c.split_at.ensures.front b (omega (arith, below, sized))))
     (λ b below. ap embed (high-shared g.A.Field.number rows p size c.split_at.result.1.now c.split_at.ensures.back b ∙ ap (λ n. entries g.A.Field.number rows (n + b)) (sym sized)))
-    ∙ ap (λ n. inner f.ops n table (monomial f.ops (map of z))) (length-map z of)
+    ∙ ap (λ n. inner_product f.ops n table (monomial f.ops (map of z))) (length-map z of)

@@ -2,7 +2,7 @@ use Rattle.std.proofs.Common.{rules, ◌≡◌, ℕ, ◌+◌, ◌-◌, ◌*◌, 
 use Rattle.std.proofs.lemmas.List.{length-map}
 use Rattle.std.proofs.lemmas.Nat.{mul-le, pow_pos}
 use Rattle.sc_definitions.specs.Ring.{plus, times, minus}
-use Rattle.sc_definitions.specs.Tables.{entries, weight}
+use Rattle.sc_definitions.specs.Tables.{entries, equality_weight}
 use Rattle.sc_definitions.proofs.RingLaws.{times_assoc}
 use Rattle.sc_definitions.proofs.TableLaws.{two_halves}
 use Rattle.sc_table.specs.Blocks.{block_weight}
@@ -33,7 +33,7 @@ returns-in_default-clause-last g t c =
     let met = g.met.EF.Field in
     let outer = c.args.outer.now in
     last-none f.ops met.is_field.ring (f.number c.args.scale) (map f.number outer) (omega (arith, c.in_default.len_below, length-map outer f.number)) (met.number_below c.args.scale)
-    ∙ ap (λ n. times f.ops (f.number c.args.scale) (weight f.ops (map f.number outer) (2 ^ n - 1))) (length-map outer f.number)
+    ∙ ap (λ n. times f.ops (f.number c.args.scale) (equality_weight f.ops (map f.number outer) (2 ^ n - 1))) (length-map outer f.number)
 
 pub add_moved_blocks-between-requires : goal.add_moved_blocks-between-requires
 add_moved_blocks-between-requires g t c κs within = (
@@ -78,12 +78,12 @@ returns-clause-rows g t c = λ b inside.
     let Q = 2 ^ length zs in
     let last : (Q - 1) * n + n ≡ p = last-of Q n (pow_pos (length zs)) ∙ sized in
     let between = f.number c.add_moved_blocks-between.result in
-    let between_is : between ≡ times f.ops low_scale (weight f.ops zs (Q - 1)) =
-    c.add_moved_blocks-between.ensures.last ∙ ap (λ k. times f.ops (f.number c.sub.result) (weight f.ops zs (2 ^ k - 1))) (sym (length-map rest f.number)) ∙ ap (λ k. times f.ops k (weight f.ops zs (Q - 1))) zeros in
+    let between_is : between ≡ times f.ops low_scale (equality_weight f.ops zs (Q - 1)) =
+    c.add_moved_blocks-between.ensures.last ∙ ap (λ k. times f.ops (f.number c.sub.result) (equality_weight f.ops zs (2 ^ k - 1))) (sym (length-map rest f.number)) ∙ ap (λ k. times f.ops k (equality_weight f.ops zs (Q - 1))) zeros in
     let middle : (j : ℕ) → j < s → times f.ops between (w (n - s + j)) ≡ times f.ops scale (whole (p - s + j)) = λ j below.
     let inner : n - s + j < n = omega (arith, c.requires.stride, below) in
     let row : (Q - 1) * n + (n - s + j) ≡ p - s + j = omega (arith, last, c.requires.stride) in
-    ap (λ k. times f.ops k (w (n - s + j))) between_is ∙ times_assoc f.ops ring low_scale (weight f.ops zs (Q - 1)) (w (n - s + j))
+    ap (λ k. times f.ops k (w (n - s + j))) between_is ∙ times_assoc f.ops ring low_scale (equality_weight f.ops zs (Q - 1)) (w (n - s + j))
     ∙ ap (times f.ops low_scale) (sym (block-at f.ops ring n c.requires.some w zs (Q - 1) (n - s + j) inner) ∙ ap v row)
     ∙ share-low f.ops ring (f.number first) p v whole halves scale (p - s + j) (omega (arith, last, below, c.requires.stride)) in
     let lows = low_blocks rows outer n c.requires.size some in
@@ -111,8 +111,8 @@ returns-clause-last g t c =
     let all = map f.number outer in
     let scale = f.number c.args.scale in
     c.add_moved_blocks.ensures.last
-    ∙ ap (λ k. times f.ops k (weight f.ops zs (2 ^ length rest - 1))) c.mul-at_one.ensures
-    ∙ ap (λ k. times f.ops (times f.ops scale (f.number first)) (weight f.ops zs (2 ^ k - 1))) (sym (length-map rest f.number))
-    ∙ last-row f.ops ring (f.number first) (2 ^ length zs) (weight f.ops zs) (weight f.ops all) (split-weight f.ops ring (f.number first) zs all (ap (map f.number) split)) scale (2 ^ length all)
+    ∙ ap (λ k. times f.ops k (equality_weight f.ops zs (2 ^ length rest - 1))) c.mul-at_one.ensures
+    ∙ ap (λ k. times f.ops (times f.ops scale (f.number first)) (equality_weight f.ops zs (2 ^ k - 1))) (sym (length-map rest f.number))
+    ∙ last-row f.ops ring (f.number first) (2 ^ length zs) (equality_weight f.ops zs) (equality_weight f.ops all) (split-weight f.ops ring (f.number first) zs all (ap (map f.number) split)) scale (2 ^ length all)
     (pow_pos (length zs)) (ap (λ l. 2 ^ length (map f.number l)) split ∙ two_halves (length zs))
-    ∙ ap (λ k. times f.ops scale (weight f.ops all (2 ^ k - 1))) (length-map outer f.number)
+    ∙ ap (λ k. times f.ops scale (equality_weight f.ops all (2 ^ k - 1))) (length-map outer f.number)

@@ -3,7 +3,7 @@ use Rattle.std.proofs.lemmas.Bool.{cases_eq}
 use Rattle.std.proofs.lemmas.Nat.{mul-le, pow_pos}
 use Rattle.std.proofs.lemmas.List.{length-map}
 use Rattle.sc_definitions.specs.Ring.{plus, times}
-use Rattle.sc_definitions.specs.Tables.{entries, weight}
+use Rattle.sc_definitions.specs.Tables.{entries, equality_weight}
 use Rattle.sc_definitions.specs.Shifts.{shifted}
 use Rattle.sc_definitions.specs.Statements.{successor_weight}
 use Rattle.sc_table.specs.Blocks.{block_weight}
@@ -67,10 +67,10 @@ returns g c = λ a e low below.
     let size : N ≡ 2 ^ length outers * n = c.requires.size ∙ ends-size f.number point selector outer inner weights c.requires.short long parted.front parted.back many in
     let width : n ≡ 2 ^ length inners = ends-inner f.number point selector outer inner weights c.requires.short long parted.front parted.back many in
     let joined : outers ++ inners ≡ zs ++ ss = ends-joined f.number point selector outer inner weights c.requires.short long parted.front parted.back many in
-    let inner_is : (i : ℕ) → i < n → w i ≡ weight f.ops inners i = λ i under. c.joined_block_weights-joined.ensures i (subst (λ j. i < j) many under) in
+    let inner_is : (i : ℕ) → i < n → w i ≡ equality_weight f.ops inners i = λ i under. c.joined_block_weights-joined.ensures i (subst (λ j. i < j) many under) in
     let all = block_weight f.ops outers n w in
-    let all_is : (b : ℕ) → b < N → times f.ops scale (all b) ≡ times f.ops scale (weight f.ops (zs ++ ss) b) = λ b inside.
-    ap (times f.ops scale) (blocks-joined f.ops ring outers inners n width w inner_is b (subst (λ j. b < j) size inside) ∙ ap (λ l. weight f.ops l b) joined) in
+    let all_is : (b : ℕ) → b < N → times f.ops scale (all b) ≡ times f.ops scale (equality_weight f.ops (zs ++ ss) b) = λ b inside.
+    ap (times f.ops scale) (blocks-joined f.ops ring outers inners n width w inner_is b (subst (λ j. b < j) size inside) ∙ ap (λ l. equality_weight f.ops l b) joined) in
     let moved = c.add_moved_blocks-stays.new.rows in
     let ending = c.add_scaled.new.rows in
     let at = N - c.args.block in
@@ -80,26 +80,26 @@ returns g c = λ a e low below.
     let moved_size : length moved ≡ N = c.add_moved_blocks-stays.auto.rows in
     let inside : at ≤ length moved = omega (arith, moved_size) in
     let ends : length ending ≡ m = c.add_scaled.auto.rows ∙ end-length moved N c.args.block moved_size fits ∙ c.requires.block in
-    let v = weight f.ops ss e in
+    let v = equality_weight f.ops ss e in
     let zero : f.number c.ZERO.result ≡ 0 = ap f.number c.ZERO.ensures ∙ met.zero_is in
-    let up : ℕ → ℕ = shifted 0 (λ b. times f.ops scale (weight f.ops zs b)) in
+    let up : ℕ → ℕ = shifted 0 (λ b. times f.ops scale (equality_weight f.ops zs b)) in
     let row_low : a * m + e < N = omega (arith, mul-le (suc a) m q m low (omega arith), whole, below) in
     let narrow : c.args.block ≡ 2 ^ length ss = c.requires.block ∙ sym sel in
     let g0 : ℕ → ℕ = λ j. w (n - c.args.block + j) in
     let gained : entries f.number moved (a * m + e) ≡ plus f.ops (rows (a * m + e)) (times f.ops (up a) v) =
     c.add_moved_blocks-stays.ensures.rows (a * m + e) row_low
     ∙ ap (plus f.ops (rows (a * m + e))) (up-same c.args.block (λ j. times f.ops (f.number c.ZERO.result) (g0 j)) (λ j. times f.ops 0 (g0 j)) (λ b. times f.ops scale (all b))
-    (λ b. times f.ops scale (weight f.ops (zs ++ ss) b)) N (a * m + e) (λ j _. ap (λ i. times f.ops i (g0 j)) zero) all_is row_low)
-    ∙ ap (λ s. plus f.ops (rows (a * m + e)) (moved_up s (λ j. times f.ops 0 (g0 j)) (λ b. times f.ops scale (weight f.ops (zs ++ ss) b)) (a * m + e))) narrow
-    ∙ ap (λ s. plus f.ops (rows (a * m + e)) (moved_up (2 ^ length ss) (λ j. times f.ops 0 (g0 j)) (λ b. times f.ops scale (weight f.ops (zs ++ ss) b)) (a * s + e))) (sym sel)
+    (λ b. times f.ops scale (equality_weight f.ops (zs ++ ss) b)) N (a * m + e) (λ j _. ap (λ i. times f.ops i (g0 j)) zero) all_is row_low)
+    ∙ ap (λ s. plus f.ops (rows (a * m + e)) (moved_up s (λ j. times f.ops 0 (g0 j)) (λ b. times f.ops scale (equality_weight f.ops (zs ++ ss) b)) (a * m + e))) narrow
+    ∙ ap (λ s. plus f.ops (rows (a * m + e)) (moved_up (2 ^ length ss) (λ j. times f.ops 0 (g0 j)) (λ b. times f.ops scale (equality_weight f.ops (zs ++ ss) b)) (a * s + e))) (sym sel)
     ∙ moved-rows f.ops ring (rows (a * m + e)) scale zs ss g0 a e (omega (arith, low, tall)) (omega (arith, below, sel)) in
     ⊎_elim
     (λ last.
     let back : q - 1 ≡ a = sym last in
     let row : at + e ≡ a * m + e = ap (λ i. i + e) start ∙ ap (λ i. i * m + e) back in
     let few : c.args.block ≤ n = rows-few k n c.args.block c.requires.short many c.requires.block in
-    let stays_is = c.add_moved_blocks-stays.ensures.last ∙ ap (λ i. times f.ops scale (weight f.ops outers (2 ^ i - 1))) (sym (length-map outer f.number)) in
-    let tail : times f.ops (f.number c.add_moved_blocks-stays.result) (g0 e) ≡ times f.ops (times f.ops scale (weight f.ops zs (2 ^ length zs - 1))) v =
+    let stays_is = c.add_moved_blocks-stays.ensures.last ∙ ap (λ i. times f.ops scale (equality_weight f.ops outers (2 ^ i - 1))) (sym (length-map outer f.number)) in
+    let tail : times f.ops (f.number c.add_moved_blocks-stays.result) (g0 e) ≡ times f.ops (times f.ops scale (equality_weight f.ops zs (2 ^ length zs - 1))) v =
     last-rows f.ops ring scale (f.number c.add_moved_blocks-stays.result) n c.args.block w outers inners zs ss (omega (arith, many)) width narrow few inner_is joined
     (ap (λ i. i * c.args.block) tall ∙ ap (λ i. q * i) c.requires.block ∙ sym whole ∙ size) stays_is e (omega (arith, below, c.requires.block)) in
     in-end f.number moved ending _ at inside (a * m + e) e row (omega (arith, ends, below))
@@ -109,8 +109,8 @@ returns g c = λ a e low below.
     ∙ ap (λ i. plus f.ops (plus f.ops (rows (a * m + e)) (times f.ops (up a) v)) (times f.ops (f.number c.add_moved_blocks-stays.result) i))
     (end-given f.number weights (n - c.args.block) (n - (n - c.args.block)) e (omega (arith, few, below, c.requires.block)))
     ∙ ap (plus f.ops (plus f.ops (rows (a * m + e)) (times f.ops (up a) v))) tail
-    ∙ ap (λ i. plus f.ops (plus f.ops (rows (a * m + e)) (times f.ops (up i) v)) (times f.ops (times f.ops scale (weight f.ops zs (2 ^ length zs - 1))) v)) (last ∙ ap (λ i. i - 1) (sym tall))
-    ∙ gains-both f.ops ring (rows (a * m + e)) scale zs v (times f.ops scale (weight f.ops zs (2 ^ length zs - 1))) refl
+    ∙ ap (λ i. plus f.ops (plus f.ops (rows (a * m + e)) (times f.ops (up i) v)) (times f.ops (times f.ops scale (equality_weight f.ops zs (2 ^ length zs - 1))) v)) (last ∙ ap (λ i. i - 1) (sym tall))
+    ∙ gains-both f.ops ring (rows (a * m + e)) scale zs v (times f.ops scale (equality_weight f.ops zs (2 ^ length zs - 1))) refl
     ∙ ap (λ i. plus f.ops (rows (a * m + e)) (times f.ops scale (times f.ops (successor_weight f.ops zs i) v))) (ap (λ i. i - 1) tall ∙ back))
     (λ other.
     let less : suc a ≤ q - 1 = omega (arith, other, low) in

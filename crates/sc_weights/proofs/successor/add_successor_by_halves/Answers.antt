@@ -3,7 +3,7 @@ use Rattle.std.proofs.lemmas.Bool.{cases_eq}
 use Rattle.std.proofs.lemmas.Nat.{mul-le, pow_pos}
 use Rattle.std.proofs.lemmas.List.{length-map}
 use Rattle.sc_definitions.specs.Ring.{plus, times}
-use Rattle.sc_definitions.specs.Tables.{entries, weight}
+use Rattle.sc_definitions.specs.Tables.{entries, equality_weight}
 use Rattle.sc_definitions.specs.Shifts.{shifted}
 use Rattle.sc_definitions.specs.Statements.{successor_weight}
 use Rattle.sc_weights.proofs.Halves.{before-end, in-end, end-given, end-length, block-fits, last-of}
@@ -44,11 +44,11 @@ returns g c = λ a e low below.
     let start : at ≡ (q - 1) * m = omega (arith, whole, whole', c.requires.block) in
     let inside : at ≤ length moved = omega (arith, c.add_moved_up-stays.auto.rows) in
     let size : length ending ≡ m = c.add_point.auto.rows ∙ end-length moved (length c.args.rows.now) c.args.block c.add_moved_up-stays.auto.rows fits ∙ c.requires.block in
-    let v = weight f.ops (map f.number selector) e in
+    let v = equality_weight f.ops (map f.number selector) e in
     let none : f.number c.ZERO.result ≡ 0 = ap f.number c.ZERO.ensures ∙ g.met.EF.Field.zero_is in
-    let up : ℕ → ℕ = shifted 0 (λ b. times f.ops scale (weight f.ops zs b)) in
+    let up : ℕ → ℕ = shifted 0 (λ b. times f.ops scale (equality_weight f.ops zs b)) in
     let gained : entries f.number moved (a * m + e) ≡ plus f.ops (rows (a * m + e)) (times f.ops (up a) v) =
-    c.add_moved_up-stays.ensures.rows a e low below ∙ ap (λ z. plus f.ops (rows (a * m + e)) (times f.ops (shifted z (λ b. times f.ops scale (weight f.ops zs b)) a) v)) none in
+    c.add_moved_up-stays.ensures.rows a e low below ∙ ap (λ z. plus f.ops (rows (a * m + e)) (times f.ops (shifted z (λ b. times f.ops scale (equality_weight f.ops zs b)) a) v)) none in
     ⊎_elim
     (λ last.
     let back : q - 1 ≡ a = sym last in
@@ -57,7 +57,7 @@ returns g c = λ a e low below.
     ∙ c.add_point.ensures e below
     ∙ ap (λ n. plus f.ops n (times f.ops (f.number c.add_moved_up-stays.result) v)) (end-given f.number moved at (length moved - at) e (omega (arith, c.add_moved_up-stays.auto.rows, fits, c.requires.block, below)) ∙ ap (entries f.number moved) row ∙ gained)
     ∙ ap (λ n. plus f.ops (plus f.ops (rows (a * m + e)) (times f.ops (up n) v)) (times f.ops (f.number c.add_moved_up-stays.result) v)) (last ∙ ap (λ n. n - 1) (sym sized))
-    ∙ gains-both f.ops ring (rows (a * m + e)) scale zs v (f.number c.add_moved_up-stays.result) (c.add_moved_up-stays.ensures.last ∙ ap (λ n. times f.ops scale (weight f.ops zs (n - 1))) (sym sized))
+    ∙ gains-both f.ops ring (rows (a * m + e)) scale zs v (f.number c.add_moved_up-stays.result) (c.add_moved_up-stays.ensures.last ∙ ap (λ n. times f.ops scale (equality_weight f.ops zs (n - 1))) (sym sized))
     ∙ ap (λ n. plus f.ops (rows (a * m + e)) (times f.ops scale (times f.ops (successor_weight f.ops zs n) v))) (ap (λ n. n - 1) sized ∙ back))
     (λ other.
     let less : suc a ≤ q - 1 = omega (arith, other, low) in

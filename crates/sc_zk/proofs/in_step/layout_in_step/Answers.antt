@@ -1,6 +1,6 @@
 use Rattle.std.proofs.Common.{rules, ◌≡◌, length, map, Ok, Err, refl, ap, sym, subst, ◌∙◌}
 use Rattle.std.proofs.lemmas.List.{length-map}
-use Rattle.sc_definitions.specs.Shown.{Shown}
+use Rattle.sc_definitions.specs.ProverViews.{ProverView}
 use Rattle.sc_commitments.specs.Draws.{Drawn, masks_from}
 use Rattle.sc_commitments.proofs.CodeLaws.{masks-drawn-refused}
 use Rattle.sc_commitments.specs.Matrices.{lists_in}
@@ -149,7 +149,7 @@ returns-clause-steps g c recorded =
     } in
     subst (λ y. StaysInStep (run_in B N) (recorded_batch base o E shape p l y) (Ok run) h) (ap under drawn)
     (steps-through b ends.after rs (told_by N r) h (run_in B N run) ring ends.left.played taken refl refl refl ends.total ends.wire
-    (c.claimed_sum.ensures.number ∙ ap (λ (x : Shown). x.claim) ends.left.shown ∙ scaled-claim o _ _)
+    (c.claimed_sum.ensures.number ∙ ap (λ (x : ProverView). x.claim) ends.left.shown ∙ scaled-claim o _ _)
     (ap N c.ZERO.ensures ∙ g.met.EF.Field.zero_is ∙ nothing-carried o ring (N r.eps) b.half (length b.masks))
     (c.mask_residual.ensures ∙ ap (λ xs. masks_at o (lists_in N xs) (map N c.as_slice.result.now)) c.deref.ensures.value ∙ ap (λ xs. masks_at o m.masks (map N xs)) c.as_slice.ensures))
 

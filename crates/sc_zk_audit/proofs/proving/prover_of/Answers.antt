@@ -1,10 +1,10 @@
 use Rattle.std.proofs.Common.{◌≡◌, ◌^◌, length, map, sym, ◌∙◌, ap, arith}
-use Rattle.sc_definitions.specs.Tables.{entries, rows_of, inner}
+use Rattle.sc_definitions.specs.Tables.{entries, rows_of, inner_product}
 use Rattle.sc_definitions.specs.Problem.{weights_of}
 use Rattle.sc_definitions.proofs.BuildLaws.{batch-true, first_false_claim-all}
 use Rattle.sc_definitions.proofs.Lengths.{pow-same}
-use Rattle.sc_definitions.proofs.SameTables.{inner-same}
-use Rattle.sc_definitions.proofs.StandingLaws.{entries-is}
+use Rattle.sc_definitions.proofs.SameTables.{inner_product-same}
+use Rattle.sc_definitions.proofs.ProverStateLaws.{entries-is}
 use Rattle.sc_table.specs.Polys.{variables_of}
 use Rattle.sc_rounds.specs.Products.{variables_in, evals_in, weights_in}
 use Rattle.sc_rounds.proofs.PairRounds.{pair_rows}
@@ -35,11 +35,11 @@ new-requires g c =
     let count : variables_of c.new-evals.result ≡ n = pow-same _ _ (sym c.new-evals.ensures.size ∙ size ∙ rows) in
     c.in_ok-weights.ensures.claim
     ∙ sym (batch-true g.EF.Field.ops g.met.EF.Field.is_field.ring n p.table _ _ _ (first_false_claim-all _ _ _ 0 _ c.requires))
-    ∙ sym (inner-same g.EF.Field.ops n _ _ _ _
+    ∙ sym (inner_product-same g.EF.Field.ops n _ _ _ _
     (λ b low. ap (λ t. t b) (c.new_in-poly.ensures.evals ∙ c.new-evals.ensures.table)
     ∙ entry-embedded g.EF.Algebra.embedding g.F.Field.number N job.table.items c.in_ok-embedded.field-0.items b same (omega (arith, low, rows)))
     (λ b low. ap (λ t. t b) c.new_in-poly.ensures.weights ∙ c.in_ok-weights.ensures.weights b low))
-    ∙ ap (λ k. inner g.EF.Field.ops k (evals_in N c.new_in-poly.result) (weights_in N c.new_in-poly.result)) (sym (c.new_in-poly.ensures.variables ∙ count))
+    ∙ ap (λ k. inner_product g.EF.Field.ops k (evals_in N c.new_in-poly.result) (weights_in N c.new_in-poly.result)) (sym (c.new_in-poly.ensures.variables ∙ count))
 
 -- what the prover shows
 pub returns : goal.returns

@@ -1,6 +1,6 @@
 use Rattle.std.proofs.Common.{rules, ◌≡◌, map, Ok, Err, inr, refl, ap, ◌∙◌, subst}
 use Rattle.sc_definitions.specs.Ring.{plus}
-use Rattle.sc_definitions.specs.Shown.{KeepsForm}
+use Rattle.sc_definitions.specs.ProverViews.{KeepsForm}
 use Rattle.sc_challenger.specs.Parties.{channel_by}
 use Rattle.sc_commitments.specs.Matrices.{lists_in}
 use Rattle.sc_rounds.specs.ProverViews.{shown_by, stored_by}

@@ -1,6 +1,6 @@
 use Rattle.std.proofs.Common.{◌≡◌, ℕ, sym, ap, ◌∙◌}
 use Rattle.std.proofs.lemmas.Result.{IfOk-weaker}
-use Rattle.sc_definitions.specs.Tables.{inner}
+use Rattle.sc_definitions.specs.Tables.{inner_product}
 use Rattle.sc_definitions.specs.Statements.{batched_claim}
 use Rattle.sc_definitions.specs.Combined.{combined_weight, scaled_from}
 use Rattle.sc_definitions.proofs.Lengths.{pow-same}
@@ -25,9 +25,9 @@ new-requires-clause-honest g c =
     let variables : l.variables ≡ (batch_in c.in_ok-batch.batch).variables = sym c.table-table.ensures.variables ∙ pow-same (variables_of c.table-table.result.now) _ made.variables in
     c.sum.ensures ∙ ap (λ r. batched_claim e.ops a 0 (statements_of r)) recorded
     ∙ claim-honest e.ops g.met.EF.Field.is_field.ring l.variables l.rows a (statements_of l.recorded) sound.truth
-    ∙ ap (λ n. inner e.ops n l.rows (combined_weight e.ops (scaled_from e.ops a 0 (statements_of l.recorded)))) variables
-    ∙ ap (λ t. inner e.ops (batch_in c.in_ok-batch.batch).variables t (combined_weight e.ops (scaled_from e.ops a 0 (statements_of l.recorded)))) (sym c.table-table.ensures.rows)
-    ∙ ap (λ cs. inner e.ops (batch_in c.in_ok-batch.batch).variables f (combined_weight e.ops cs))
+    ∙ ap (λ n. inner_product e.ops n l.rows (combined_weight e.ops (scaled_from e.ops a 0 (statements_of l.recorded)))) variables
+    ∙ ap (λ t. inner_product e.ops (batch_in c.in_ok-batch.batch).variables t (combined_weight e.ops (scaled_from e.ops a 0 (statements_of l.recorded)))) (sym c.table-table.ensures.rows)
+    ∙ ap (λ cs. inner_product e.ops (batch_in c.in_ok-batch.batch).variables f (combined_weight e.ops cs))
     (sym (made.claims ∙ ap (λ r. scaled_from e.ops a 0 (statements_of r)) recorded))
 
 pub returns-clause-shown : goal.returns-clause-shown

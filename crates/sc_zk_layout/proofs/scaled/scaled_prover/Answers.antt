@@ -1,5 +1,5 @@
 use Rattle.std.proofs.Common.{sym, ◌∙◌, subst}
-use Rattle.sc_definitions.specs.Shown.{IsTrueClaim}
+use Rattle.sc_definitions.specs.ProverViews.{IsTrueClaim}
 use Rattle.sc_table.specs.Strategy.{order_of}
 use Rattle.sc_rounds.proofs.ShownLaws.{true_of}
 use Rattle.sc_zk_layout.specs.Grids.{pair_shown}

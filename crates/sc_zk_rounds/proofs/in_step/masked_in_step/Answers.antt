@@ -2,7 +2,7 @@ use Rattle.std.proofs.Common.{rules, ◌≡◌, length, map, Vec, Global, Ok, Er
 use Rattle.std.proofs.lemmas.List.{length-map}
 use Rattle.sc_definitions.specs.Ring.{plus, times}
 use Rattle.sc_definitions.specs.Channels.{empty_wire}
-use Rattle.sc_definitions.specs.Shown.{Shown, with_scaled, setting_at, standing_at}
+use Rattle.sc_definitions.specs.ProverViews.{ProverView, with_scaled, setting_at, prover_state_at}
 use Rattle.sc_challenger.specs.Parties.{channel_by}
 use Rattle.sc_commitments.specs.Matrices.{lists_in}
 use Rattle.sc_rounds.specs.ProverViews.{shown_by}
@@ -74,7 +74,7 @@ returns-in_err-replayed-clause-steps g c =
     ap (λ n. head n (g.M.Mmcs.words_of c.args.mmcs.now c.in_ok-handoff.handoff.mask_oracle.0) sent.mu) claims
     ∙ ap (λ w. head (plus o shown.claim (N c.args.aux_claim)) w sent.mu) words ∙ ap (λ n. head (plus o shown.claim (N c.args.aux_claim)) m.words n) ends.total in
     let s = setting_at (channel_by p E size c.args.pow_bits) o shown in
-    let t = standing_at shown p.history empty_wire in
+    let t = prover_state_at shown p.history empty_wire in
     let ring = g.met.EF.Field.is_field.ring in
     verifier-stops (told_by N) (run_in g.F.Field.number N) N c.args.masks.items InheritedClaim s t m g.F.Field.ops shape ends.after rs H sent.wire (P c.verify_claim.new.challenger).history
     c.from_residual-in_err-replayed.result c.in_err-replayed.field-0.0 refl is ends.left.played heads ends.wire ring (subst (IsFit g.F.Field.ops) (sym made) c.requires.fit) refl c.requires.coded.masks
@@ -114,7 +114,7 @@ returns-clause-steps g c =
     ap (λ n. head n (g.M.Mmcs.words_of c.args.mmcs.now c.in_ok-handoff.handoff.mask_oracle.0) sent.mu) claims
     ∙ ap (λ w. head (plus o shown.claim (N c.args.aux_claim)) w sent.mu) words ∙ ap (λ n. head (plus o shown.claim (N c.args.aux_claim)) m.words n) ends.total in
     let s = setting_at (channel_by p E size c.args.pow_bits) o shown in
-    let t = standing_at shown p.history empty_wire in
+    let t = prover_state_at shown p.history empty_wire in
     let ring = g.met.EF.Field.is_field.ring in
     let after = ends.after in
     let run : MaskedRun g.row.F.Denot g.row.EF.Denot = record {
@@ -130,6 +130,6 @@ returns-clause-steps g c =
     let taken = verifier-accepts (told_by N) InheritedClaim s t m g.F.Field.ops shape after rs H sent.wire (P c.verify_claim.new.challenger).history c.in_ok-replayed.replayed refl is ends.left.played heads ends.wire ring half
     c.in_ok-replayed.ensures.left in
     steps-through b after rs (told_by N c.in_ok-replayed.replayed) (P c.verify_claim.new.challenger).history (run_in g.F.Field.number N run) ring ends.left.played taken refl refl refl ends.total ends.wire
-    (c.claimed_sum-2.ensures.number ∙ ap (λ (x : Shown). x.claim) ends.left.shown)
+    (c.claimed_sum-2.ensures.number ∙ ap (λ (x : ProverView). x.claim) ends.left.shown)
     (c.mul.ensures ∙ ap (times o (N c.in_ok-replayed.replayed.eps)) (c.aux_after.ensures ∙ ap (aux_after o b.half b.aux) (c.len-rounds.ensures ∙ c.args.masks.ok.0 ∙ sym (length-map c.args.masks.items _))))
     (c.mask_residual.ensures ∙ ap (λ xs. masks_at o xs (map N c.as_slice.result.now)) (ap (lists_in N) (c.deref.ensures.value ∙ ap (λ (v : Vec (Vec _ Global) Global). v.items) lists.0)) ∙ ap (λ xs. masks_at o m.masks (map N xs)) c.as_slice.ensures)

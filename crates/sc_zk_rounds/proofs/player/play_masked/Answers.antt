@@ -1,5 +1,5 @@
 use Rattle.std.proofs.Common.{rules, arith, ◌∙◌, ap}
-use Rattle.sc_definitions.specs.Shown.{with_bound}
+use Rattle.sc_definitions.specs.ProverViews.{with_bound}
 use Rattle.sc_challenger.specs.Parties.{channel_by}
 use Rattle.sc_commitments.specs.Matrices.{numbers_in}
 use Rattle.sc_zk_rounds.specs.Data.{masked_wire_in}

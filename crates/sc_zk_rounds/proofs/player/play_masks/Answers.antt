@@ -1,11 +1,11 @@
 use Rattle.std.proofs.Common.{Err, refl, ◌≡◌, ◌+◌, ◌<◌, length, map, sym, ◌∙◌, ap, subst, arith}
 use Rattle.std.proofs.lemmas.List.{map-append, length-map}
 use Rattle.sc_definitions.specs.Tables.{IsOffered}
-use Rattle.sc_definitions.specs.Shown.{standing_at}
+use Rattle.sc_definitions.specs.ProverViews.{prover_state_at}
 use Rattle.sc_transcript.specs.declared.rounds.BatchShape.{BatchShape}
 use Rattle.sc_transcript.proofs.ReplayedLaws.{same_channel}
 use Rattle.sc_transcript.proofs.BatchLaws.{same_setting}
-use Rattle.sc_definitions.proofs.StandingLaws.{IsSized}
+use Rattle.sc_definitions.proofs.ProverStateLaws.{IsSized}
 use Rattle.sc_zk_definitions.specs.MaskedRuns.{Masking, IsMasked}
 use Rattle.sc_zk_rounds.specs.Views.{player, terms, setting_of, stands_at}
 use Rattle.sc_zk_rounds.specs.Data.{masked_wire_in}
@@ -53,7 +53,7 @@ returns-in-Err-clause-rounds g c = λ k are.
     let of = of-mask o N k c.args.masks.now c.args.eps c.args.mixing c.loop-i.mixing i rs c.index-masks-i.result c.as_slice-mask.result.now low c.index-masks-i.is
     c.as_slice-mask.ensures.value size are (inv.mixed k are) in
     stops-masks {X = Unit {0}} N
-    (standing_at (g.P.PlainRounds.shown c.play_masked.new.prover) (g.C.Challenger.party c.play_masked.new.challenger).history (masked_wire_in g.F.Field.number N c.play_masked.new.sent)) rs
+    (prover_state_at (g.P.PlainRounds.shown c.play_masked.new.prover) (g.C.Challenger.party c.play_masked.new.challenger).history (masked_wire_in g.F.Field.number N c.play_masked.new.sent)) rs
     (length c.args.masks.now) c.in-Err.error (Err c.in-Err.error)
     (same_setting (same_channel g.F.Field.ops.size inv.rules (ap (λ (s : BatchShape). s.pow_bits) inv.shape)) inv.form.basis inv.form.order)
     g.met.EF.Field.is_field.ring (subst (λ b. IsOffered b (g.P.PlainRounds.shown c.args.prover.now).order) (sym c.requires.basis) tt) (omega (arith, size, low)) (omega (arith, inv.left, low, c.requires.plays, g.met.P.PlainRounds.within c.loop-i.prover))

@@ -1,5 +1,5 @@
 use Rattle.std.proofs.Common.{◌≡◌, ◌+◌, ◌≤◌, map, vec_len, vec_capacity}
-use Rattle.sc_definitions.specs.Shown.{KeepsForm, setting_at, standing_at}
+use Rattle.sc_definitions.specs.ProverViews.{KeepsForm, setting_at, prover_state_at}
 use Rattle.sc_challenger.specs.Parties.{channel_by}
 use Rattle.sc_zk_definitions.specs.MaskedRuns.{Masking, IsMasked}
 use Rattle.sc_zk_rounds.specs.Data.{masked_wire_in}
@@ -13,8 +13,8 @@ invariant-loop-i g l =
     let N = g.EF.Field.number in
     let P = g.C.Challenger.party in
     let s = setting_at (channel_by (P l.fn.challenger) g.EF.ExtensionField.extension g.F.Field.ops.size l.fn.shape.pow_bits) o (g.P.PlainRounds.shown l.fn.prover) in
-    let begun = standing_at (g.P.PlainRounds.shown l.fn.prover) (P l.fn.challenger).history (masked_wire_in g.F.Field.number N l.fn.zk_data) in
-    let now = standing_at (g.P.PlainRounds.shown l.prover) (P l.challenger).history (masked_wire_in g.F.Field.number N l.zk_data) in
+    let begun = prover_state_at (g.P.PlainRounds.shown l.fn.prover) (P l.fn.challenger).history (masked_wire_in g.F.Field.number N l.fn.zk_data) in
+    let now = prover_state_at (g.P.PlainRounds.shown l.prover) (P l.challenger).history (masked_wire_in g.F.Field.number N l.zk_data) in
     let rs = map N l.challenges.items in
     record {
       rules : (P l.challenger).rules ≡ (P l.fn.challenger).rules;

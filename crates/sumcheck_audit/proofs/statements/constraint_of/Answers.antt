@@ -1,7 +1,7 @@
 use Rattle.std.proofs.Common.{arith, ◌≡◌}
 use Rattle.std.proofs.lemmas.Result.{IfOk-from_err}
 use Rattle.std.proofs.lemmas.List.Elements.{All-push}
-use Rattle.sc_statements.specs.Groups.{group_arity, group_statements}
+use Rattle.sc_constraints.specs.Groups.{group_arity, group_statements}
 use Rattle.sumcheck_members.specs.Statements.{group_claims}
 use Rattle.sumcheck_audit.proofs.GroupLaws.{flat_map-read}
 use Rattle.sumcheck_audit.proofs.statements.constraint_of.Goals as goal

@@ -1,5 +1,5 @@
 use Rattle.std.proofs.Common.{◌≡◌, All, take}
-use Rattle.sc_statements.specs.Groups.{all_statements, group_arity}
+use Rattle.sc_constraints.specs.Groups.{all_statements, group_arity}
 use Rattle.sumcheck_members.specs.Statements.{all_claims}
 use Rattle.sumcheck_audit.proofs.statements.constraint_of.Given as goal
 

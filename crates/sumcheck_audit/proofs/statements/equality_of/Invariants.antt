@@ -1,5 +1,5 @@
 use Rattle.std.proofs.Common.{◌≡◌, map, take}
-use Rattle.sc_claims.specs.EqStatements.{eq_arity, eq_statements}
+use Rattle.sc_statements.specs.EqStatements.{eq_arity, eq_statements}
 use Rattle.sumcheck_members.specs.Statements.{equality_statement}
 use Rattle.sumcheck_audit.proofs.statements.equality_of.Given as goal
 

@@ -1,5 +1,5 @@
 use Rattle.std.proofs.Common.{◌≡◌, [], map, take}
-use Rattle.sc_claims.specs.SelectStatements.{select_arity, select_statements, scalars_of}
+use Rattle.sc_statements.specs.SelectStatements.{select_arity, select_statements, scalars_of}
 use Rattle.sumcheck_members.specs.Statements.{product_statement}
 use Rattle.sumcheck_audit.proofs.statements.products_of.Given as goal
 

@@ -1,5 +1,5 @@
 use Rattle.std.proofs.Common.{◌≡◌, [], map, take}
-use Rattle.sc_claims.specs.SelectStatements.{select_arity, select_statements, points_of}
+use Rattle.sc_statements.specs.SelectStatements.{select_arity, select_statements, points_of}
 use Rattle.sumcheck_members.specs.Statements.{scalar_statement}
 use Rattle.sumcheck_audit.proofs.statements.scalars_of.Given as goal
 

@@ -1,5 +1,5 @@
 use Rattle.std.proofs.Common.{◌≡◌, map, take}
-use Rattle.sc_claims.specs.NextStatements.{next_arity, next_statements}
+use Rattle.sc_statements.specs.NextStatements.{next_arity, next_statements}
 use Rattle.sumcheck_members.specs.Statements.{successor_statement}
 use Rattle.sumcheck_audit.proofs.statements.successor_of.Given as goal
 

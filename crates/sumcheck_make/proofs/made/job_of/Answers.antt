@@ -1,9 +1,9 @@
 use Rattle.std.proofs.Common.{◌≡◌, ◌∙◌, [], ◌∷◌, ◌++◌, length, refl, sym, ap}
 use Rattle.std.proofs.lemmas.List.{length-map}
 use Rattle.sc_definitions.specs.Tables.{entries}
-use Rattle.sc_statements.specs.declared.statement.Statements.TheVariants.{Eq, Next}
-use Rattle.sc_statements.specs.Constraints.{constraint_arity, constraint_challenge, constraint_groups, constraint_power}
-use Rattle.sc_statements.specs.Groups.{all_statements}
+use Rattle.sc_constraints.specs.declared.statement.Statements.TheVariants.{Eq, Next}
+use Rattle.sc_constraints.specs.Constraints.{constraint_arity, constraint_challenge, constraint_groups, constraint_power}
+use Rattle.sc_constraints.specs.Groups.{all_statements}
 use Rattle.sumcheck_make.specs.Made.{parts_in}
 use Rattle.sumcheck_replies.proofs.NumberLaws.{entries-numbers}
 use Rattle.sumcheck_make.proofs.MadeJobs.{about-same, two-groups}

@@ -1,6 +1,6 @@
 use Rattle.std.proofs.Common.{◌∙◌, map, sym, ap, subst, arith}
 use Rattle.std.proofs.lemmas.Result.{IfOk-weaker}
-use Rattle.sc_verdicts.proofs.ArityLaws.{shifted}
+use Rattle.sc_audit_errors.proofs.ArityLaws.{shifted}
 use Rattle.sumcheck_make.specs.Made.{PartsFit, parts_in, parts_end}
 use Rattle.sumcheck_make.specs.Values.{number_of}
 use Rattle.sumcheck_make.proofs.MadeJobs.{made-holds, parts-fit, about-shape, about-reply}

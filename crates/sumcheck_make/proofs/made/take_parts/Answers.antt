@@ -1,6 +1,6 @@
 use Rattle.std.proofs.Common.{◌≡◌, suc, ◌+◌, ◌*◌, ◌%◌, ◌^◌, ◌∙◌, zero-add, sym, ap, arith}
 use Rattle.sumcheck_make.specs.Made.{parts_end, value_at, values_behind}
-use Rattle.sc_verdicts.proofs.ArityLaws.{shifted}
+use Rattle.sc_audit_errors.proofs.ArityLaws.{shifted}
 use Rattle.sumcheck_make.proofs.MadeLaws.{value_at-first}
 use Rattle.sumcheck_make.proofs.MadeJobs.{parts-same}
 use Rattle.sumcheck_make.proofs.made.take_parts.Goals as goal

@@ -1,7 +1,7 @@
 use Rattle.std.proofs.Common.{ap, ◌∙◌}
 use Rattle.std.proofs.lemmas.List.{append-nil}
-use Rattle.sc_claims.specs.EqStatements.{eq_statements}
-use Rattle.sc_statements.specs.Groups.{all_statements}
+use Rattle.sc_statements.specs.EqStatements.{eq_statements}
+use Rattle.sc_constraints.specs.Groups.{all_statements}
 use Rattle.sumcheck_replies.specs.Fields.{Fields}
 use Rattle.sumcheck_tables.specs.Views.{case_in}
 use Rattle.sumcheck_tables.proofs.ClaimLaws.{asked-same}

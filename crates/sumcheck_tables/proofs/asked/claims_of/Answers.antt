@@ -2,7 +2,7 @@ use Rattle.std.proofs.Common.{◌≡◌, ℕ, ◌<◌, ◌+◌, ◌++◌, All, l
 use Rattle.std.proofs.lemmas.List.{length-drop}
 use Rattle.std.proofs.lemmas.List.Elements.{All-drop}
 use Rattle.sc_definitions.specs.Statements.{claims, equality}
-use Rattle.sc_claims.specs.EqStatements.{eq_statements}
+use Rattle.sc_statements.specs.EqStatements.{eq_statements}
 use Rattle.sumcheck_tables.specs.Tables.{value_claims}
 use Rattle.sumcheck_tables.proofs.ClaimLaws.{claims-more, points-left}
 use Rattle.sumcheck_tables.proofs.asked.claims_of.Goals as goal

@@ -1,5 +1,5 @@
 use Rattle.std.proofs.Common.{◌≡◌, ◌<◌, ◌-◌, ◌*◌, ◌++◌, All, length, drop}
-use Rattle.sc_claims.specs.EqStatements.{eq_arity, eq_statements}
+use Rattle.sc_statements.specs.EqStatements.{eq_arity, eq_statements}
 use Rattle.sumcheck_tables.specs.Tables.{value_claims}
 use Rattle.sumcheck_tables.proofs.asked.claims_of.Given as goal
 

@@ -1,7 +1,7 @@
 use Rattle.std.proofs.Common.{◌≡◌, ◌<◌, ◌^◌, ℕ, length, map, ◌∙◌, ap, arith}
 use Rattle.std.proofs.lemmas.List.{with_items_is, length-map}
 use Rattle.std.specs.Vec.{with_items}
-use Rattle.sc_definitions.specs.Tables.{entries, weight}
+use Rattle.sc_definitions.specs.Tables.{entries, equality_weight}
 use Rattle.sc_circuit.proofs.PhaseLaws.{places-below, second-begun, weights-alone}
 use Rattle.sc_circuit.proofs.phase.PhaseTables.begin_second.Goals as goal
 
@@ -31,7 +31,7 @@ returns-clause-rows g c =
     let made_len : length made ≡ zeros.len = c.add_equality.auto.rows ∙ c.as_mut_slice-2.ensures.len in
     let whole : length c.as_mut_slice.result.now ≡ 2 ^ k = c.as_mut_slice.ensures.len ∙ begun.points_size ∙ ap (λ n. 2 ^ n) c.begin.ensures.variables in
     let points = c.as_slice.result.now in
-    let weighs : (b : ℕ) → b < 2 ^ k → entries N points b ≡ weight e.ops us b = λ b low.
+    let weighs : (b : ℕ) → b < 2 ^ k → entries N points b ≡ equality_weight e.ops us b = λ b low.
     ap (λ xs. entries N xs b) (c.as_slice.ensures.value ∙ with_items_is zeros made made_len)
     ∙ weights-alone e.ops ring us b (entries N made b) (entries N lent b) (N c.ONE.result)
     (c.add_equality.ensures b (omega (arith, low, many)))

@@ -2,7 +2,7 @@ use Rattle.std.proofs.Common.{◌≡◌, ℕ, ◌+◌, ◌-◌, ◌<◌, ◌^◌
 use Rattle.std.specs.List.{take-map, drop-map}
 use Rattle.std.proofs.lemmas.List.{with_items_is, length-map, map-append, take-append-drop, take_all}
 use Rattle.sc_definitions.specs.Ring.{plus, times}
-use Rattle.sc_definitions.specs.Tables.{entries, weight}
+use Rattle.sc_definitions.specs.Tables.{entries, equality_weight}
 use Rattle.sc_circuit_definitions.specs.Circuits.{merged_weight}
 use Rattle.sc_circuit_definitions.specs.LayerRounds.{gate_tables, layer_sum}
 use Rattle.sc_circuit.specs.Options.{or_first, disagreement_at}
@@ -41,10 +41,10 @@ returns g c =
     let us_len : length us ≡ k = ap length (sym u_is) ∙ length-map (take k lent) N ∙ u_len in
     let vs_len : length vs ≡ k = ap length (sym v_is) ∙ length-map back N ∙ v_len in
     let first_len : length first.items ≡ 2 ^ k = c.in_ok-first.ensures.len ∙ ap (λ n. 2 ^ n) u_len in
-    let by_first : (b : ℕ) → b < 2 ^ k → entries N first.items b ≡ weight o us b = λ b low.
-    c.in_ok-first.ensures.weights b (subst (λ n. b < 2 ^ n) (sym u_len) low) ∙ ap (λ l. weight o l b) u_is in
-    let by_second : (b : ℕ) → b < 2 ^ k → entries N second.items b ≡ weight o vs b = λ b low.
-    c.in_ok-second.ensures.weights b (subst (λ n. b < 2 ^ n) (sym v_len) low) ∙ ap (λ l. weight o l b) v_is in
+    let by_first : (b : ℕ) → b < 2 ^ k → entries N first.items b ≡ equality_weight o us b = λ b low.
+    c.in_ok-first.ensures.weights b (subst (λ n. b < 2 ^ n) (sym u_len) low) ∙ ap (λ l. equality_weight o l b) u_is in
+    let by_second : (b : ℕ) → b < 2 ^ k → entries N second.items b ≡ equality_weight o vs b = λ b low.
+    c.in_ok-second.ensures.weights b (subst (λ n. b < 2 ^ n) (sym v_len) low) ∙ ap (λ l. equality_weight o l b) v_is in
     let lent_len : length c.as_mut_slice.result.now ≡ 2 ^ k = c.as_mut_slice.ensures.len ∙ first.ok.0 ∙ first_len in
     let made_len : length made ≡ first.len = c.add_scaled.auto.rows ∙ c.as_mut_slice.ensures.len in
     let places = places-below (2 ^ k) gates c.requires.left c.requires.right in
@@ -68,7 +68,7 @@ returns g c =
           ∙ ap (λ xs. plus o (entries N xs b) (times o m (entries N c.deref-4.result.now b))) c.as_mut_slice.ensures.value
           ∙ ap (λ xs. plus o (entries N first.items b) (times o m (entries N xs b))) c.deref-4.ensures.value
           ∙ ap (λ n. plus o n (times o m (entries N second.items b))) (by_first b low)
-          ∙ ap (λ n. plus o (weight o us b) (times o m n)) (by_second b low);
+          ∙ ap (λ n. plus o (equality_weight o us b) (times o m n)) (by_second b low);
       challenges = ap (map (λ row. map N row)) c.in_ok-push-2.ensures.items ∙ map-append (λ row. map N row) old.challenges.items (c.new.result ∷ [])
           ∙ ap (λ row. map (λ row. map N row) old.challenges.items ++ map N row ∷ []) (c.new.ensures ∙ c.in_ok-from_slice.ensures.items ∙ same);
       merges = ap (map N) c.in_ok-push.ensures.items ∙ map-append N old.merges.items (c.args.replayed.now.merge ∷ []);

@@ -1,5 +1,5 @@
 use Rattle.std.proofs.Common.{◌^◌, sym, ◌∙◌, ap, arith}
-use Rattle.sc_verdicts.proofs.ArityLaws.{arity-tells}
+use Rattle.sc_audit_errors.proofs.ArityLaws.{arity-tells}
 use Rattle.sc_jobs.proofs.shape.FittingJob.of.Goals as goal
 
 pub invariant_of-result : goal.invariant_of-result

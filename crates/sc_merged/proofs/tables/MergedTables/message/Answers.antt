@@ -2,7 +2,7 @@ use Rattle.std.proofs.Common.{◌≡◌, ℕ, [], ◌∷◌, ◌<◌, ◌≤◌,
 use Rattle.sc_definitions.specs.Ring.{plus}
 use Rattle.sc_definitions.specs.Tables.{evaluation, prefix}
 use Rattle.sc_definitions.specs.Messages.{message_first, message_leading, message_of}
-use Rattle.sc_definitions.specs.Standings.{half_rows}
+use Rattle.sc_definitions.specs.ProverStates.{half_rows}
 use Rattle.sc_definitions.proofs.Lists.{read_has}
 use Rattle.sc_soundness.specs.Merged.{WeightedTable, merged_message_first}
 use Rattle.sc_merged.specs.WeightedPolys.{arity_in, table_in, weights_in, weighted_in}

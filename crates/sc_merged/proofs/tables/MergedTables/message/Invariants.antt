@@ -1,7 +1,7 @@
 use Rattle.std.proofs.Common.{◌≡◌, take}
 use Rattle.sc_definitions.specs.Tables.{evaluation, prefix}
 use Rattle.sc_definitions.specs.Messages.{message_first, message_leading}
-use Rattle.sc_definitions.specs.Standings.{half_rows}
+use Rattle.sc_definitions.specs.ProverStates.{half_rows}
 use Rattle.sc_merged.specs.MergedViews.{left_in, pairs_in}
 use Rattle.sc_merged.proofs.TotalLaws.{total}
 use Rattle.sc_merged.proofs.tables.MergedTables.message.Given as goal

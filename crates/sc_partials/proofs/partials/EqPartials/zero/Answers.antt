@@ -1,5 +1,5 @@
 use Rattle.std.proofs.Common.{◌^◌, ◌<◌, ◌∙◌, ap, sym, subst}
-use Rattle.sc_definitions.proofs.StandingLaws.{length-entries_of, rows-entries_of}
+use Rattle.sc_definitions.proofs.ProverStateLaws.{length-entries_of, rows-entries_of}
 use Rattle.sc_partials.proofs.partials.EqPartials.zero.Goals as goal
 
 pub returns-clause-size : goal.returns-clause-size

@@ -1,5 +1,5 @@
 use Rattle.std.proofs.Common.{refl, ap, ◌∙◌}
-use Rattle.sc_statements.proofs.ConstraintPoints.{value_at, values-none, values-more, values-end}
+use Rattle.sc_constraints.proofs.ConstraintPoints.{value_at, values-none, values-more, values-end}
 use Rattle.sc_rounds.proofs.eval_constraints.VariableOrderEvalConstraints.eval_constraints_poly.Goals as goal
 
 pub loop-constraint-init : goal.loop-constraint-init

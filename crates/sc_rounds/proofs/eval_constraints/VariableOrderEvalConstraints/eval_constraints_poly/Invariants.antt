@@ -1,7 +1,7 @@
 use Rattle.std.proofs.Common.{◌≡◌, map, drop}
 use Rattle.sc_definitions.specs.Ring.{plus}
 use Rattle.sc_table.specs.Strategy.{order_of}
-use Rattle.sc_statements.specs.ConstraintValues.{constraints_value}
+use Rattle.sc_constraints.specs.ConstraintValues.{constraints_value}
 use Rattle.sc_rounds.proofs.eval_constraints.VariableOrderEvalConstraints.eval_constraints_poly.Given as goal
 
 abbrev pub invariant-loop-constraint : goal.invariant-loop-constraint

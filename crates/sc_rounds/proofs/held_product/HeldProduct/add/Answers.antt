@@ -1,7 +1,7 @@
 use Rattle.std.proofs.Common.{ap, ◌∙◌, sym, subst}
 use Rattle.sc_definitions.specs.Tables.{entries}
 use Rattle.sc_rounds.specs.Provers.{held_shown}
-use Rattle.sc_definitions.specs.Shown.{IsTrueClaim, sum_with, with_added}
+use Rattle.sc_definitions.specs.ProverViews.{IsTrueClaim, sum_with, with_added}
 use Rattle.sc_rounds.proofs.HeldLaws.{none_held, settled_pair, none_wanted, true_added}
 use Rattle.sc_rounds.proofs.ShownLaws.{shown_added}
 use Rattle.sc_rounds.proofs.held_product.HeldProduct.add.Goals as goal

@@ -1,7 +1,7 @@
 use Rattle.std.proofs.Common.{[], ◌∷◌, ap, sym, ◌∙◌, subst}
 use Rattle.sc_definitions.specs.Rounds.{next_claim}
 use Rattle.sc_rounds.specs.Provers.{held_shown}
-use Rattle.sc_definitions.specs.Shown.{IsTrueClaim}
+use Rattle.sc_definitions.specs.ProverViews.{IsTrueClaim}
 use Rattle.sc_rounds.proofs.HeldLaws.{bound_shown, true_bound, left_before}
 use Rattle.sc_rounds.proofs.held_product.HeldProduct.bind.Goals as goal
 

@@ -1,5 +1,5 @@
 use Rattle.std.proofs.Common.{sym, subst}
-use Rattle.sc_definitions.specs.Shown.{IsTrueClaim}
+use Rattle.sc_definitions.specs.ProverViews.{IsTrueClaim}
 use Rattle.sc_rounds.proofs.HeldLaws.{none_held, settled, message_pair, left_before, two_left, nothing_held}
 use Rattle.sc_rounds.proofs.held_product.HeldProduct.measure.Goals as goal
 

@@ -2,8 +2,8 @@ use Rattle.std.proofs.Common.{◌+◌, ◌≤◌, map, ap, sym, refl, inl, inr, 
 use Rattle.std.proofs.lemmas.List.{map-append}
 use Rattle.sc_transcript.proofs.ReplayedLaws.{same_channel}
 use Rattle.sc_transcript.specs.declared.rounds.BatchShape.{BatchShape}
-use Rattle.sc_definitions.specs.Shown.{Shown}
-use Rattle.sc_rounds.specs.HeldProducts.{shown_in, image_in, standing_over}
+use Rattle.sc_definitions.specs.ProverViews.{ProverView}
+use Rattle.sc_rounds.specs.HeldProducts.{shown_in, image_in, prover_state_over}
 use Rattle.sc_transcript.proofs.BatchLaws.{fits, less_by_one, some_left, less_at, room_at, all_played, sum_at, same_setting, one_round_more, stops, begun_within}
 use Rattle.sc_rounds.proofs.held_product.HeldProduct.play.Goals as goal
 
@@ -45,7 +45,7 @@ loop-round-preserved g c =
         last = _;
         are = drawn;
         held = round.holds.held;
-        before = standing_over M (image_in g.EF.FromTable.to_number c.loop-round.self) c.loop-round.transcript c.loop-round.sumcheck_data;
+        before = prover_state_over M (image_in g.EF.FromTable.to_number c.loop-round.self) c.loop-round.transcript c.loop-round.sumcheck_data;
         played = inv.batch start before;
         evals = round.holds.evals;
         weights = round.holds.weights;
@@ -95,7 +95,7 @@ returns-in-Err g c =
         kind = round.continues.kind ∙ inv.continues.kind;
       };
       form = record { basis = round.form.basis ∙ inv.form.basis; order = round.form.order ∙ inv.form.order };
-      left = sum_at _ _ _ _ (round.counts ∙ inv.played) (ap (λ (s : Shown). s.variables + c.loop-round._round) round.kept ∙ inv.left);
+      left = sum_at _ _ _ _ (round.counts ∙ inv.played) (ap (λ (s : ProverView). s.variables + c.loop-round._round) round.kept ∙ inv.left);
       rounds = λ start before. (
         less_at _ _ _ _ (round.counts ∙ inv.played) c.loop-round-test.true (ap (λ (s : BatchShape). s.num_rounds) c.shape-round-end.ensures.numbers ∙ ap (λ (s : BatchShape). s.num_rounds) (sym inv.continues.shape ∙ sym round.continues.shape)),
         stops _ c.in-Err.error

@@ -7,11 +7,11 @@ use Rattle.sc_transcript.specs.declared.rounds.BatchShape.{BatchShape}
 use Rattle.sc_transcript.specs.Data.{wire_in}
 use Rattle.sc_transcript.proofs.ReplayedLaws.{same_channel}
 use Rattle.sc_transcript.proofs.Lent.{returned}
-use Rattle.sc_definitions.specs.Shown.{standing_at}
+use Rattle.sc_definitions.specs.ProverViews.{prover_state_at}
 use Rattle.sc_rounds.specs.HeldProducts.{image_in}
 use Rattle.sc_transcript.proofs.BatchLaws.{same_setting, played_at, holds_at, stops_batch, never_begun, sum_at, as_none, none_before, enough_left, held_if_any}
 use Rattle.sc_rounds.proofs.HeldLaws.{held_sized}
-use Rattle.sc_definitions.proofs.StandingLaws.{played_none}
+use Rattle.sc_definitions.proofs.ProverStateLaws.{played_none}
 use Rattle.std.proofs.lemmas.List.{length-map}
 use Rattle.sc_rounds.proofs.held_product.HeldProduct.play_batch.Goals as goal
 
@@ -34,8 +34,8 @@ returns-in-Ok-clause-batch g c =
           (none_before _ _ _ _ c.in-Ok.ensures.left begun.fresh.played);
       played = played_at
           (same_setting (same_channel g.G.Field.ops.size (ap R begun.lent.same ∙ c.in_ok-seed.ensures.rules) (ap (λ s. s.pow_bits) begun.fresh.shape ∙ ap (λ (s : SumcheckShape). s.pow_bits) c.new-shape.ensures)) refl refl)
-          (ap (λ h. standing_at (image_in to c.args.self.now) h (W c.args.sumcheck_data.now)) (ap H begun.lent.same ∙ c.in_ok-seed.ensures.history ∙ seeded))
-          (ap (λ h. standing_at (image_in to c.play.new.self) h (W c.play.new.sumcheck_data)) (sym (ap H (returned (search rules) c.in-Ok.ensures.continues.lender begun.lent.lender c.finish.ensures))))
+          (ap (λ h. prover_state_at (image_in to c.args.self.now) h (W c.args.sumcheck_data.now)) (ap H begun.lent.same ∙ c.in_ok-seed.ensures.history ∙ seeded))
+          (ap (λ h. prover_state_at (image_in to c.play.new.self) h (W c.play.new.sumcheck_data)) (sym (ap H (returned (search rules) c.in-Ok.ensures.continues.lender begun.lent.lender c.finish.ensures))))
           (ap (map g.EG.Field.number) (sym c.new.ensures)) all.1;
     }
 
@@ -54,7 +54,7 @@ returns-in-Ok-clause-holds g c =
     let none = played_none _ _ (record { evals = length-map _ to ∙ size.0; weights = length-map _ to ∙ size.1 }) in
     holds_at
     (same_setting (same_channel g.G.Field.ops.size (ap R begun.lent.same ∙ c.in_ok-seed.ensures.rules) (ap (λ s. s.pow_bits) begun.fresh.shape ∙ ap (λ (s : SumcheckShape). s.pow_bits) c.new-shape.ensures)) refl refl)
-    (ap (λ h. standing_at (image_in to c.args.self.now) h (W c.args.sumcheck_data.now)) (ap H begun.lent.same ∙ c.in_ok-seed.ensures.history ∙ seeded))
+    (ap (λ h. prover_state_at (image_in to c.args.self.now) h (W c.args.sumcheck_data.now)) (ap H begun.lent.same ∙ c.in_ok-seed.ensures.history ∙ seeded))
     (ap (map g.EG.Field.number) (sym c.new.ensures))
     (held_if_any (ap (map g.EG.Field.number) c.in_ok-challenges.ensures.empty) none c.in-Ok.ensures.holds)
 
@@ -74,8 +74,8 @@ returns-in-Err-clause-batch g c =
     let some = c.in-Err.ensures.rounds _ (as_none _ _ _ (ap (map g.EG.Field.number) c.in_ok-challenges.ensures.empty) none) in
     stops_batch _ c.in-Err.error
     (same_setting (same_channel g.G.Field.ops.size (ap R begun.lent.same ∙ c.in_ok-seed.ensures.rules) (ap (λ s. s.pow_bits) begun.fresh.shape ∙ ap (λ (s : SumcheckShape). s.pow_bits) c.new-shape.ensures)) refl refl)
-    (ap (λ h. standing_at (image_in to c.args.self.now) h (W c.args.sumcheck_data.now)) (ap H begun.lent.same ∙ c.in_ok-seed.ensures.history ∙ seeded))
-    (ap (λ h. standing_at (image_in to c.play.new.self) h (W c.play.new.sumcheck_data)) (sym (ap H (returned (search rules) c.in-Err.ensures.continues.lender begun.lent.lender c.abort.ensures))))
+    (ap (λ h. prover_state_at (image_in to c.args.self.now) h (W c.args.sumcheck_data.now)) (ap H begun.lent.same ∙ c.in_ok-seed.ensures.history ∙ seeded))
+    (ap (λ h. prover_state_at (image_in to c.play.new.self) h (W c.play.new.sumcheck_data)) (sym (ap H (returned (search rules) c.in-Err.ensures.continues.lender begun.lent.lender c.abort.ensures))))
     (none_before _ _ _ _ c.in-Err.ensures.left begun.fresh.played) some.0 (ap (λ (s : BatchShape). s.num_rounds) (c.in-Err.ensures.continues.shape ∙ begun.fresh.shape) ∙ ap (λ (s : SumcheckShape). s.num_rounds) c.new-shape.ensures) some.1
 
 -- the transcript keeps the challenger's rules
@@ -99,7 +99,7 @@ pub returns-in_err-seed-clause-batch : goal.returns-in_err-seed-clause-batch
 returns-in_err-seed-clause-batch g c =
     let to = g.EF.FromTable.to_number in
     never_begun _ _ _ c.from_residual-in_err-seed.ensures.1
-    (ap (λ h. standing_at (image_in to c.args.self.now) h (wire_in g.G.Field.number g.EG.Field.number c.args.sumcheck_data.now)) c.in_err-seed.ensures.history)
+    (ap (λ h. prover_state_at (image_in to c.args.self.now) h (wire_in g.G.Field.number g.EG.Field.number c.args.sumcheck_data.now)) c.in_err-seed.ensures.history)
 
 -- no round was played, and there is no challenge yet
 pub play-requires-clause-variables : goal.play-requires-clause-variables

@@ -4,7 +4,7 @@ use Rattle.sc_definitions.specs.Tables.{entries, rows_of}
 use Rattle.sc_transcript.specs.Transcripts.{driver_in}
 use Rattle.sc_transcript.specs.Data.{wire_in}
 use Rattle.sc_rounds.specs.Provers.{shown_of, held_shown, number_if_some}
-use Rattle.sc_definitions.specs.Shown.{imaged, message_shown, with_bound, standing_at}
+use Rattle.sc_definitions.specs.ProverViews.{imaged, message_shown, with_bound, prover_state_at}
 use Rattle.sc_definitions.proofs.MappedRounds.{below_entries}
 use Rattle.sc_transcript.proofs.BatchLaws.{halts}
 use Rattle.sc_rounds.proofs.HeldLaws.{none_held, settled_pair}
@@ -77,8 +77,8 @@ returns-in-Err-clause-round g c =
     let T' = c.observe_and_sample.new.transcript in
     let D = c.args.sumcheck_data.now in
     halts _ _ _ c.in-Err.error c.in-Err.ensures.refused.why (message ∙ ap (λ q. message_shown b (imaged to q)) same)
-    (ap (λ w. standing_at (imaged to (held_shown a N t.poly t.held t.sum)) (driver_in T').history w) c.in-Err.ensures.kept
-    ∙ ap (λ q. standing_at (imaged to q) (driver_in T').history (wire_in g.G.Field.number g.EG.Field.number D)) e.kept)
+    (ap (λ w. prover_state_at (imaged to (held_shown a N t.poly t.held t.sum)) (driver_in T').history w) c.in-Err.ensures.kept
+    ∙ ap (λ q. prover_state_at (imaged to q) (driver_in T').history (wire_in g.G.Field.number g.EG.Field.number D)) e.kept)
 
 pub returns-clause-holds : goal.returns-clause-holds
 returns-clause-holds g c =

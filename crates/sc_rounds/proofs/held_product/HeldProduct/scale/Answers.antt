@@ -1,6 +1,6 @@
 use Rattle.std.proofs.Common.{ap, ◌∙◌, sym, subst}
 use Rattle.sc_rounds.specs.Provers.{held_shown}
-use Rattle.sc_definitions.specs.Shown.{IsTrueClaim, with_scaled}
+use Rattle.sc_definitions.specs.ProverViews.{IsTrueClaim, with_scaled}
 use Rattle.sc_rounds.proofs.HeldLaws.{none_held, settled_pair, none_wanted, true_scaled}
 use Rattle.sc_rounds.proofs.ShownLaws.{shown_scaled}
 use Rattle.sc_rounds.proofs.held_product.HeldProduct.scale.Goals as goal

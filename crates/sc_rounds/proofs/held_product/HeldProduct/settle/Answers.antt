@@ -1,5 +1,5 @@
 use Rattle.std.proofs.Common.{sym, subst}
-use Rattle.sc_definitions.specs.Shown.{IsTrueClaim}
+use Rattle.sc_definitions.specs.ProverViews.{IsTrueClaim}
 use Rattle.sc_rounds.proofs.HeldLaws.{settled, nothing_held}
 use Rattle.sc_rounds.proofs.held_product.HeldProduct.settle.Goals as goal
 

@@ -1,6 +1,6 @@
 use Rattle.std.proofs.Common.{ap, ◌∙◌, sym, subst}
 use Rattle.sc_rounds.specs.Provers.{held_shown, stated, weight_of, claim_of}
-use Rattle.sc_definitions.specs.Shown.{IsTrueClaim, sum_with, with_added}
+use Rattle.sc_definitions.specs.ProverViews.{IsTrueClaim, sum_with, with_added}
 use Rattle.sc_rounds.proofs.HeldLaws.{none_held, settled_pair, none_wanted, true_added}
 use Rattle.sc_rounds.proofs.ShownLaws.{shown_taken}
 use Rattle.sc_rounds.proofs.held_product.HeldProduct.take_in.Goals as goal

@@ -1,7 +1,7 @@
 use Rattle.std.proofs.Common.{◌<◌, ◌^◌, arith, refl, ap, sym, subst, ◌∙◌}
-use Rattle.sc_definitions.specs.Tables.{evaluation, bound_in}
+use Rattle.sc_definitions.specs.Tables.{evaluation, folded_in}
 use Rattle.sc_definitions.specs.Messages.{message_of}
-use Rattle.sc_definitions.specs.Standings.{half_rows}
+use Rattle.sc_definitions.specs.ProverStates.{half_rows}
 use Rattle.sc_table.specs.Polys.{variables_of, table_of}
 use Rattle.sc_table.specs.Strategy.{order_of}
 use Rattle.sc_transcript.proofs.BatchLaws.{one_less}
@@ -33,8 +33,8 @@ returns-clause-bound g c =
       basis = refl;
       order = refl;
       fewer = fold.ensures.evals.fewer;
-      evals = λ b low. fold.ensures.evals.rows b low ∙ ap (λ k. bound_in k order o (variables_of fold.new.evals) (N c.args.r) (table_of N old.evals) b) values;
+      evals = λ b low. fold.ensures.evals.rows b low ∙ ap (λ k. folded_in k order o (variables_of fold.new.evals) (N c.args.r) (table_of N old.evals) b) values;
       weights = λ b low. fold.ensures.weights.rows b (subst (λ n. b < 2 ^ n) (sym same) low)
-          ∙ ap (λ n. bound_in evaluation order o n (N c.args.r) (table_of N old.weights) b) same
-          ∙ ap (λ k. bound_in k order o (variables_of fold.new.evals) (N c.args.r) (table_of N old.weights) b) values;
+          ∙ ap (λ n. folded_in evaluation order o n (N c.args.r) (table_of N old.weights) b) same
+          ∙ ap (λ k. folded_in k order o (variables_of fold.new.evals) (N c.args.r) (table_of N old.weights) b) values;
     }

@@ -2,11 +2,11 @@ use Rattle.std.proofs.Common.{◌≡◌, ℕ, suc, [], ◌∷◌, ◌+◌, ◌^�
 use Rattle.sc_definitions.specs.Tables.{entries, rows_of}
 use Rattle.sc_definitions.specs.Messages.{message_of}
 use Rattle.sc_definitions.specs.Rounds.{next_claim}
-use Rattle.sc_definitions.specs.Standings.{half_rows}
+use Rattle.sc_definitions.specs.ProverStates.{half_rows}
 use Rattle.sc_table.specs.Strategy.{basis_of, order_of}
 use Rattle.sc_transcript.specs.Transcripts.{driver_in}
 use Rattle.sc_rounds.specs.Products.{variables_in, evals_in, weights_in}
-use Rattle.sc_rounds.specs.Standings.{standing_in}
+use Rattle.sc_rounds.specs.ProverStates.{prover_state_in}
 use Rattle.sc_transcript.proofs.BatchLaws.{halts}
 use Rattle.sc_definitions.proofs.MappedRounds.{mapped, below_entries, image_message, image_bound, image_next}
 use Rattle.sc_definitions.proofs.PairMoves.{moves, sum_after}
@@ -79,7 +79,7 @@ returns-in-Err-clause-round g c =
     (image_message a b ra rb to image (basis_of old.basis) (order_of old.order) (half_rows (variables_in old)) evals_low weights_low
     (mapped a b ra rb to image N _) (mapped a b ra rb to image N _)
     c.into_transcript-c_a.ensures c.into_transcript-c_inf.ensures c.measure-message.ensures)
-    (ap (λ w. standing_in T old c.args.sum.now (driver_in c.observe_and_sample.new.transcript).history w) c.in-Err.ensures.kept)
+    (ap (λ w. prover_state_in T old c.args.sum.now (driver_in c.observe_and_sample.new.transcript).history w) c.in-Err.ensures.kept)
 
 -- the caller says that a round is left
 pub observe_and_sample-requires : goal.observe_and_sample-requires

@@ -1,10 +1,10 @@
 use Rattle.std.proofs.Common.{◌≡◌, ap, ◌∙◌, sym, subst}
 use Rattle.std.proofs.lemmas.Result.{IfOk-from_err}
-use Rattle.sc_definitions.specs.Tables.{inner}
+use Rattle.sc_definitions.specs.Tables.{inner_product}
 use Rattle.sc_definitions.specs.Statements.{batched_weight, batched_claim}
-use Rattle.sc_statements.specs.Constraints.{constraint_arity, constraint_challenge, constraint_power, constraint_statements}
+use Rattle.sc_constraints.specs.Constraints.{constraint_arity, constraint_challenge, constraint_power, constraint_statements}
 use Rattle.sc_rounds.specs.Products.{variables_in, evals_in, weights_in, sum_in}
-use Rattle.sc_definitions.specs.Shown.{Shown, sum_with, IsTrueClaim}
+use Rattle.sc_definitions.specs.ProverViews.{ProverView, sum_with, IsTrueClaim}
 use Rattle.sc_rounds.proofs.HeldLaws.{none_held, settled_pair}
 use Rattle.sc_rounds.proofs.TakenLaws.{sum_taken, claim_taken}
 use Rattle.sc_rounds.proofs.ShownLaws.{sum_shown, true_of}
@@ -29,17 +29,17 @@ returns-clause-exact g c =
     let size : variables_in pair ≡ n = c.new_in-combined.ensures.variables ∙ c.in_ok-evals.ensures.variables in
     let evals : evals_in N pair ≡ f = c.new_in-combined.ensures.evals ∙ c.in_ok-evals.ensures.table in
     let weights : weights_in N pair ≡ w = c.new_in-combined.ensures.weights ∙ c.in_ok-weights.ensures.table in
-    let begun : N old.sum ≡ inner o (variables_in pair) (evals_in N pair) (weights_in N pair) =
-    true_sum ∙ ap (λ k. inner o k f w) (sym size) ∙ ap (λ t. inner o (variables_in pair) t w) (sym evals) ∙ ap (inner o (variables_in pair) (evals_in N pair)) (sym weights) in
-    let moved : inner o (variables_in end) (evals_in N end) (weights_in N end) ≡ inner o (variables_in pair) (evals_in N pair) (weights_in N end) =
-    ap (λ k. inner o k (evals_in N end) (weights_in N end)) c.combine.ensures.variables ∙ ap (λ t. inner o (variables_in pair) t (weights_in N end)) c.combine.ensures.evals in
-    let there : inner o (variables_in pair) (evals_in N pair) v ≡ inner o n f v = ap (λ k. inner o k (evals_in N pair) v) size ∙ ap (λ t. inner o n t v) evals in
+    let begun : N old.sum ≡ inner_product o (variables_in pair) (evals_in N pair) (weights_in N pair) =
+    true_sum ∙ ap (λ k. inner_product o k f w) (sym size) ∙ ap (λ t. inner_product o (variables_in pair) t w) (sym evals) ∙ ap (inner_product o (variables_in pair) (evals_in N pair)) (sym weights) in
+    let moved : inner_product o (variables_in end) (evals_in N end) (weights_in N end) ≡ inner_product o (variables_in pair) (evals_in N pair) (weights_in N end) =
+    ap (λ k. inner_product o k (evals_in N end) (weights_in N end)) c.combine.ensures.variables ∙ ap (λ t. inner_product o (variables_in pair) t (weights_in N end)) c.combine.ensures.evals in
+    let there : inner_product o (variables_in pair) (evals_in N pair) v ≡ inner_product o n f v = ap (λ k. inner_product o k (evals_in N pair) v) size ∙ ap (λ t. inner_product o n t v) evals in
     let added = c.combine.ensures.added in (
       λ told. record {
-        arity = arity ∙ ap (λ (s : Shown). s.variables) same;
-        claim = ap (λ (s : Shown). sum_with o s v) (sym same) ∙ sum_shown N o old.poly old.sum v ∙ sym there ∙ claim_taken o ring _ begun (c.sum_is_true.ensures.0 told ∙ moved) added;
+        arity = arity ∙ ap (λ (s : ProverView). s.variables) same;
+        claim = ap (λ (s : ProverView). sum_with o s v) (sym same) ∙ sum_shown N o old.poly old.sum v ∙ sym there ∙ claim_taken o ring _ begun (c.sum_is_true.ensures.0 told ∙ moved) added;
       },
-      λ true_one. c.sum_is_true.ensures.1 (sum_taken o ring _ begun (there ∙ sym (sum_shown N o old.poly old.sum v) ∙ ap (λ (s : Shown). sum_with o s v) same ∙ true_one.claim) added ∙ sym moved),
+      λ true_one. c.sum_is_true.ensures.1 (sum_taken o ring _ begun (there ∙ sym (sum_shown N o old.poly old.sum v) ∙ ap (λ (s : ProverView). sum_with o s v) same ∙ true_one.claim) added ∙ sym moved),
     )
 
 -- a refusal tells nothing of an answer

@@ -1,6 +1,6 @@
 use Rattle.std.proofs.Common.{ap, ◌∙◌}
 use Rattle.std.proofs.lemmas.Result.{IfOk-weaker}
-use Rattle.sc_definitions.specs.Shown.{Shown}
+use Rattle.sc_definitions.specs.ProverViews.{ProverView}
 use Rattle.sc_rounds.proofs.HeldLaws.{settled_pair}
 use Rattle.sc_rounds.proofs.ShownLaws.{numbers_if_ok}
 use Rattle.sc_rounds.proofs.strategy.SumcheckProver.evals.Goals as goal
@@ -10,7 +10,7 @@ returns-clause-variables g c =
     let t = c.settle.new.self in
     let e = c.settle.ensures in
     let same = settled_pair g.EF.Field.ops g.EF.Field.number t.poly t.sum t.held _ e.settled e.kept in
-    IfOk-weaker c.evals.result _ _ (λ q size. size ∙ ap (λ (s : Shown). s.variables) same) c.evals.ensures.variables
+    IfOk-weaker c.evals.result _ _ (λ q size. size ∙ ap (λ (s : ProverView). s.variables) same) c.evals.ensures.variables
 
 pub returns-clause-table : goal.returns-clause-table
 returns-clause-table g c =
@@ -18,5 +18,5 @@ returns-clause-table g c =
     let t = c.settle.new.self in
     let e = c.settle.ensures in
     let same = settled_pair g.EF.Field.ops N t.poly t.sum t.held _ e.settled e.kept in
-    IfOk-weaker c.evals.result _ _ (λ q is. is ∙ ap (λ (s : Shown). s.evals) same)
+    IfOk-weaker c.evals.result _ _ (λ q is. is ∙ ap (λ (s : ProverView). s.evals) same)
     (numbers_if_ok N N t.poly.evals c.evals.result c.evals.ensures.variables c.evals.ensures.table)

@@ -1,5 +1,5 @@
 use Rattle.std.proofs.Common.{ap, ◌∙◌, ◌^◌, refl}
-use Rattle.sc_definitions.specs.Shown.{Shown}
+use Rattle.sc_definitions.specs.ProverViews.{ProverView}
 use Rattle.sc_rounds.specs.Provers.{number_if_some}
 use Rattle.sc_rounds.proofs.HeldLaws.{settled_pair}
 use Rattle.sc_rounds.proofs.ShownLaws.{same_entries}
@@ -15,7 +15,7 @@ returns g c =
       (refl, λ after. tt, (e.kept, ap (number_if_some N) e.settled)),
       record {
         kept = tt;
-        numbers = same_entries N t.poly.evals _ c.evals_view.ensures.size c.evals_view.ensures.numbers ∙ ap (λ (s : Shown). s.evals) same;
-        size = c.evals_view.ensures.size ∙ ap (λ (s : Shown). 2 ^ s.variables) same;
+        numbers = same_entries N t.poly.evals _ c.evals_view.ensures.size c.evals_view.ensures.numbers ∙ ap (λ (s : ProverView). s.evals) same;
+        size = c.evals_view.ensures.size ∙ ap (λ (s : ProverView). 2 ^ s.variables) same;
       },
     )

@@ -1,7 +1,7 @@
 use mathlib.Core.Path.{fun_ext}
 use Rattle.std.proofs.Common.{◌≡◌, ℕ, ◌+◌, ◌-◌, ◌^◌, List, length, map, ◌∙◌, ap, sym, subst, arith}
 use Rattle.std.proofs.lemmas.List.{length-map}
-use Rattle.sc_definitions.specs.Tables.{Order, entries, point_of, evaluation, bound_by}
+use Rattle.sc_definitions.specs.Tables.{Order, entries, point_of, evaluation, folded_by}
 use Rattle.sc_definitions.proofs.Lengths.{pow-same}
 use Rattle.sc_definitions.proofs.PlacedSums.{length-point_of}
 use Rattle.sc_table.specs.Polys.{variables_of}
@@ -57,7 +57,7 @@ returns-clause-evals g c =
     fun_ext (λ b. entry-embedded h n c.args.table.now b g.met.EF.Algebra.embeds.zero_kept) in
     record {
       variables = pow-same _ s.variables (sym is.size ∙ c.requires.table);
-      rows = λ b low. is.entries_are b low ∙ ap (λ f. bound_by evaluation (order_of s.order) e.ops rs (variables_of c.in_ok-evals.evals) f b) images;
+      rows = λ b low. is.entries_are b low ∙ ap (λ f. folded_by evaluation (order_of s.order) e.ops rs (variables_of c.in_ok-evals.evals) f b) images;
     }
 
 pub returns-clause-weights : goal.returns-clause-weights
@@ -69,7 +69,7 @@ returns-clause-weights g c =
     record {
       variables = pow-same _ s.variables (sym is.size);
       rows = λ b low. is.entries_are b low
-          ∙ ap (λ cs. bound_by evaluation (order_of s.order) e.ops rs (variables_of c.in_ok-weights.weights) (combined_weight e.ops (claims_in e.number cs)) b) c.deref.ensures.value;
+          ∙ ap (λ cs. folded_by evaluation (order_of s.order) e.ops rs (variables_of c.in_ok-weights.weights) (combined_weight e.ops (claims_in e.number cs)) b) c.deref.ensures.value;
     }
 
 -- the same by the original tables

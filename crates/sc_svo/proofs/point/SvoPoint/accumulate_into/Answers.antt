@@ -1,11 +1,11 @@
 use Rattle.std.proofs.Common.{◌≡◌, ◌^◌, ◌<◌, subst, length, map, ◌∙◌, ap, sym}
 use Rattle.std.proofs.lemmas.List.{length-map}
 use Rattle.sc_definitions.specs.Ring.{plus, times}
-use Rattle.sc_definitions.specs.Tables.{entries, weight, eq_product}
+use Rattle.sc_definitions.specs.Tables.{entries, equality_weight, eq_product}
 use Rattle.sc_definitions.proofs.RingLaws.{times_assoc}
 use Rattle.sc_table.specs.SplitEqs.{split_weight}
 use Rattle.sc_svo.specs.Points.{order_in, near_in, far_in}
-use Rattle.sc_svo.proofs.PointParts.{weight-joined}
+use Rattle.sc_svo.proofs.PointParts.{equality_weight-joined}
 use Rattle.sc_svo.proofs.point.SvoPoint.accumulate_into.Goals as goal
 
 pub returns : goal.returns
@@ -22,5 +22,5 @@ returns g c b low =
     c.accumulate_into.ensures b (subst (λ n. b < 2 ^ n) (sym p.sized) there)
     ∙ ap (λ x. plus e.ops (entries e.number c.args.out.now b) (times e.ops x (split_weight e.number e.ops p.split b))) (c.mul.ensures ∙ ap (times e.ops (e.number c.args.scale)) bound)
     ∙ ap (λ x. plus e.ops (entries e.number c.args.out.now b) (times e.ops (times e.ops (e.number c.args.scale) (eq_product e.ops (near_in p) rs)) x)) (p.weighs b there)
-    ∙ ap (plus e.ops (entries e.number c.args.out.now b)) (times_assoc e.ops ring (e.number c.args.scale) (eq_product e.ops (near_in p) rs) (weight e.ops (far_in p) b)
-    ∙ ap (times e.ops (e.number c.args.scale)) (weight-joined e.ops ring (order_in p) (near_in p) (far_in p) rs b (length-map c.args.rs.now e.number ∙ c.requires.bound) far))
+    ∙ ap (plus e.ops (entries e.number c.args.out.now b)) (times_assoc e.ops ring (e.number c.args.scale) (eq_product e.ops (near_in p) rs) (equality_weight e.ops (far_in p) b)
+    ∙ ap (times e.ops (e.number c.args.scale)) (equality_weight-joined e.ops ring (order_in p) (near_in p) (far_in p) rs b (length-map c.args.rs.now e.number ∙ c.requires.bound) far))

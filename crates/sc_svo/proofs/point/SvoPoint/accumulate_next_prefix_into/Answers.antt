@@ -2,7 +2,7 @@ use Rattle.std.proofs.Common.{◌≡◌, ℕ, ◌-◌, ◌^◌, ◌<◌, length,
 use Rattle.std.proofs.lemmas.List.{length-map}
 use Rattle.std.proofs.lemmas.Nat.{pow_pos}
 use Rattle.sc_definitions.specs.Ring.{plus, times}
-use Rattle.sc_definitions.specs.Tables.{prefix, entries, weight, value, digits}
+use Rattle.sc_definitions.specs.Tables.{prefix, entries, equality_weight, value, digits}
 use Rattle.sc_definitions.specs.Shifts.{shifted, only_at}
 use Rattle.sc_definitions.specs.Statements.{successor_weight}
 use Rattle.sc_definitions.specs.Parts.{Equal, Done, Omega, part_at}
@@ -30,8 +30,8 @@ returns g c = λ b low.
     let same : length rs ≡ length near = length-map c.args.rs.now e.number ∙ c.requires.bound in
     let many : split_variables p.split ≡ m = p.sized ∙ sym (length-map p.far e.number) in
     let small : b < 2 ^ m = omega (arith, low, c.requires.size) in
-    let weights : (k : ℕ) → k < 2 ^ m → w k ≡ weight o far k = λ k under. p.weighs k (subst (λ n. k < 2 ^ n) (length-map p.far e.number) under) in
-    let last : e.number c.last_scalar.result ≡ weight o far (2 ^ m - 1) =
+    let weights : (k : ℕ) → k < 2 ^ m → w k ≡ equality_weight o far k = λ k under. p.weighs k (subst (λ n. k < 2 ^ n) (length-map p.far e.number) under) in
+    let last : e.number c.last_scalar.result ≡ equality_weight o far (2 ^ m - 1) =
     c.last_scalar.ensures ∙ ap (λ k. w (2 ^ k - 1)) many ∙ weights (2 ^ m - 1) (omega (arith, pow_pos m)) in
     let equal : e.number c.eval_eq-equal.result ≡ part_at o Equal near rs =
     c.eval_eq-equal.ensures ∙ cc (near_is, at_is, equal-at o ring near rs (sym same)) in

@@ -2,7 +2,7 @@ use Rattle.std.proofs.Common.{◌≡◌, ℕ, ◌-◌, ◌^◌, ◌<◌, length,
 use Rattle.std.proofs.lemmas.List.{length-map}
 use Rattle.std.proofs.lemmas.Nat.{pow_pos}
 use Rattle.sc_definitions.specs.Ring.{plus, times}
-use Rattle.sc_definitions.specs.Tables.{suffix, entries, weight, value, digits}
+use Rattle.sc_definitions.specs.Tables.{suffix, entries, equality_weight, value, digits}
 use Rattle.sc_definitions.specs.Shifts.{shifted, only_at}
 use Rattle.sc_definitions.specs.Statements.{successor_weight}
 use Rattle.sc_definitions.specs.Parts.{Carry, Done, Omega, part_at}
@@ -29,8 +29,8 @@ returns g c = λ b low.
     let same : length rs ≡ length near = length-map c.args.rs.now e.number ∙ c.requires.bound in
     let many : split_variables p.split ≡ m = p.sized ∙ sym (length-map p.far e.number) in
     let small : b < 2 ^ m = omega (arith, low, c.requires.size) in
-    let weights : (k : ℕ) → k < 2 ^ m → w k ≡ weight o far k = λ k under. p.weighs k (subst (λ n. k < 2 ^ n) (length-map p.far e.number) under) in
-    let last : e.number c.last_scalar.result ≡ weight o far (2 ^ m - 1) =
+    let weights : (k : ℕ) → k < 2 ^ m → w k ≡ equality_weight o far k = λ k under. p.weighs k (subst (λ n. k < 2 ^ n) (length-map p.far e.number) under) in
+    let last : e.number c.last_scalar.result ≡ equality_weight o far (2 ^ m - 1) =
     c.last_scalar.ensures ∙ ap (λ k. w (2 ^ k - 1)) many ∙ weights (2 ^ m - 1) (omega (arith, pow_pos m)) in
     let done : e.number c.eval_next-carry.result.1 ≡ part_at o Done near rs = c.eval_next-carry.ensures.done ∙ cc (near_is, at_is) in
     let carry : e.number c.eval_next-carry.result.0 ≡ part_at o Carry near rs = c.eval_next-carry.ensures.carry ∙ cc (near_is, at_is) in

@@ -1,6 +1,6 @@
 use Rattle.std.proofs.Common.{◌≡◌, ℕ, ◌^◌, ◌<◌, subst, length, ◌∙◌, ap, sym, arith}
 use Rattle.std.proofs.lemmas.List.{length-map}
-use Rattle.sc_definitions.specs.Tables.{prefix, suffix, entries, weight}
+use Rattle.sc_definitions.specs.Tables.{prefix, suffix, entries, equality_weight}
 use Rattle.sc_table.specs.SplitEqs.{split_variables, split_weight}
 use Rattle.sc_table.specs.Strategy.{order_of}
 use Rattle.sc_svo.specs.Points.{order_in, near_in, far_in}
@@ -28,7 +28,7 @@ returns-in-Prefix g c =
     let f = entries (λ (x : g.row.F.Denot). g.EF.Algebra.embedding (g.F.Field.number x)) c.args.rows.now in
     let whole = c.requires ∙ ap (λ n. 2 ^ n) (length-joined (order_in p) (near_in p) (far_in p)) in
     let many = p.sized ∙ sym (length-map p.far e.number) in
-    let weights : (b : ℕ) → b < 2 ^ length (far_in p) → split_weight e.number e.ops p.split b ≡ weight e.ops (far_in p) b =
+    let weights : (b : ℕ) → b < 2 ^ length (far_in p) → split_weight e.number e.ops p.split b ≡ equality_weight e.ops (far_in p) b =
     λ b low. p.weighs b (subst (λ n. b < 2 ^ n) (length-map p.far e.number) low) in
     if_ok_both c.compress_suffix.result _ _ _
     (λ q size rows_are. partial-in (order_in p) prefix e.ops e.number f (near_in p) (far_in p) q (ap order_of c.in-Prefix.is)
@@ -42,7 +42,7 @@ returns-in-Suffix g c =
     let f = entries (λ (x : g.row.F.Denot). g.EF.Algebra.embedding (g.F.Field.number x)) c.args.rows.now in
     let whole = c.requires ∙ ap (λ n. 2 ^ n) (length-joined (order_in p) (near_in p) (far_in p)) in
     let many = p.sized ∙ sym (length-map p.far e.number) in
-    let weights : (b : ℕ) → b < 2 ^ length (far_in p) → split_weight e.number e.ops p.split b ≡ weight e.ops (far_in p) b =
+    let weights : (b : ℕ) → b < 2 ^ length (far_in p) → split_weight e.number e.ops p.split b ≡ equality_weight e.ops (far_in p) b =
     λ b low. p.weighs b (subst (λ n. b < 2 ^ n) (length-map p.far e.number) low) in
     if_ok_both c.compress_prefix.result _ _ _
     (λ q size rows_are. partial-in (order_in p) suffix e.ops e.number f (near_in p) (far_in p) q (ap order_of c.in-Suffix.is)

@@ -1,7 +1,7 @@
 use Rattle.std.proofs.Common.{map, ◌∙◌, ap, arith}
 use Rattle.std.proofs.lemmas.List.{length-map}
 use Rattle.sc_table.specs.Strategy.{order_of}
-use Rattle.sc_svo.proofs.PointParts.{joined-numbers, parts-few, weight-once}
+use Rattle.sc_svo.proofs.PointParts.{joined-numbers, parts-few, equality_weight-once}
 use Rattle.sc_svo.proofs.point.SvoPoint.new_unpacked.Goals as goal
 
 pub new_unpacked-requires : goal.new_unpacked-requires
@@ -16,7 +16,7 @@ invariant_of-result g c =
     record {
       few = omega (arith, parts, c.requires.few);
       sized = c.in_ok-split.ensures.variables;
-      weighs = λ b low. weight-once e.ops g.met.EF.Field.is_field.ring (map e.number c.in_ok-near.far) b (e.number c.ONE.result) _
+      weighs = λ b low. equality_weight-once e.ops g.met.EF.Field.is_field.ring (map e.number c.in_ok-near.far) b (e.number c.ONE.result) _
           (ap e.number c.ONE.ensures ∙ g.met.EF.Field.one_is) (c.in_ok-split.ensures.weights b low);
     }
 

@@ -2,7 +2,7 @@ use Rattle.std.proofs.Common.{◌≡◌, ℕ, ◌+◌, ◌-◌, ◌*◌, ◌%◌
 use Rattle.std.proofs.lemmas.List.{length-map}
 use Rattle.std.proofs.lemmas.Nat.{pow_pos}
 use Rattle.sc_definitions.specs.Parts.{Carry, Done, Omega}
-use Rattle.sc_definitions.specs.Tables.{prefix, entries, weight}
+use Rattle.sc_definitions.specs.Tables.{prefix, entries, equality_weight}
 use Rattle.sc_definitions.specs.Shifts.{shifted}
 use Rattle.sc_table.specs.SplitEqs.{split_variables, split_weight}
 use Rattle.sc_table.proofs.PowerLaws.{one-shifted}
@@ -65,8 +65,8 @@ returns g c =
     let behind = ap (λ k. 1 * 2 ^ k % 18446744073709551616) c.num_variables-2.ensures ∙ one-shifted (length p.far) more ∙ ap (λ n. 2 ^ n) (sym (length-map p.far e.number)) in
     let whole = c.requires.rows ∙ ap (λ n. 2 ^ n) (length-joined (order_in p) near far) in
     let many : split_variables p.split ≡ m = p.sized ∙ sym (length-map p.far e.number) in
-    let weights : (b : ℕ) → b < 2 ^ m → split_weight e.number o p.split b ≡ weight o far b = λ b low. p.weighs b (subst (λ n. b < 2 ^ n) (length-map p.far e.number) low) in
-    let last : e.number c.last_scalar-last.result ≡ weight o far (2 ^ m - 1) =
+    let weights : (b : ℕ) → b < 2 ^ m → split_weight e.number o p.split b ≡ equality_weight o far b = λ b low. p.weighs b (subst (λ n. b < 2 ^ n) (length-map p.far e.number) low) in
+    let last : e.number c.last_scalar-last.result ≡ equality_weight o far (2 ^ m - 1) =
     c.last_scalar-last.ensures ∙ ap (λ k. split_weight e.number o p.split (2 ^ k - 1)) many ∙ weights (2 ^ m - 1) (omega (arith, pow_pos m)) in
     let made : AreNextPartials prefix o e.number f (joined prefix near far) near (record { done = c.in_ok-compress_suffix_shifted.field-0; carry = c.in_ok-every.field-0; omega = c.in_ok-every-2.field-0 }) = record {
       others = far;

@@ -1,6 +1,6 @@
 use Rattle.std.proofs.Common.{◌≡◌, map, vec_len, refl, ap, sym, ◌∙◌, rules}
 use Rattle.std.proofs.lemmas.List.{length-map}
-use Rattle.sc_definitions.specs.Channels.{channel, footing}
+use Rattle.sc_definitions.specs.Channels.{channel, verifier_state}
 use Rattle.sc_definitions.proofs.ReplayLaws.{length-given_rounds}
 use Rattle.sc_transcript.specs.Shapes.{shape_of, batch_of}
 use Rattle.sc_transcript.specs.Data.{wire_in, pair_replay}
@@ -25,7 +25,7 @@ returns-in_err-drawn-clause-left g c =
     let d = c.args.self.now in
     let shape = shape_of c.args.expected_rounds c.args.pow_bits c.args.basis in
     let p : Replay = pair_replay g.EF.Field.ops (channel (g.C.Challenger.party c.args.challenger.now).rules g.EF.ExtensionField.extension g.F.Field.ops.size c.args.pow_bits)
-    g.EF.ExtensionField.DEGREE shape (wire_in B N d) (footing (g.C.Challenger.party c.args.challenger.now).history (N c.args.claimed_sum.now)) in
+    g.EF.ExtensionField.DEGREE shape (wire_in B N d) (verifier_state (g.C.Challenger.party c.args.challenger.now).history (N c.args.claimed_sum.now)) in
     let batch : c.batch-batch.result ≡ batch_of shape = c.batch-batch.ensures ∙ ap batch_of c.new-shape.ensures in
     let counts : AreCounted (batch_of shape) (vec_len d.polynomial_evaluations) (vec_len d.pow_witnesses) =
     rw (batch, c.len.ensures, c.len-2.ensures) at c.in_ok-check_counts.ensures.ok in

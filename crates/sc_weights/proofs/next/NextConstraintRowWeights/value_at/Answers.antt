@@ -1,7 +1,7 @@
 use Rattle.std.proofs.Common.{◌≡◌, ◌+◌, length, map, sym, ◌∙◌, ap, arith}
 use Rattle.std.proofs.lemmas.List.{length-map}
 use Rattle.sc_definitions.specs.Ring.{times}
-use Rattle.sc_definitions.specs.Tables.{weight, value_in}
+use Rattle.sc_definitions.specs.Tables.{equality_weight, value_in}
 use Rattle.sc_definitions.specs.Statements.{successor_weight, successor, weight_of}
 use Rattle.sc_table.specs.Strategy.{basis_of, order_of}
 use Rattle.sc_weights.proofs.NextReads.{at-prefix, at-suffix, row-parts, parts-sum}
@@ -35,8 +35,8 @@ returns g c =
           length-map selector f.number ∙ sym (length-map slot f.number ∙ w.split_at.ensures.front_len) in
           let second : length zs ≡ length (map f.number rest) =
           omega (arith, length-map point f.number, length-map rest f.number, w.split_at.ensures.back_len, ap length same, sum) in
-          let equal : f.number c.equality_in.result ≡ value_in basis f.ops (weight f.ops ss) (map f.number slot) =
-          c.equality_in.ensures ∙ ap (λ t. value_in basis f.ops (weight f.ops ss) (map f.number t.0.now)) w.t-15-is in
+          let equal : f.number c.equality_in.result ≡ value_in basis f.ops (equality_weight f.ops ss) (map f.number slot) =
+          c.equality_in.ensures ∙ ap (λ t. value_in basis f.ops (equality_weight f.ops ss) (map f.number t.0.now)) w.t-15-is in
           let next : f.number c.successor_in.result ≡ value_in basis f.ops (successor_weight f.ops zs) (map f.number rest) =
           c.successor_in.ensures ∙ ap (λ t. value_in basis f.ops (successor_weight f.ops zs) (map f.number t.1.now)) w.t-15-is in
           product ∙ at-prefix f.ops ring order ss zs basis (map f.number slot) (map f.number rest) (map f.number row) _ _ (ap order_of w.in-Prefix.is)
@@ -49,8 +49,8 @@ returns g c =
           omega (arith, length-map selector f.number, length-map slot f.number, w.split_at-in-Suffix.ensures.back_len, ap length same, sum) in
           let second : length zs ≡ length (map f.number rest) =
           length-map point f.number ∙ sym (length-map rest f.number ∙ w.split_at-in-Suffix.ensures.front_len) in
-          let equal : f.number c.equality_in.result ≡ value_in basis f.ops (weight f.ops ss) (map f.number slot) =
-          c.equality_in.ensures ∙ ap (λ t. value_in basis f.ops (weight f.ops ss) (map f.number t.0.now)) w.t-15-is in
+          let equal : f.number c.equality_in.result ≡ value_in basis f.ops (equality_weight f.ops ss) (map f.number slot) =
+          c.equality_in.ensures ∙ ap (λ t. value_in basis f.ops (equality_weight f.ops ss) (map f.number t.0.now)) w.t-15-is in
           let next : f.number c.successor_in.result ≡ value_in basis f.ops (successor_weight f.ops zs) (map f.number rest) =
           c.successor_in.ensures ∙ ap (λ t. value_in basis f.ops (successor_weight f.ops zs) (map f.number t.1.now)) w.t-15-is in
           product ∙ at-suffix f.ops ring order ss zs basis (map f.number slot) (map f.number rest) (map f.number row) _ _ (ap order_of w.in-Suffix.is)

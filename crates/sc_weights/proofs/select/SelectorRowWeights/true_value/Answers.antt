@@ -1,12 +1,12 @@
 use Rattle.std.proofs.Common.{◌≡◌, ℕ, length, map, sym, ◌∙◌, ap}
 use Rattle.std.proofs.lemmas.List.{length-map}
 use Rattle.sc_definitions.specs.Ring.{times, power}
-use Rattle.sc_definitions.specs.Tables.{entries, monomial, sum_below, inner}
+use Rattle.sc_definitions.specs.Tables.{entries, monomial, sum_below, inner_product}
 use Rattle.sc_definitions.specs.Statements.{arity_of}
 use Rattle.sc_definitions.proofs.Lengths.{pow-same}
 use Rattle.sc_table.proofs.PowerLaws.{variables_of_length}
 use Rattle.sc_weights.specs.Selectors.{selected_kind}
-use Rattle.sc_weights.proofs.SelectReads.{inner-is, true_value-scalar, true_value-direct}
+use Rattle.sc_weights.proofs.SelectReads.{inner_product-is, true_value-scalar, true_value-direct}
 use Rattle.sc_weights.proofs.select.SelectorRowWeights.true_value.Goals as goal
 
 pub powers_value-requires : goal.powers_value-requires
@@ -21,7 +21,7 @@ returns-in-Scalar g c n size =
     let w = power f.ops (of c.in-Scalar.var) in
     c.powers_value.ensures
     ∙ ap (λ k. sum_below f.ops k (λ b. times f.ops (table b) (w b))) size
-    ∙ sym (inner-is f.ops n table w)
+    ∙ sym (inner_product-is f.ops n table w)
     ∙ sym (true_value-scalar f.ops of c.args.self.now c.in-Scalar.var c.in-Scalar.is n table)
 
 pub returns-in-Direct : goal.returns-in-Direct
@@ -35,6 +35,6 @@ returns-in-Direct g c n size =
     ap length c.as_slice.ensures ∙ sym (length-map c.in-Direct.point.now of)
     ∙ sym (ap (λ s. arity_of m (selected_kind of s)) c.in-Direct.is) ∙ c.requires.1.1 ∙ pow-same m n (sym c.requires.1.0 ∙ size) in
     c.products_value.ensures
-    ∙ ap (λ k. inner f.ops k table (monomial f.ops (map of point))) arity
-    ∙ ap (λ l. inner f.ops n table (monomial f.ops (map of l))) c.as_slice.ensures
+    ∙ ap (λ k. inner_product f.ops k table (monomial f.ops (map of point))) arity
+    ∙ ap (λ l. inner_product f.ops n table (monomial f.ops (map of l))) c.as_slice.ensures
     ∙ sym (true_value-direct f.ops of c.args.self.now c.in-Direct.point c.in-Direct.is n table)

@@ -1,6 +1,6 @@
 use Rattle.std.proofs.Common.{ℕ, map, sym, ap, ◌∙◌, subst}
 use Rattle.sc_definitions.specs.Combined.{combined_weight}
-use Rattle.sc_definitions.specs.Shown.{IsTrueClaim}
+use Rattle.sc_definitions.specs.ProverViews.{IsTrueClaim}
 use Rattle.sc_table.specs.Polys.{table_of}
 use Rattle.sc_table.specs.Strategy.{order_of}
 use Rattle.sc_svo.specs.Batches.{batch_in, IsBoundBy}

@@ -1,5 +1,5 @@
 use Rattle.std.proofs.Common.{◌≤◌, ℕ, vec_capacity, length, map, ap, sym, ◌∙◌, subst, arith}
-use Rattle.sc_definitions.specs.Shown.{IsTrueClaim}
+use Rattle.sc_definitions.specs.ProverViews.{IsTrueClaim}
 use Rattle.sc_table.specs.Polys.{table_of}
 use Rattle.sc_svo.specs.Batches.{batch_in}
 use Rattle.sc_svo.specs.Grids.{grid_shown}

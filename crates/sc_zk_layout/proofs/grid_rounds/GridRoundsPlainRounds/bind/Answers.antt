@@ -1,6 +1,6 @@
 use Rattle.std.proofs.Common.{◌≡◌, ◌<◌, ℕ, [], ◌∷◌, ◌++◌, length, map, ap, sym, ◌∙◌, subst, arith, length-append}
 use Rattle.std.proofs.lemmas.List.{length-map, map-append}
-use Rattle.sc_definitions.specs.Shown.{IsTrueClaim}
+use Rattle.sc_definitions.specs.ProverViews.{IsTrueClaim}
 use Rattle.sc_table.specs.Polys.{table_of}
 use Rattle.sc_svo.specs.Batches.{batch_in}
 use Rattle.sc_zk_layout.specs.Grids.{shown_after}

@@ -2,7 +2,7 @@ use Rattle.std.proofs.Common.{ap, sym, ◌∙◌, subst}
 use Rattle.sc_definitions.specs.Tables.{entries, rows_of}
 use Rattle.sc_definitions.specs.Rounds.{next_claim}
 use Rattle.sc_table.specs.Strategy.{basis_of, order_of}
-use Rattle.sc_definitions.specs.Shown.{IsTrueClaim}
+use Rattle.sc_definitions.specs.ProverViews.{IsTrueClaim}
 use Rattle.sc_rounds.specs.BaseViews.{base_shown}
 use Rattle.sc_rounds.proofs.HeldLaws.{true_bound}
 use Rattle.sc_rounds.proofs.BaseLaws.{one_fewer, are_bound, base_pair}

@@ -1,12 +1,12 @@
 use Rattle.std.proofs.Common.{map, ◌++◌, ap, sym, ◌∙◌, refl, inl, rules}
-use Rattle.sc_definitions.specs.Standings.{Standing}
+use Rattle.sc_definitions.specs.ProverStates.{ProverState}
 use Rattle.sc_transcript.specs.Data.{wire_in}
 use Rattle.sc_transcript.specs.declared.rounds.BatchShape.{BatchShape}
 use Rattle.sc_transcript.specs.declared.transcript.SumcheckShape.{SumcheckShape}
 use Rattle.sc_transcript.specs.declared.error.SumcheckError.TheVariants.{NoMemory}
 use Rattle.sc_transcript.proofs.ReplayedLaws.{same_channel}
 use Rattle.sc_transcript.proofs.Lent.{returned}
-use Rattle.sc_definitions.specs.Shown.{standing_at}
+use Rattle.sc_definitions.specs.ProverViews.{prover_state_at}
 use Rattle.sc_definitions.specs.Events.{words}
 use Rattle.sc_transcript.specs.Shapes.{seed_of}
 use Rattle.sc_transcript.specs.Batches.{BreaksOffAt}
@@ -25,7 +25,7 @@ returns-in_err-challenges-clause-refused g c =
     let W = wire_in g.F.Field.number N in
     let self = c.args.self in
     err_as c.from_residual.result NoMemory (BreaksOffAt _ (H c.args.challenger.now) (W c.args.sumcheck_data.now)) c.from_residual.ensures.1
-    (record { after = standing_at (base_shown self) (H c.args.challenger.now) (W c.args.sumcheck_data.now); history = refl; wire_is = refl; breaks = inl refl })
+    (record { after = prover_state_at (base_shown self) (H c.args.challenger.now) (W c.args.sumcheck_data.now); history = refl; wire_is = refl; breaks = inl refl })
 
 pub returns-in_err-seed-clause-refused : goal.returns-in_err-seed-clause-refused
 returns-in_err-seed-clause-refused g c =
@@ -36,7 +36,7 @@ returns-in_err-seed-clause-refused g c =
     let self = c.args.self in
     err_as c.from_residual-in_err-seed.result NoMemory (BreaksOffAt _ (H c.seed.new.challenger) (W c.args.sumcheck_data.now)) c.from_residual-in_err-seed.ensures.1
     (record {
-      after = standing_at (base_shown self) (H c.args.challenger.now) (W c.args.sumcheck_data.now);
+      after = prover_state_at (base_shown self) (H c.args.challenger.now) (W c.args.sumcheck_data.now);
       history = sym c.in_err-seed.ensures.history;
       wire_is = refl;
       breaks = inl refl;
@@ -56,10 +56,10 @@ returns-in-Ok-clause-whole g c =
     let D = g.EF.ExtensionField.DEGREE in
     let seeded = ap (λ (s : SumcheckShape). H c.args.challenger.now ++ words (seed_of D s)) c.new-shape.ensures in
     let setting = same_setting (same_channel g.F.Field.ops.size (ap R begun.lent.same ∙ c.in_ok-seed.ensures.rules) (ap (λ (s : BatchShape). s.pow_bits) begun.fresh.shape ∙ ap (λ (s : SumcheckShape). s.pow_bits) c.new-shape.ensures)) refl refl in
-    let start = ap (λ h. standing_at (base_shown self) h (W c.args.sumcheck_data.now)) (ap H begun.lent.same ∙ c.in_ok-seed.ensures.history ∙ seeded) in
+    let start = ap (λ h. prover_state_at (base_shown self) h (W c.args.sumcheck_data.now)) (ap H begun.lent.same ∙ c.in_ok-seed.ensures.history ∙ seeded) in
     let all = c.in-Ok.ensures.played in
     whole_as batch refl
-    (ap (λ h. standing_at (shown_in c.in-Ok.rounds) h (W c.play.new.sumcheck_data)) (sym (ap H (returned (search rules) c.in-Ok.ensures.continues.lender begun.lent.lender c.finish.ensures))))
+    (ap (λ h. prover_state_at (shown_in c.in-Ok.rounds) h (W c.play.new.sumcheck_data)) (sym (ap H (returned (search rules) c.in-Ok.ensures.continues.lender begun.lent.lender c.finish.ensures))))
     (ap (map N) (sym c.new.ensures))
     (record {
       whole = sum_at _ _ _ _ (sym (all.done ∙ ap (λ (s : BatchShape). s.num_rounds) (c.in-Ok.ensures.continues.shape ∙ begun.fresh.shape) ∙ ap (λ (s : SumcheckShape). s.num_rounds) c.new-shape.ensures)) all.left;
@@ -80,7 +80,7 @@ returns-in-Err-clause-refused g c =
     let D = g.EF.ExtensionField.DEGREE in
     let seeded = ap (λ (s : SumcheckShape). H c.args.challenger.now ++ words (seed_of D s)) c.new-shape.ensures in
     let setting = same_setting (same_channel g.F.Field.ops.size (ap R begun.lent.same ∙ c.in_ok-seed.ensures.rules) (ap (λ (s : BatchShape). s.pow_bits) begun.fresh.shape ∙ ap (λ (s : SumcheckShape). s.pow_bits) c.new-shape.ensures)) refl refl in
-    let start = ap (λ h. standing_at (base_shown self) h (W c.args.sumcheck_data.now)) (ap H begun.lent.same ∙ c.in_ok-seed.ensures.history ∙ seeded) in
+    let start = ap (λ h. prover_state_at (base_shown self) h (W c.args.sumcheck_data.now)) (ap H begun.lent.same ∙ c.in_ok-seed.ensures.history ∙ seeded) in
     let stopped = c.in-Err.ensures.stopped in
     let size = ap (λ (s : BatchShape). s.num_rounds) (c.in-Err.ensures.continues.shape ∙ begun.fresh.shape) ∙ ap (λ (s : SumcheckShape). s.num_rounds) c.new-shape.ensures in
     breaks_as batch refl
@@ -89,5 +89,5 @@ returns-in-Err-clause-refused g c =
       after = stopped.after;
       history = stopped.history;
       wire_is = stopped.wire_is;
-      breaks = breaks_batch batch _ _ stopped.after _ _ c.in-Err.error setting start (stopped.left ∙ ap (λ (t : Standing). t.variables) start) stopped.within stopped.some size stopped.stopped;
+      breaks = breaks_batch batch _ _ stopped.after _ _ c.in-Err.error setting start (stopped.left ∙ ap (λ (t : ProverState). t.variables) start) stopped.within stopped.some size stopped.stopped;
     })

@@ -1,11 +1,11 @@
 use Rattle.std.proofs.Common.{◌≡◌, ℕ, ◌∙◌, ap, sym}
 use Rattle.std.proofs.lemmas.Simd.{map-map}
 use Rattle.std.proofs.lemmas.Result.{IfOk-from_err}
-use Rattle.sc_definitions.specs.Tables.{inner}
+use Rattle.sc_definitions.specs.Tables.{inner_product}
 use Rattle.sc_table.specs.Polys.{variables_of}
 use Rattle.sc_rounds.specs.Products.{variables_in, evals_in, weights_in}
 use Rattle.sc_rounds.specs.Provers.{shown_of}
-use Rattle.sc_definitions.specs.Shown.{imaged}
+use Rattle.sc_definitions.specs.ProverViews.{imaged}
 use Rattle.sc_rounds.specs.Represented.{tables_shown}
 use Rattle.sc_definitions.proofs.MappedRounds.{mapped, below_entries, same_images, represented_sum}
 use Rattle.sc_rounds.proofs.ShownLaws.{same_numbers}
@@ -44,7 +44,7 @@ new-requires g c =
     (sym (same N N _ _ c.new_unpacked-poly.ensures.evals ∙ c.in_ok-evals.ensures.images) ∙ mapped r e ring_r ring_e to represents.back N poly.evals.evals.items)
     (sym (same N N _ _ c.new_unpacked-poly.ensures.weights) ∙ mapped r e ring_r ring_e to represents.back N poly.weights.evals.items)
     c.requires.true_sum c.from_element.ensures
-    ∙ ap (λ k. inner r k (evals_in N poly) (weights_in N poly)) (sym size)
+    ∙ ap (λ k. inner_product r k (evals_in N poly) (weights_in N poly)) (sym size)
 
 -- a refusal tells nothing of an answer
 pub returns-in_err-evals-clause-shown : goal.returns-in_err-evals-clause-shown

@@ -3,7 +3,7 @@ use Rattle.std.proofs.lemmas.Simd.{map-map}
 use Rattle.std.proofs.lemmas.Result.{IfOk-from_err}
 use Rattle.sc_rounds.specs.Products.{variables_in}
 use Rattle.sc_rounds.specs.Provers.{held_shown}
-use Rattle.sc_definitions.specs.Shown.{IsTrueClaim}
+use Rattle.sc_definitions.specs.ProverViews.{IsTrueClaim}
 use Rattle.sc_definitions.proofs.MappedRounds.{same_images}
 use Rattle.sc_rounds.proofs.ShownLaws.{same_numbers}
 use Rattle.sc_rounds.proofs.HeldImages.{held_below, image_held, true_back, left_for_image}

@@ -1,9 +1,0 @@
-pub mod Places
-pub mod Evaluations
-pub mod FalseSteps
-pub mod BatchSteps
-pub mod BatchValues
-pub mod Selecting
-pub mod RowLaws
-pub mod ClaimLaws
-pub mod ExcessLaws

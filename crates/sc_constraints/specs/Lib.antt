@@ -1,0 +1,4 @@
+pub mod Groups
+pub mod Constraints
+pub mod FalseClaims
+pub mod ConstraintValues
