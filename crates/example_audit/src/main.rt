@@ -1,7 +1,7 @@
 //! `audit` from Rust: rounds that are built hold, and with one value changed they are refuted.
 #![tactic(auto)]
 
-use sc_audit::{Job, Mode, Strategy, Verdict, audit};
+use sc_audit::{Job, Mode, Strategy, audit};
 use sc_challenger::HashChallenger;
 use sc_constraints::{Constraint, EqStatement, Statements};
 use sc_field::{Field, NoMemory};
@@ -16,13 +16,13 @@ fn main(rt: HostRuntime) -> anyhow::Result<()> {
     let table = vec![in alloc; F::ONE, F::element(2), F::element(3), F::element(4)]?;
     let mut job = build(table, value_at(alloc, F::ZERO, F::ONE, F::element(2))?);
     let mut report = audit::<F, F, F, Hash>(alloc, &job, &mut Hash::new(alloc))?;
-    println!(rt; "as built: {}", told(&report.verdict))?;
+    println!(rt; "as built: {}", report.verdict)?;
     if let Some(round) = report.rounds.polynomial_evaluations.first_mut() {
         round.c_a = F::ZERO;
     }
     job.mode = Mode::Check(Some(report.rounds));
     let report = audit::<F, F, F, Hash>(alloc, &job, &mut Hash::new(alloc))?;
-    println!(rt; "with one value changed: {}", told(&report.verdict))?;
+    println!(rt; "with one value changed: {}", report.verdict)?;
     Ok(())
 }
 
@@ -43,14 +43,5 @@ fn build(table: Vec<F>, constraint: Constraint<F, F>) -> Job<F, F> {
         basis: Basis::Evaluation,
         pow_bits: 0,
         mode: Mode::Build(Strategy::Plain),
-    }
-}
-
-// A verdict as a word.
-fn told(verdict: &Verdict<F>) -> &'static str {
-    match verdict {
-        Verdict::Holds => "holds",
-        Verdict::Refuted => "refuted",
-        Verdict::LuckyBatch { .. } | Verdict::LuckyRound { .. } => "lucky",
     }
 }

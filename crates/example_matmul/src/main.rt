@@ -18,7 +18,7 @@ fn main(rt: HostRuntime) -> anyhow::Result<()> {
     let claim = true_claim(alloc)?;
     let built = audit(alloc, &claim, None, &mut HashChallenger::new(alloc))?;
     let rounds = built.challenges.num_variables();
-    println!(rt; "{rounds} rounds, as built: {}", told(&built.verdict))?;
+    println!(rt; "{rounds} rounds, as built: {}", built.verdict)?;
 
     // an entry is false: a build tells it, and true rounds do not fit
     let claim = changed(alloc, claim, 65, F::ONE)?;
@@ -32,7 +32,7 @@ fn main(rt: HostRuntime) -> anyhow::Result<()> {
         Some(&built.rounds),
         &mut HashChallenger::new(alloc),
     )?;
-    println!(rt; "its rounds, handed in: {}", told(&report.verdict))?;
+    println!(rt; "its rounds, handed in: {}", report.verdict)?;
 
     // under a script the point is known, and two entries can be chosen by it
     let claim = true_claim(alloc)?;
@@ -40,10 +40,9 @@ fn main(rt: HostRuntime) -> anyhow::Result<()> {
     let claim = changed(alloc, claim, 0, F::element(2))?;
     let claim = changed(alloc, claim, 1, F::ONE.neg())?;
     let report = audit(alloc, &claim, Some(&built.rounds), &mut chosen(alloc)?)?;
-    println!(rt; "at the chosen point: {}", told(&report.verdict))?;
-    if let MatmulVerdict::LuckyPoint { poly, vanishing } = &report.verdict {
-        let coefficients = poly.len();
-        println!(rt; "{coefficients} coefficients, which vanish at {vanishing} element")?;
+    println!(rt; "at the chosen point: {}", report.verdict)?;
+    if let MatmulVerdict::LuckyPoint { poly, .. } = &report.verdict {
+        println!(rt; "its polynomial has {} coefficients", poly.len())?;
     }
     Ok(())
 }
@@ -70,14 +69,4 @@ fn audit<C: Challenger<F>>(
 fn chosen(alloc: Global) -> Result<ScriptedChallenger<F>, NoMemory> {
     let draws = vec![in alloc; F::element(2), F::element(3), F::element(5), F::element(7)]?;
     Ok(ScriptedChallenger::new(alloc, draws, Vec::new(alloc)))
-}
-
-// A verdict as a word.
-fn told(verdict: &MatmulVerdict<F>) -> &'static str {
-    match verdict {
-        MatmulVerdict::Holds => "holds",
-        MatmulVerdict::Refuted => "refuted",
-        MatmulVerdict::LuckyPoint { .. } => "lucky point",
-        MatmulVerdict::LuckyRound { .. } => "lucky round",
-    }
 }

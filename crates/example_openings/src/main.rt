@@ -23,8 +23,7 @@ fn main(rt: HostRuntime) -> anyhow::Result<()> {
     let mut claimed = true_claims(alloc)?;
     let built = audit(alloc, &claimed, None, &mut Hash::new(alloc))?;
     let (claims, rounds) = (claimed.claims.len(), built.challenges.num_variables());
-    let verdict = told(&built.verdict);
-    println!(rt; "{claims} claims in {rounds} rounds, as built: {verdict}")?;
+    println!(rt; "{claims} claims in {rounds} rounds, as built: {}", built.verdict)?;
     print_line(&rt, "the openings:", &built.proof.openings)?;
 
     // a claim is false: a build tells it, and true rounds do not fit
@@ -34,7 +33,7 @@ fn main(rt: HostRuntime) -> anyhow::Result<()> {
         Err(error) => println!(rt; "with a false claim: {error}")?,
     }
     let report = audit(alloc, &claimed, Some(&built.proof), &mut Hash::new(alloc))?;
-    println!(rt; "its rounds, handed in: {}", told(&report.verdict))?;
+    println!(rt; "its rounds, handed in: {}", report.verdict)?;
 
     // the claims are true again
     claimed.add(3, F::ONE.neg());
@@ -52,8 +51,8 @@ fn false_openings(
     exchange(&mut built.proof.openings, built.weights.as_slice());
     let report = audit(alloc, claimed, Some(&built.proof), &mut Hash::new(alloc))?;
     let weighed = weigh(&built.proof.openings, report.weights.as_slice()).index();
-    let (residual, verdict) = (report.residual.index(), told(&report.verdict));
-    println!(rt; "the residual is {residual}, other openings weigh {weighed}: {verdict}")?;
+    let residual = report.residual.index();
+    println!(rt; "the residual is {residual}, other openings weigh {weighed}: {}", report.verdict)?;
     Ok(())
 }
 
@@ -64,10 +63,9 @@ fn lucky_claims(rt: &impl Print, alloc: Global, mut claimed: Claimed) -> anyhow:
     claimed.add(1, F::element(4));
     claimed.add(3, F::ONE.neg());
     let report = audit(alloc, &claimed, Some(&built.proof), &mut chosen(alloc)?)?;
-    println!(rt; "at the chosen challenge: {}", told(&report.verdict))?;
-    if let MergeVerdict::LuckyBatch { poly, vanishing } = &report.verdict {
+    println!(rt; "at the chosen challenge: {}", report.verdict)?;
+    if let MergeVerdict::LuckyBatch { poly, .. } = &report.verdict {
         print_line(rt, "its polynomial:", poly.as_slice())?;
-        println!(rt; "it vanishes at {vanishing} elements")?;
     }
     Ok(())
 }
@@ -99,14 +97,4 @@ fn print_line(rt: &impl Print, text: &str, elements: &[F]) -> io::Result<()> {
         print!(rt; " {}", element.index())?;
     }
     println!(rt;)
-}
-
-// A verdict as a word.
-fn told(verdict: &MergeVerdict<F>) -> &'static str {
-    match verdict {
-        MergeVerdict::Holds => "holds",
-        MergeVerdict::Refuted => "refuted",
-        MergeVerdict::LuckyBatch { .. } => "lucky batch",
-        MergeVerdict::LuckyRound { .. } => "lucky round",
-    }
 }

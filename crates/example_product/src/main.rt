@@ -3,7 +3,7 @@
 
 use sc_challenger::HashChallenger;
 use sc_field::Field;
-use sc_product_audit::{ProductJob, ProductMode, ProductReport, ProductVerdict, audit_product};
+use sc_product_audit::{ProductJob, ProductMode, ProductReport, audit_product};
 use sc_small_fields::F65537 as F;
 use std::alloc::Global;
 
@@ -14,10 +14,10 @@ fn main(rt: HostRuntime) -> anyhow::Result<()> {
     let report = audit(alloc, ProductMode::Build)?;
     let mut proof = report.proof;
     let sum = proof.claimed_sum.index();
-    println!(rt; "sum {sum}, as built: {}", told(&report.verdict))?;
+    println!(rt; "sum {sum}, as built: {}", report.verdict)?;
     proof.claimed_sum = F::ZERO;
     let report = audit(alloc, ProductMode::Check(proof))?;
-    println!(rt; "with another claim: {}", told(&report.verdict))?;
+    println!(rt; "with another claim: {}", report.verdict)?;
     Ok(())
 }
 
@@ -31,13 +31,4 @@ fn audit(alloc: Global, mode: ProductMode<F, F>) -> anyhow::Result<ProductReport
         mode,
     };
     Ok(audit_product(alloc, job, &mut Hash::new(alloc))?)
-}
-
-// A verdict as a word.
-fn told(verdict: &ProductVerdict<F>) -> &'static str {
-    match verdict {
-        ProductVerdict::Holds => "holds",
-        ProductVerdict::Refuted => "refuted",
-        ProductVerdict::LuckyRound { .. } => "lucky",
-    }
 }

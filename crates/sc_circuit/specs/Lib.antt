@@ -20,3 +20,4 @@ pub mod CircuitAudits
 pub mod BuiltLayers
 pub mod LuckyLayers
 pub mod ReplayedCircuits
+pub mod VerdictTexts

@@ -1,6 +1,7 @@
 //! What is answered of a circuit.
 use crate::proof::CircuitProof;
 use sc_memory::Row;
+use std::fmt;
 
 /// What the layers say of the outputs.
 #[derive(Drop)]
@@ -26,6 +27,27 @@ pub enum CircuitVerdict<EF> {
         poly: Row<EF>,
         vanishing: u64,
     },
+}
+
+/// What the verdict says, without the polynomial of a lucky one.
+impl<EF> fmt::Display for CircuitVerdict<EF> {
+    ghost use Rattle.std.specs.Prelude.{Some};
+    ghost use Rattle.sc_circuit.specs.VerdictTexts.{verdict_text};
+
+    ghost output = { λ v. Some (verdict_text v) };
+
+    fn fmt<W: fmt::Write>(&self, f: &mut fmt::Formatter<W>) -> fmt::Result {
+        match self {
+            CircuitVerdict::Holds => f.write_str("holds"),
+            CircuitVerdict::Refuted { layer } => write!(f, "refuted layer {layer}"),
+            CircuitVerdict::LuckyMerge { layer, vanishing, .. } => {
+                write!(f, "lucky-merge layer {layer} vanishing {vanishing}")
+            }
+            CircuitVerdict::LuckyRound { layer, round, vanishing, .. } => {
+                write!(f, "lucky-round layer {layer} round {round} vanishing {vanishing}")
+            }
+        }
+    }
 }
 
 /// The report on layers that were built or checked.

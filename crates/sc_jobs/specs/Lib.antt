@@ -11,3 +11,4 @@ pub mod Fitting
 pub mod Taken
 pub mod Stated
 pub mod BuiltCases
+pub mod VerdictTexts

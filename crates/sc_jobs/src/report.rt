@@ -2,6 +2,7 @@
 use sc_svo::Grids;
 use sc_table::{Point, Row};
 use sc_transcript::SumcheckData;
+use std::fmt;
 
 /// What rounds say of the statements.
 #[derive(Drop)]
@@ -25,6 +26,25 @@ pub enum Verdict<EF> {
         poly: Row<EF>,
         vanishing: u64,
     },
+}
+
+/// What the verdict says, without the polynomial of a lucky one.
+impl<EF> fmt::Display for Verdict<EF> {
+    ghost use Rattle.std.specs.Prelude.{Some};
+    ghost use Rattle.sc_jobs.specs.VerdictTexts.{verdict_text};
+
+    ghost output = { λ v. Some (verdict_text v) };
+
+    fn fmt<W: fmt::Write>(&self, f: &mut fmt::Formatter<W>) -> fmt::Result {
+        match self {
+            Verdict::Holds => f.write_str("holds"),
+            Verdict::Refuted => f.write_str("refuted"),
+            Verdict::LuckyBatch { vanishing, .. } => write!(f, "lucky-batch vanishing {vanishing}"),
+            Verdict::LuckyRound { round, vanishing, .. } => {
+                write!(f, "lucky-round {round} vanishing {vanishing}")
+            }
+        }
+    }
 }
 
 /// The report on rounds that were built or checked.

@@ -7,3 +7,4 @@ pub mod MatmulRounds
 pub mod MatmulReports
 pub mod MatmulAudits
 pub mod MatmulPlays
+pub mod VerdictTexts

@@ -1,6 +1,7 @@
 //! What is answered of a claimed product.
 use sc_table::{Point, Row};
 use sc_transcript::SumcheckData;
+use std::fmt;
 
 /// What rounds say of a claimed product.
 #[derive(Drop)]
@@ -26,6 +27,27 @@ pub enum MatmulVerdict<EF> {
         poly: Row<EF>,
         vanishing: u64,
     },
+}
+
+/// What the verdict says, without the polynomial of a lucky one.
+impl<EF> fmt::Display for MatmulVerdict<EF> {
+    ghost use Rattle.std.specs.Prelude.{Some};
+    ghost use Rattle.sc_matmul.specs.VerdictTexts.{verdict_text};
+
+    ghost output = { λ v. Some (verdict_text v) };
+
+    fn fmt<W: fmt::Write>(&self, f: &mut fmt::Formatter<W>) -> fmt::Result {
+        match self {
+            MatmulVerdict::Holds => f.write_str("holds"),
+            MatmulVerdict::Refuted => f.write_str("refuted"),
+            MatmulVerdict::LuckyPoint { vanishing, .. } => {
+                write!(f, "lucky-point vanishing {vanishing}")
+            }
+            MatmulVerdict::LuckyRound { round, vanishing, .. } => {
+                write!(f, "lucky-round {round} vanishing {vanishing}")
+            }
+        }
+    }
 }
 
 /// The report on rounds that were built or checked.

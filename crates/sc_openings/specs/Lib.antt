@@ -6,3 +6,4 @@ pub mod OpeningsReports
 pub mod OpeningsAudits
 pub mod ClaimedValues
 pub mod OpeningsPlays
+pub mod VerdictTexts

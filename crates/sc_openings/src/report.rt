@@ -1,6 +1,7 @@
 //! What is answered of claims on tables.
 use crate::claim::MergeProof;
 use sc_table::{Point, Row};
+use std::fmt;
 
 /// What rounds and openings say of claims.
 #[derive(Drop)]
@@ -27,6 +28,27 @@ pub enum MergeVerdict<EF> {
         poly: Row<EF>,
         vanishing: u64,
     },
+}
+
+/// What the verdict says, without the polynomial of a lucky one.
+impl<EF> fmt::Display for MergeVerdict<EF> {
+    ghost use Rattle.std.specs.Prelude.{Some};
+    ghost use Rattle.sc_openings.specs.VerdictTexts.{verdict_text};
+
+    ghost output = { λ v. Some (verdict_text v) };
+
+    fn fmt<W: fmt::Write>(&self, f: &mut fmt::Formatter<W>) -> fmt::Result {
+        match self {
+            MergeVerdict::Holds => f.write_str("holds"),
+            MergeVerdict::Refuted => f.write_str("refuted"),
+            MergeVerdict::LuckyBatch { vanishing, .. } => {
+                write!(f, "lucky-batch vanishing {vanishing}")
+            }
+            MergeVerdict::LuckyRound { round, vanishing, .. } => {
+                write!(f, "lucky-round {round} vanishing {vanishing}")
+            }
+        }
+    }
 }
 
 /// The report on rounds and openings that were built or checked.

@@ -6,3 +6,4 @@ pub mod ProductRounds
 pub mod ProductReports
 pub mod ProductAudits
 pub mod ProductPlays
+pub mod VerdictTexts

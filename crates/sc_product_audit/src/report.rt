@@ -1,6 +1,7 @@
 //! What is answered.
 use sc_degree::GenericDegreeProof;
 use sc_table::{Point, Row};
+use std::fmt;
 
 /// What rounds say of the claimed sum.
 #[derive(Drop)]
@@ -19,6 +20,24 @@ pub enum ProductVerdict<EF> {
         poly: Row<EF>,
         vanishing: u64,
     },
+}
+
+/// What the verdict says, without the polynomial of a lucky one.
+impl<EF> fmt::Display for ProductVerdict<EF> {
+    ghost use Rattle.std.specs.Prelude.{Some};
+    ghost use Rattle.sc_product_audit.specs.VerdictTexts.{verdict_text};
+
+    ghost output = { λ v. Some (verdict_text v) };
+
+    fn fmt<W: fmt::Write>(&self, f: &mut fmt::Formatter<W>) -> fmt::Result {
+        match self {
+            ProductVerdict::Holds => f.write_str("holds"),
+            ProductVerdict::Refuted => f.write_str("refuted"),
+            ProductVerdict::LuckyRound { round, vanishing, .. } => {
+                write!(f, "lucky-round {round} vanishing {vanishing}")
+            }
+        }
+    }
 }
 
 /// The report on rounds that were built or checked.
