@@ -23,7 +23,10 @@ fn main(rt: HostRuntime) -> anyhow::Result<()> {
     let mut claimed = true_claims(alloc)?;
     let built = audit(alloc, &claimed, None, &mut Hash::new(alloc))?;
     let (claims, rounds) = (claimed.claims.len(), built.challenges.num_variables());
-    println!(rt; "{claims} claims in {rounds} rounds, as built: {}", built.verdict)?;
+    println!(rt;
+        "{claims} claims in {rounds} rounds, as built: {}",
+        built.verdict
+    )?;
     print_line(&rt, "the openings:", &built.proof.openings)?;
 
     // a claim is false: a build tells it, and true rounds do not fit
@@ -52,7 +55,10 @@ fn false_openings(
     let report = audit(alloc, claimed, Some(&built.proof), &mut Hash::new(alloc))?;
     let weighed = weigh(&built.proof.openings, report.weights.as_slice()).index();
     let residual = report.residual.index();
-    println!(rt; "the residual is {residual}, other openings weigh {weighed}: {}", report.verdict)?;
+    println!(rt;
+        "the residual is {residual}, other openings weigh {weighed}: {}",
+        report.verdict
+    )?;
     Ok(())
 }
 

@@ -17,7 +17,7 @@ mod verdict;
 mod ways;
 
 pub use audits::{audit, audit_true};
+pub use sc_audit_errors::{AuditError, FitFault, ShapeFault};
 pub use sc_jobs::{Job, Mode, Report, Verdict};
 pub use sc_svo::{Grid, Grids};
 pub use sc_table::Strategy;
-pub use sc_audit_errors::{AuditError, FitFault, ShapeFault};

@@ -40,11 +40,21 @@ impl<EF> fmt::Display for CircuitVerdict<EF> {
         match self {
             CircuitVerdict::Holds => f.write_str("holds"),
             CircuitVerdict::Refuted { layer } => write!(f, "refuted layer {layer}"),
-            CircuitVerdict::LuckyMerge { layer, vanishing, .. } => {
-                write!(f, "lucky-merge layer {layer} vanishing {vanishing}")
-            }
-            CircuitVerdict::LuckyRound { layer, round, vanishing, .. } => {
-                write!(f, "lucky-round layer {layer} round {round} vanishing {vanishing}")
+            CircuitVerdict::LuckyMerge {
+                layer,
+                vanishing,
+                ..
+            } => { write!(f, "lucky-merge layer {layer} vanishing {vanishing}") }
+            CircuitVerdict::LuckyRound {
+                layer,
+                round,
+                vanishing,
+                ..
+            } => {
+                write!(
+                    f,
+                    "lucky-round layer {layer} round {round} vanishing {vanishing}"
+                )
             }
         }
     }

@@ -13,7 +13,7 @@ pub use claims::{Claimed, claims_of, first_other};
 pub use fit::check_strategy;
 pub use job::{Job, Mode};
 pub use report::{Report, Verdict};
+pub use sc_audit_errors::{AuditError, FitFault, ShapeFault};
 pub use sc_svo::{Grid, Grids};
 pub use sc_table::Strategy;
-pub use sc_audit_errors::{AuditError, FitFault, ShapeFault};
 pub use shape::FittingJob;

@@ -40,9 +40,11 @@ impl<EF> fmt::Display for Verdict<EF> {
             Verdict::Holds => f.write_str("holds"),
             Verdict::Refuted => f.write_str("refuted"),
             Verdict::LuckyBatch { vanishing, .. } => write!(f, "lucky-batch vanishing {vanishing}"),
-            Verdict::LuckyRound { round, vanishing, .. } => {
-                write!(f, "lucky-round {round} vanishing {vanishing}")
-            }
+            Verdict::LuckyRound {
+                round,
+                vanishing,
+                ..
+            } => { write!(f, "lucky-round {round} vanishing {vanishing}") }
         }
     }
 }

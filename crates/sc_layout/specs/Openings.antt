@@ -101,20 +101,20 @@ abbrev pub opening_state : List Event → Recorded → OpeningState
 opening_state h b = record { history = h; recorded = b }
 
 -- A concrete claim was added: its point was drawn, its values were observed, and it stands after the others.
-pub record AddsConcrete (t : Taking) (x : Opened) (before after : Place) : Type 0 where
+pub record AddsConcrete (t : Taking) (x : Opened) (before after : OpeningState) : Type 0 where
   pub point : x.point ≡ point_at t before.history
   pub history : after.history ≡ before.history ++ opening_events t.extension t.variables (x.current ++ x.next)
   pub concrete : after.recorded.concrete ≡ before.recorded.concrete ++ x ∷ []
   pub virtual : after.recorded.virtual ≡ before.recorded.virtual
 
 -- A virtual claim of this value was added: its point was drawn, the value was observed, and it stands after the others.
-pub record AddsVirtual (t : Taking) (value : ℕ) (before after : Place) : Type 0 where
+pub record AddsVirtual (t : Taking) (value : ℕ) (before after : OpeningState) : Type 0 where
   pub history : after.history ≡ before.history ++ opening_events t.extension t.variables (value ∷ [])
   pub concrete : after.recorded.concrete ≡ before.recorded.concrete
   pub virtual : after.recorded.virtual ≡ before.recorded.virtual ++ claims (current_at (point_at t before.history)) value ∷ []
 
 -- Nothing was added: the claims are as they were, and the history too, or it ends after the point.
-pub record AddsNothing (t : Taking) (before after : Place) : Type 0 where
+pub record AddsNothing (t : Taking) (before after : OpeningState) : Type 0 where
   pub recorded : after.recorded ≡ before.recorded
   pub history : (after.history ≡ before.history) ⊎ (after.history ≡ before.history ++ point_events t.extension t.variables)
 

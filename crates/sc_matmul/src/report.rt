@@ -43,9 +43,11 @@ impl<EF> fmt::Display for MatmulVerdict<EF> {
             MatmulVerdict::LuckyPoint { vanishing, .. } => {
                 write!(f, "lucky-point vanishing {vanishing}")
             }
-            MatmulVerdict::LuckyRound { round, vanishing, .. } => {
-                write!(f, "lucky-round {round} vanishing {vanishing}")
-            }
+            MatmulVerdict::LuckyRound {
+                round,
+                vanishing,
+                ..
+            } => { write!(f, "lucky-round {round} vanishing {vanishing}") }
         }
     }
 }

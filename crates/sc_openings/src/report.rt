@@ -44,9 +44,11 @@ impl<EF> fmt::Display for MergeVerdict<EF> {
             MergeVerdict::LuckyBatch { vanishing, .. } => {
                 write!(f, "lucky-batch vanishing {vanishing}")
             }
-            MergeVerdict::LuckyRound { round, vanishing, .. } => {
-                write!(f, "lucky-round {round} vanishing {vanishing}")
-            }
+            MergeVerdict::LuckyRound {
+                round,
+                vanishing,
+                ..
+            } => { write!(f, "lucky-round {round} vanishing {vanishing}") }
         }
     }
 }

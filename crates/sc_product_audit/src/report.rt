@@ -33,9 +33,11 @@ impl<EF> fmt::Display for ProductVerdict<EF> {
         match self {
             ProductVerdict::Holds => f.write_str("holds"),
             ProductVerdict::Refuted => f.write_str("refuted"),
-            ProductVerdict::LuckyRound { round, vanishing, .. } => {
-                write!(f, "lucky-round {round} vanishing {vanishing}")
-            }
+            ProductVerdict::LuckyRound {
+                round,
+                vanishing,
+                ..
+            } => { write!(f, "lucky-round {round} vanishing {vanishing}") }
         }
     }
 }

@@ -6,11 +6,11 @@ use super::{
     Case, Figures, Finding, ONE_ROUND, PREFIX, Task, assert_all, assert_audit, challenger, job,
     statements,
 };
+use sc_constraints::{Constraint, Statements};
 use sc_definitions::Event::{Draw, Word};
 use sc_field::Field;
 use sc_sixteen::Tower16;
 use sc_small_fields::F65537;
-use sc_constraints::{Constraint, Statements};
 use sc_table::VariableOrder;
 use std::process::Abort;
 

@@ -8,9 +8,9 @@ use super::{
 };
 use sc_audit::{AuditError, FitFault, Job, ShapeFault, Strategy, audit_true};
 use sc_challenger::ScriptedChallenger;
+use sc_constraints::{StatementList, Statements};
 use sc_definitions::Event::{Draw, Word};
 use sc_field::Field;
-use sc_constraints::{StatementList, Statements};
 use std::process::Abort;
 
 // Claims at the points of the cases, of which the second is false, or both are.

@@ -4,10 +4,10 @@ ghost use Rattle.std.specs.Prelude.{◌≡◌};
 ghost use Rattle.sc_constraints.specs.Constraints.{constraint_arity};
 
 use super::{claims, table};
+use sc_constraints::{Constraint, Statements};
 use sc_definitions::FalseClaim;
 use sc_field::Field;
 use sc_small_fields::F65537;
-use sc_constraints::{Constraint, Statements};
 use sc_tests_common::{have_numbers, of};
 use std::process::Abort;
 

@@ -7,9 +7,9 @@ ghost use Rattle.sc_constraints.specs.Groups.{group_arity};
 
 use super::kinds::{TWO_VALUES, a_direct_point, successors, two_scalars};
 use super::{claims, elements, four, point};
+use sc_constraints::{Constraint, StatementList, Statements};
 use sc_field::{ExtensionField, Field};
 use sc_small_fields::F65537;
-use sc_constraints::{Constraint, StatementList, Statements};
 use sc_table::Basis;
 use sc_tests_common::of;
 use std::process::Abort;

@@ -8,11 +8,11 @@ ghost use Rattle.sc_constraints.specs.Constraints.{constraint_arity};
 ghost use Rattle.sc_table.specs.Polys.{variables_of};
 
 use super::{elements, four, point, table};
-use sc_field::Field;
-use sc_small_fields::F65537;
 use sc_constraints::{
     Claim, Constraint, NextStatement, SelectStatement, StatementList, Statements, Weights,
 };
+use sc_field::Field;
+use sc_small_fields::F65537;
 use sc_table::{Basis, Point, Poly, VariableOrder};
 use sc_tests_common::{have_numbers, of};
 use std::process::Abort;

@@ -6,13 +6,13 @@ ghost use Rattle.sc_rounds.specs.ProverViews.{shown_by, IsNoneOrTrueOf};
 
 use super::{Form, PLAYS, Standing, are_standing, pair_of};
 use sc_challenger::{Challenger, ScriptedChallenger};
+use sc_constraints::{Constraint, EqStatement, Statements};
 use sc_field::{ExtensionField, Field, NoMemory};
 use sc_rounds::{
     EvalConstraints, SumcheckData, SumcheckProver, SumcheckShape, batch_in_step, replay_laws,
     shape_laws,
 };
 use sc_small_fields::F65537;
-use sc_constraints::{Constraint, EqStatement, Statements};
 use sc_table::{Basis, Point, VariableOrder};
 use sc_tests_common::{are_pairs, have_numbers, of, point};
 use std::alloc::Global;

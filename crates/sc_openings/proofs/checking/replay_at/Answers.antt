@@ -5,7 +5,7 @@ use Rattle.sc_definitions.specs.Statements.{batched_by_powers}
 use Rattle.sc_definitions.specs.Transcript.{sent}
 use Rattle.sc_transcript.specs.Causes.{cause_of}
 use Rattle.sc_transcript.specs.Walks.{IsWalked}
-use Rattle.sc_transcript.specs.Replayed.{Replay, LeavesReplay, IsUnmoved, place}
+use Rattle.sc_transcript.specs.Replayed.{Replay, LeavesReplay, IsUnmoved, caller_state}
 use Rattle.sc_merge_definitions.specs.Openings.{OpeningsCase, merging_challenge, merging_claim}
 use Rattle.sc_openings.specs.declared.error.MergeError.TheVariants.{NoMemory}
 use Rattle.sc_openings.specs.OpeningsJobs.{CameOpenings, came_in}
@@ -29,7 +29,7 @@ returns-in-Err-clause-answered g c = λ party at.
     ∙ ap (batched_by_powers q.ops (merging_challenge q) 0) (ap (map N) c.deref.ensures.value ∙ (c.requires.values party).claimed) in
     let after = g.C.Challenger.party c.verify_rounds.new.challenger in
     let end : VerifierState = verifier_state after.history (N c.verify_rounds.new.claimed_sum) in
-    let untouched = IsUnmoved (place (g.C.Challenger.party c.args.challenger.now) c.claim_at-claim.result) (place after c.verify_rounds.new.claimed_sum) in
+    let untouched = IsUnmoved (caller_state (g.C.Challenger.party c.args.challenger.now) c.claim_at-claim.result) (caller_state after c.verify_rounds.new.claimed_sum) in
     let same = replay-is q came at.rules at.history refl (sym g.met.EF.ExtensionField.degree_is) claim in
     let left = subst (λ (p : Replay). LeavesReplay untouched p (Err (cause_of c.in-Err.error)) end) same c.in-Err.ensures.left in
     subst (λ x. IsAnswered q (Some came) (Err x) after.history) (sym c.refusal.ensures)

@@ -9,7 +9,7 @@ use Rattle.sc_rounds.proofs.TakenLaws.{claim_begun, same_verifier_state}
 use Rattle.sc_transcript.proofs.InStep.{message_count, found_count, same_challenges, same_ends, wants_memory, step_as, not_begun}
 use Rattle.sc_transcript.specs.Shapes.{shape_of, batch_of}
 use Rattle.sc_transcript.specs.Data.{wire_in}
-use Rattle.sc_transcript.specs.Replayed.{AreCounted, Replay, replay_of, LeavesReplay, place, verifier_state_at, IsUnmoved}
+use Rattle.sc_transcript.specs.Replayed.{AreCounted, Replay, replay_of, LeavesReplay, caller_state, verifier_state_at, IsUnmoved}
 use Rattle.sc_transcript.specs.Causes.{cause_of}
 use Rattle.sc_transcript.specs.Steps.{rounds_on}
 use Rattle.sc_rounds.specs.ProverViews.{shown_by, stated_to}
@@ -58,8 +58,8 @@ returns-in_err-replayed g c =
     replay_of (next_claim b g.EF.Field.ops) C shape (verifier_state ((g.C.Challenger.party c.args.verifier_challenger.now).history
     ++ words (quadratic_seed g.EF.ExtensionField.DEGREE b c.args.pow_bits c.args.folding_factor)) (N c.with_claim-claim.result))
     (wire_in g.F.Field.number N c.compute_sumcheck_polynomials.new.sumcheck_data) in
-    let before = place (g.C.Challenger.party c.args.verifier_challenger.now) c.with_claim-claim.result in
-    let after = place (g.C.Challenger.party c.verify_rounds.new.challenger) c.verify_rounds.new.claimed_sum in
+    let before = caller_state (g.C.Challenger.party c.args.verifier_challenger.now) c.with_claim-claim.result in
+    let after = caller_state (g.C.Challenger.party c.verify_rounds.new.challenger) c.verify_rounds.new.claimed_sum in
     let left = subst (λ p. LeavesReplay (IsUnmoved before after) p (Err (cause_of c.in_err-replayed.field-0.0)) (verifier_state_at N after)) (ap walk c.basis-basis.ensures) c.in_err-replayed.ensures.left in
     let told = wants_memory _ _ _ _ C _ c.requires.empty same begun played _ _ shape c.in_err-replayed.field-0.0 _ counted left in
     record {
@@ -81,7 +81,7 @@ returns g c =
     let begun = same_verifier_state (ap seed c.requires.history) claim in
     let played = c.in_ok-drawn.ensures.batch.played in
     let came = wire_in g.F.Field.number N c.compute_sumcheck_polynomials.new.sumcheck_data in
-    let after = place (g.C.Challenger.party c.verify_rounds.new.challenger) c.verify_rounds.new.claimed_sum in
+    let after = caller_state (g.C.Challenger.party c.verify_rounds.new.challenger) c.verify_rounds.new.claimed_sum in
     let from : Basis → VerifierState = λ b.
     verifier_state ((g.C.Challenger.party c.args.verifier_challenger.now).history
     ++ words (quadratic_seed g.EF.ExtensionField.DEGREE b c.args.pow_bits c.args.folding_factor)) (N c.with_claim-claim.result) in
