@@ -96,15 +96,18 @@ static void want(int is, const struct call *call, const char *what) {
     }
 }
 
-/* Each request of a call is refused in turn, until there is none to refuse. */
+/* Each request of a call is refused in turn, until there is none to refuse. It is then told with nothing written, or the
+ * call does without that memory, and leaves all that it leaves else. */
 static void refuse_each(const struct call *call, uint8_t status) {
+    struct left whole = filled();
     refused = 0;
+    want(answer(call, ROOM, &whole) == status, call, "no request is refused");
     do {
         struct left left = filled();
         refused++;
         uint8_t told = answer(call, ROOM, &left);
-        int lacks = told == TUNAPROW_OUT_OF_MEMORY && is_untouched(&left);
-        want(requests >= refused ? lacks : told == status, call, "a request is refused");
+        int lacks = told == TUNAPROW_OUT_OF_MEMORY && is_untouched(&left) && requests >= refused;
+        want(lacks || (told == status && memcmp(&left, &whole, sizeof left) == 0), call, "a request is refused");
     } while (requests >= refused);
     refused = 0;
 }
