@@ -9,6 +9,7 @@ mod lucky;
 mod projective;
 mod refusals;
 mod reports;
+mod represented;
 mod seventeen;
 mod stated;
 mod strategies;

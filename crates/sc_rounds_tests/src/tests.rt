@@ -6,6 +6,7 @@ ghost use Rattle.sc_rounds.specs.Products.{variables_in};
 mod base;
 mod constraint;
 mod held;
+mod represented;
 mod step;
 mod turns;
 

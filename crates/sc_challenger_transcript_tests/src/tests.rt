@@ -1,0 +1,3 @@
+//! Challengers, and the drivers over them.
+mod challengers;
+mod transcripts;

@@ -1,7 +1,0 @@
-use Rattle.std.proofs.Common.{◌≡◌, length, take}
-use Rattle.sc_constraints.specs.Groups.{all_statements}
-use Rattle.sc_constraints_tests.proofs.tests.claimed.count.Given as goal
-
-abbrev pub invariant-loop-group : goal.invariant-loop-group
-invariant-loop-group g l =
-    l.count ≡ length (all_statements (λ x. g.EF.Algebra.embedding (g.F.Field.number x)) g.EF.Field.number (take l.group-index l.group-items))

@@ -1,6 +1,0 @@
-use Rattle.std.proofs.Common.{◌≡◌}
-use Rattle.sc_statements.specs.EqStatements.{eq_arity}
-use Rattle.sc_constraints_tests.proofs.tests.claims.Given as goal
-
-abbrev pub invariant-loop-coords : goal.invariant-loop-coords
-invariant-loop-coords g l = eq_arity l.statement ≡ g.row.N

@@ -1,6 +1,0 @@
-use Rattle.std.proofs.Common.{◌≡◌}
-use Rattle.sc_statements.specs.NextStatements.{next_arity}
-use Rattle.sc_constraints_tests.proofs.tests.kinds.successors.Given as goal
-
-abbrev pub invariant-loop-value : goal.invariant-loop-value
-invariant-loop-value g l = next_arity l.statement ≡ 2
