@@ -55,9 +55,11 @@ fn are_drawn<EF: DrawElement, A: Abort>(rt: &A, alloc: Global, numbers: &[u64]) 
 
 #[test]
 fn draws_elements(rt: HostRuntime) {
-    assert!(rt; are_drawn::<F65537, _>(&rt, rt.alloc(), &DRAWS));
-    assert!(rt; are_drawn::<F257x2, _>(&rt, rt.alloc(), &DRAWS_OF_PAIRS));
-    assert!(rt; are_drawn::<Tower16, _>(&rt, rt.alloc(), &DRAWS_OF_SIXTEEN));
+    assert!(rt;
+        are_drawn::<F65537, _>(&rt, rt.alloc(), &DRAWS)
+            && are_drawn::<F257x2, _>(&rt, rt.alloc(), &DRAWS_OF_PAIRS)
+            && are_drawn::<Tower16, _>(&rt, rt.alloc(), &DRAWS_OF_SIXTEEN)
+    );
 }
 
 // The matrix of these numbers, row by row.
@@ -88,7 +90,7 @@ static HEIGHTS: [(&[u64], usize, usize); 6] = [
 fn counts_rows(rt: HostRuntime) {
     for (numbers, width, height) in &HEIGHTS {
         let made: RowMajorMatrix<F65537> = matrix(&rt, rt.alloc(), *numbers, *width);
-        assert_eq!(rt; made.height(), *height);
+        assert!(rt; made.height() == *height);
     }
 }
 
@@ -167,8 +169,9 @@ fn encodes_given_lists(rt: HostRuntime) {
     let made = code
         .encode_batch_with_randomness(alloc, &messages, &randomness)
         .expect(&rt, "room for codewords");
-    assert!(rt; have_numbers(made.values.as_slice(), &VALUES));
-    assert_eq!(rt; (made.width, made.height()), (3, 6));
+    assert!(rt;
+        have_numbers(made.values.as_slice(), &VALUES) && (made.width, made.height()) == (3, 6)
+    );
 }
 
 // Draws so many masks by an encoding and encodes them: the masks, the randomness and the matrix.
@@ -206,15 +209,18 @@ static CODEWORDS_COMMITTED: &str =
 fn draws_encodes_and_commits(rt: HostRuntime) {
     let alloc = rt.alloc();
     let code = NodeCode::<F65537>::new(3, 2, 10);
-    assert_eq!(rt; lengths::<F65537, _>(&code), (3, 2, 10));
+    assert!(rt; lengths::<F65537, _>(&code) == (3, 2, 10));
     let (masks, randomness, made) = drawn_and_encoded(alloc, &code, 2, &mut generator()).expect(
         &rt,
         "room for codewords",
     );
-    assert_eq!(rt; (masks.len(), randomness.len()), (2, 2));
-    assert!(rt; have_numbers(&masks[0], &DRAWS[..3]) && have_numbers(&masks[1], &DRAWS[3..6]));
-    assert!(rt; have_numbers(&randomness[0], &DRAWS[6..8]));
-    assert!(rt; have_numbers(&randomness[1], &DRAWS[8..]));
+    assert!(rt;
+        (masks.len(), randomness.len()) == (2, 2)
+            && have_numbers(&masks[0], &DRAWS[..3])
+            && have_numbers(&masks[1], &DRAWS[3..6])
+            && have_numbers(&randomness[0], &DRAWS[6..8])
+            && have_numbers(&randomness[1], &DRAWS[8..])
+    );
     assert!(rt; have_numbers(made.values.as_slice(), &CODEWORDS));
     let (words, _kept) = committed(alloc, &Sha2Mmcs::new(), made).expect(
         &rt,

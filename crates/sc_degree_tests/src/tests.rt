@@ -112,9 +112,9 @@ fn assert_first<F: Field, EF: ExtensionField<F>, A: Abort>(rt: &A, alloc: Global
         rt,
         "an answer",
     );
-    assert!(rt; answer == Err(first.refusal));
-    assert_eq!(rt; left, 2);
-    assert!(rt; ends(&challenger, first.events, first.last));
+    assert!(rt;
+        answer == Err(first.refusal) && left == 2 && ends(&challenger, first.events, first.last)
+    );
 }
 
 #[test]

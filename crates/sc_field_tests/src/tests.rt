@@ -58,26 +58,25 @@ fn lists_powers(rt: HostRuntime) {
         .map(|x| x.index())
         .collect(rt.alloc())
         .expect(&rt, "an answer");
-    assert_eq!(rt; shifted.as_slice() == [5, 15, 45, 135].as_slice(), true);
+    assert!(rt; shifted.as_slice() == [5, 15, 45, 135].as_slice());
     let plain: Vec<u64> = of(2)
         .powers()
         .take(3)
         .map(|x| x.index())
         .collect(rt.alloc())
         .expect(&rt, "an answer");
-    assert_eq!(rt; plain.as_slice() == [1, 2, 4].as_slice(), true);
+    assert!(rt; plain.as_slice() == [1, 2, 4].as_slice());
 }
 
 #[test]
 fn is_over_itself(rt: HostRuntime) {
-    assert_eq!(rt; combined(of(2), of(3), of(4), of(5)).index(), 26);
+    assert!(rt; combined(of(2), of(3), of(4), of(5)).index() == 26);
     let (degree, first, put) = first_part_put::<F65537, F65537>(of(8), of(9));
-    assert_eq!(rt; degree, 1);
-    assert_eq!(rt; first.index(), 8);
-    assert_eq!(rt; put.index(), 9);
-    assert_eq!(rt;
-        <F65537 as ExtensionField<F65537>>::from_parts(&[of(6)]).index(),
-        6
+    assert!(rt;
+        degree == 1
+            && first.index() == 8
+            && put.index() == 9
+            && <F65537 as ExtensionField<F65537>>::from_parts(&[of(6)]).index() == 6
     );
 }
 
@@ -85,9 +84,7 @@ fn is_over_itself(rt: HostRuntime) {
 fn represents_itself(rt: HostRuntime) {
     let table = vec![in rt.alloc(); of(7), of(65536)].expect(&rt, "an answer");
     let back = there_and_back::<F65537, F65537>(rt.alloc(), table).expect(&rt, "an answer");
-    assert_eq!(rt; back.len(), 2);
-    assert_eq!(rt; back[0].index(), 7);
-    assert_eq!(rt; back[1].index(), 65536);
+    assert!(rt; back.len() == 2 && back[0].index() == 7 && back[1].index() == 65536);
 }
 
 #[test]
@@ -98,8 +95,7 @@ fn maps_no_whole_table(rt: HostRuntime) {
         &[of(2)],
         &mut output,
     );
-    assert_eq!(rt; mapped, false);
-    assert_eq!(rt; output[0].index(), 4);
+    assert!(rt; !mapped && output[0].index() == 4);
 }
 
 #[test]

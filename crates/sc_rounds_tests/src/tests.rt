@@ -224,15 +224,19 @@ fn a_pair_is_bound_at_the_challenges(rt: HostRuntime) {
         let mut pair = pair_of(rt.alloc(), play.form, &[0, 1, 0, 0]).expect(&rt, "an answer");
         let mut data = SumcheckData::new(rt.alloc());
         let mut sum = pair.dot_product();
-        assert_eq!(rt; sum.index(), 2);
+        assert!(rt; sum.index() == 2);
         let row_one = point(rt.alloc(), &[0, 1]).expect(&rt, "an answer");
         assert!(rt; outline(&pair, &row_one) == (play.form, 2, Some(play.at_row_one)));
         for (challenge, standing) in play.after {
             let drawn = play_one(rt.alloc(), &mut challenger, &mut pair, &mut data, &mut sum);
-            assert!(rt; drawn == Ok(Some(of(*challenge))));
-            assert!(rt; stands(rt.alloc(), &pair, sum, standing) == Ok(true));
+            assert!(rt;
+                drawn == Ok(Some(of(*challenge)))
+                    && stands(rt.alloc(), &pair, sum, standing) == Ok(true)
+            );
         }
-        assert!(rt; are_pairs(data.polynomial_evaluations(), play.sent));
-        assert_eq!(rt; challenger.events().len(), 2 * (ONE_ROUND + 3));
+        assert!(rt;
+            are_pairs(data.polynomial_evaluations(), play.sent)
+                && challenger.events().len() == 2 * (ONE_ROUND + 3)
+        );
     }
 }

@@ -142,7 +142,7 @@ fn assert_case<F: Field, EF: ExtensionField<F>, A: Abort>(rt: &A, alloc: Global,
     );
     let answer = answered::<F, EF, ScriptedChallenger<F>>(alloc, case, &mut challenger);
     assert!(rt; is_answer(&answer, &case.answer), "{}", case.name);
-    assert_eq!(rt; challenger.events().len(), case.events, "{}", case.name);
+    assert!(rt; challenger.events().len() == case.events, "{}", case.name);
 }
 
 #[test]

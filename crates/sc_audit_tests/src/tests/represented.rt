@@ -172,16 +172,15 @@ fn assert_figures<F: Field, EF: ExtensionField<F>, A: Abort>(
         report.weight.index(),
     );
     let figures = (wanted.claim, wanted.residual, wanted.eval, wanted.weight);
-    assert_eq!(rt; values, figures, "{name}: claim, residual, eval, weight");
+    assert!(rt; values == figures, "{name}: claim, residual, eval, weight");
     let are_lists = (
         are_pairs(report.rounds.polynomial_evaluations(), wanted.rounds),
         have_numbers(&report.rounds.pow_witnesses, wanted.witnesses),
         have_numbers(report.challenges.as_slice(), wanted.challenges),
         is_verdict(&report.verdict, wanted.holds),
     );
-    assert_eq!(rt;
-        are_lists,
-        (true, true, true, true),
+    assert!(rt;
+        are_lists == (true, true, true, true),
         "{name}: rounds, witnesses, challenges, verdict"
     );
 }
@@ -199,7 +198,7 @@ fn assert_answer<F: Field, EF: ExtensionField<F>, A: Abort>(
             let grids = report.grids.rounds.as_slice();
             assert!(rt; are_grids(grids, case.grids), "{name}: grids");
         }
-        (Err(error), Err(refusal)) => assert_eq!(rt; error, refusal, "{name}"),
+        (Err(error), Err(refusal)) => assert!(rt; error == refusal, "{name}"),
         (Ok(_), Err(_)) => panic!(rt; "{name}: a report"),
         (Err(error), Ok(_)) => panic!(rt; "{name}: {error}"),
     }

@@ -205,9 +205,9 @@ fn plays_as_scripted(rt: HostRuntime) {
     } in PLAYS.iter() {
         let mut challenger = scripted(&rt, rt.alloc(), *draws, *good);
         let begins = (challenger.events().len(), challenger.max_bits());
-        assert_eq!(rt; begins, (0, 16));
+        assert!(rt; begins == (0, 16));
         play(&rt, &mut challenger, *steps);
-        assert_eq!(rt; challenger.events() == *events, true);
+        assert!(rt; challenger.events() == *events);
     }
 }
 
@@ -215,9 +215,9 @@ fn plays_as_scripted(rt: HostRuntime) {
 fn needs_no_memory_in_room(rt: HostRuntime) {
     let mut challenger = scripted(&rt, rt.alloc(), &[3, 4], &[]);
     let first = two_words_in_room(&mut challenger, F65537::element(2), F65537::element(65535));
-    assert_eq!(rt; first, Ok(F65537::element(3)));
+    assert!(rt; first == Ok(F65537::element(3)));
     let wanted = [Event::Word(2), Event::Word(65535), Event::Draw];
-    assert_eq!(rt; challenger.events() == wanted.as_slice(), true);
+    assert!(rt; challenger.events() == wanted.as_slice());
 }
 
 // What is played on a copy, and then on the challenger itself.
@@ -238,7 +238,7 @@ fn copies_play_apart(rt: HostRuntime) {
     play(&rt, &mut copied, &ON_EITHER);
     play(&rt, &mut challenger, &ON_EITHER);
     let wanted = [Event::Draw, Event::Word(9), Event::Word(9), Event::Draw];
-    assert_eq!(rt; challenger.events() == wanted.as_slice(), true);
+    assert!(rt; challenger.events() == wanted.as_slice());
 }
 
 // Observes an element and draws one, with any extension.
@@ -273,8 +273,7 @@ static PART_BY_PART: [Event; 3] = [Event::Word(65535), Event::Draw, Event::Draw]
 fn plays_elements_part_by_part(rt: HostRuntime) {
     let mut challenger = scripted(&rt, rt.alloc(), &[3, 4], &[]);
     let drawn = drawn_behind(&mut challenger, F65537::element(65535));
-    assert_eq!(rt; drawn, Ok((3, 4)));
-    assert_eq!(rt; challenger.events() == PART_BY_PART.as_slice(), true);
+    assert!(rt; drawn == Ok((3, 4)) && challenger.events() == PART_BY_PART.as_slice());
 }
 
 // The separator of one round without grinding, over a field as its own extension, in the basis of
@@ -350,13 +349,13 @@ fn seeds_one_round(rt: HostRuntime) {
 #[test]
 fn sets_labels(rt: HostRuntime) {
     let pattern = InteractionPattern::new(Vec::new(rt.alloc()));
-    assert_eq!(rt; pattern.steps().len(), 0);
+    assert!(rt; pattern.steps().len() == 0);
     let mut separator = DomainSeparator::new(1, Protocol::GenericDegree, pattern);
-    assert_eq!(rt; seed(&rt, rt.alloc(), &separator).len(), 102);
+    assert!(rt; seed(&rt, rt.alloc(), &separator).len() == 102);
     separator
         .instance(rt.alloc(), &[0, 16])
         .expect(&rt, "room for a label");
-    assert_eq!(rt; seed(&rt, rt.alloc(), &separator).len(), 106);
+    assert!(rt; seed(&rt, rt.alloc(), &separator).len() == 106);
     separator
         .instance(rt.alloc(), &[171])
         .expect(&rt, "room for a label");

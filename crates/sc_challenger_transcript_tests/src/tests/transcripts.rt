@@ -58,14 +58,14 @@ fn a_difficulty_wants_a_witness(rt: HostRuntime) {
         &rt,
         "an answer",
     );
-    assert!(rt; answer == Err(missing));
-    assert_eq!(rt; left, 2);
     assert!(rt;
-        ends(
-            &challenger,
-            TWO_TESTED_ROUNDS + 2,
-            &[Event::Word(1), Event::Word(1)]
-        )
+        answer == Err(missing)
+            && left == 2
+            && ends(
+                &challenger,
+                TWO_TESTED_ROUNDS + 2,
+                &[Event::Word(1), Event::Word(1)]
+            )
     );
 }
 
@@ -150,8 +150,7 @@ static NONE_FOUND: Tested = Tested {
 fn assert_tested<A: Abort>(rt: &A, alloc: Global, tested: &Tested) {
     let mut challenger = scripted(alloc, &[3, 4], tested.good).expect(rt, "an answer");
     let answer = tested_rounds::<F65537, F65537, _>(alloc, &mut challenger);
-    assert!(rt; answer == tested.answer);
-    assert!(rt; ends(&challenger, tested.events, tested.last));
+    assert!(rt; answer == tested.answer && ends(&challenger, tested.events, tested.last));
 }
 
 #[test]
@@ -232,8 +231,7 @@ fn both_sides_keep_in_step(rt: HostRuntime) {
     let mut data: SumcheckData<F65537, F65537> = SumcheckData::new(rt.alloc());
     data.reserve(2).expect(&rt, "an answer");
     let challenges = untested_rounds(rt.alloc(), &mut prover, &mut data).expect(&rt, "an answer");
-    assert!(rt; have_numbers(&challenges, &[3, 4]));
-    assert_eq!(rt; data.num_rounds(), 2);
+    assert!(rt; have_numbers(&challenges, &[3, 4]) && data.num_rounds() == 2);
     let data = data.copy(rt.alloc()).expect(&rt, "an answer");
     assert!(rt; is_two(rt.alloc(), &data) == Ok(true));
     let mut claim = of(2);
@@ -246,10 +244,12 @@ fn both_sides_keep_in_step(rt: HostRuntime) {
         0,
         Basis::Evaluation,
     );
-    assert!(rt; answers(&point, Ok(&[3, 4])));
-    assert_eq!(rt; claim.index(), 65449);
-    assert!(rt; prover.events() == verifier.events());
-    assert_eq!(rt; verifier.events().len(), TWO_ROUNDS + 6);
+    assert!(rt;
+        answers(&point, Ok(&[3, 4]))
+            && claim.index() == 65449
+            && prover.events() == verifier.events()
+            && verifier.events().len() == TWO_ROUNDS + 6
+    );
 }
 
 // What a proof is and what is expected of it, and what the replay then answers and leaves.
@@ -579,8 +579,9 @@ fn assert_last<A: Abort>(rt: &A, alloc: Global, calls: &[Last]) {
             *rounds,
             *pow_bits,
         );
-        assert!(rt; answers(&answer, *wanted));
-        assert!(rt; (claim.index(), challenger.events().len()) == *left);
+        assert!(rt;
+            answers(&answer, *wanted) && (claim.index(), challenger.events().len()) == *left
+        );
     }
 }
 

@@ -84,19 +84,16 @@ const NUMBERS: [u64; 16] = [0, 1, 2, 3, 4, 5, 6, 7, 8, 9, 10, 14, 15, 257, 40000
 #[test]
 fn values_at_nodes_and_elsewhere(rt: HostRuntime) {
     for degree in 1..9 {
-        assert_eq!(rt;
-            values_agree::<F65537>(rt.alloc(), degree, &NUMBERS),
-            Ok(true),
+        assert!(rt;
+            values_agree::<F65537>(rt.alloc(), degree, &NUMBERS) == Ok(true),
             "{degree}"
         );
-        assert_eq!(rt;
-            values_agree::<F257x2>(rt.alloc(), degree, &NUMBERS),
-            Ok(true),
+        assert!(rt;
+            values_agree::<F257x2>(rt.alloc(), degree, &NUMBERS) == Ok(true),
             "{degree}"
         );
-        assert_eq!(rt;
-            values_agree::<Tower16>(rt.alloc(), degree, &NUMBERS),
-            Ok(true),
+        assert!(rt;
+            values_agree::<Tower16>(rt.alloc(), degree, &NUMBERS) == Ok(true),
             "{degree}"
         );
     }
@@ -105,7 +102,7 @@ fn values_at_nodes_and_elsewhere(rt: HostRuntime) {
 // With a degree of 15 each element of the field is a node.
 #[test]
 fn values_at_each_element(rt: HostRuntime) {
-    assert_eq!(rt; values_agree::<Tower16>(rt.alloc(), 15, &NUMBERS), Ok(true));
+    assert!(rt; values_agree::<Tower16>(rt.alloc(), 15, &NUMBERS) == Ok(true));
 }
 
 // The values 3, 8, 15 and 24 are those of (x + 1)(x + 3) at 0, 1, 2 and 3.
@@ -150,46 +147,39 @@ fn found_again<F: Field>(alloc: Global, degree: usize) -> Result<bool, NoMemory>
 #[test]
 fn coefficients_of_each_degree(rt: HostRuntime) {
     for degree in 1..9 {
-        assert_eq!(rt;
-            found_again::<F65537>(rt.alloc(), degree),
-            Ok(true),
+        assert!(rt;
+            found_again::<F65537>(rt.alloc(), degree) == Ok(true),
             "{degree}"
         );
-        assert_eq!(rt;
-            found_again::<F257x2>(rt.alloc(), degree),
-            Ok(true),
+        assert!(rt;
+            found_again::<F257x2>(rt.alloc(), degree) == Ok(true),
             "{degree}"
         );
-        assert_eq!(rt;
-            found_again::<Tower16>(rt.alloc(), degree),
-            Ok(true),
+        assert!(rt;
+            found_again::<Tower16>(rt.alloc(), degree) == Ok(true),
             "{degree}"
         );
     }
-    assert_eq!(rt; found_again::<Tower16>(rt.alloc(), 15), Ok(true));
+    assert!(rt; found_again::<Tower16>(rt.alloc(), 15) == Ok(true));
 }
 
 #[test]
 fn extensions_of_each_degree(rt: HostRuntime) {
     for degree in 1..9 {
-        assert_eq!(rt;
-            extends::<F65537>(rt.alloc(), degree, degree),
-            Ok(true),
+        assert!(rt;
+            extends::<F65537>(rt.alloc(), degree, degree) == Ok(true),
             "{degree}"
         );
-        assert_eq!(rt;
-            extends::<F65537>(rt.alloc(), degree, 12),
-            Ok(true),
+        assert!(rt;
+            extends::<F65537>(rt.alloc(), degree, 12) == Ok(true),
             "{degree}"
         );
-        assert_eq!(rt;
-            extends::<F257x2>(rt.alloc(), degree, 12),
-            Ok(true),
+        assert!(rt;
+            extends::<F257x2>(rt.alloc(), degree, 12) == Ok(true),
             "{degree}"
         );
-        assert_eq!(rt;
-            extends::<Tower16>(rt.alloc(), degree, 15),
-            Ok(true),
+        assert!(rt;
+            extends::<Tower16>(rt.alloc(), degree, 15) == Ok(true),
             "{degree}"
         );
     }
@@ -199,23 +189,27 @@ fn extensions_of_each_degree(rt: HostRuntime) {
 fn the_nodes_that_are_sent(rt: HostRuntime) {
     for (index, number) in [(0, 0), (1, 2), (2, 3), (255, 256), (256, 257)] {
         let prime: F65537 = RoundPolyInterpolator::transmitted_node(index);
-        assert_eq!(rt; prime.index(), number, "{index}");
+        assert!(rt; prime.index() == number, "{index}");
         let pair: F257x2 = RoundPolyInterpolator::transmitted_node(index);
-        assert_eq!(rt; pair.index(), number, "{index}");
+        assert!(rt; pair.index() == number, "{index}");
     }
     for (index, number) in [(0, 0), (1, 2), (14, 15)] {
         let node: Tower16 = RoundPolyInterpolator::transmitted_node(index);
-        assert_eq!(rt; node.index(), number, "{index}");
+        assert!(rt; node.index() == number, "{index}");
     }
 }
 
 #[test]
 fn as_many_nodes_as_elements(rt: HostRuntime) {
-    assert!(rt; nodes_distinct::<Tower16>(0));
-    assert!(rt; nodes_distinct::<Tower16>(15));
-    assert!(rt; !nodes_distinct::<Tower16>(16));
-    assert!(rt; nodes_distinct::<F65537>(65536));
-    assert!(rt; !nodes_distinct::<F65537>(65537));
-    assert!(rt; nodes_distinct::<F257x2>(66048));
-    assert!(rt; !nodes_distinct::<F257x2>(66049));
+    assert!(rt;
+        nodes_distinct::<Tower16>(0)
+            && nodes_distinct::<Tower16>(15)
+            && !nodes_distinct::<Tower16>(16)
+            && nodes_distinct::<F65537>(65536)
+    );
+    assert!(rt;
+        !nodes_distinct::<F65537>(65537)
+            && nodes_distinct::<F257x2>(66048)
+            && !nodes_distinct::<F257x2>(66049)
+    );
 }

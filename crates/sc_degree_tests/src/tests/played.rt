@@ -115,16 +115,17 @@ fn assert_played<F: Field, EF: ExtensionField<F>, H: Abort>(
         rt,
         "an answer",
     );
-    assert_eq!(rt; proof.num_rounds(), 3);
-    assert_eq!(rt; tables.num_variables(), 0);
+    assert!(rt; proof.num_rounds() == 3 && tables.num_variables() == 0);
     let (replay, left) = replayed(alloc, &proof, &mut theirs, 3, 2, played.pow_bits).expect(
         rt,
         "an answer",
     );
-    assert!(rt; point.as_slice() == replay.as_slice());
-    assert!(rt; ours.events() == theirs.events());
-    assert!(rt; left == value(point.as_slice()));
-    assert_eq!(rt; left.index(), played.left);
+    assert!(rt;
+        point.as_slice() == replay.as_slice()
+            && ours.events() == theirs.events()
+            && left == value(point.as_slice())
+            && left.index() == played.left
+    );
 }
 
 #[test]
@@ -139,10 +140,12 @@ fn a_prover_may_find_no_witness(rt: HostRuntime) {
     let mut challenger = scripted::<F65537>(rt.alloc(), &[3], &[&[4]]).expect(&rt, "an answer");
     let mut tables = prover::<F65537>(rt.alloc()).expect(&rt, "an answer");
     let answer = play::<F65537, F65537, _>(rt.alloc(), &mut tables, &mut challenger, 1);
-    assert!(rt; answer.err() == Some(GenericDegreeError::NoWitness { round: 1 }));
-    assert_eq!(rt; tables.num_variables(), 2);
-    assert_eq!(rt; challenger.events().len(), THREE_TESTED_ROUNDS + 8);
-    assert!(rt; challenger.events()[THREE_TESTED_ROUNDS..].starts_with(&FIRST_ROUND));
+    assert!(rt;
+        answer.err() == Some(GenericDegreeError::NoWitness { round: 1 })
+            && tables.num_variables() == 2
+            && challenger.events().len() == THREE_TESTED_ROUNDS + 8
+            && challenger.events()[THREE_TESTED_ROUNDS..].starts_with(&FIRST_ROUND)
+    );
 }
 
 // The claimed sum, and the first round: its values at 0 and 2, its witness, and its draw.

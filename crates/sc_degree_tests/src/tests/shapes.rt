@@ -114,8 +114,7 @@ fn assert_shape<F: Field, EF: ExtensionField<F>, A: Abort>(rt: &A, alloc: Global
         .expect(rt, "an answer");
     let words = separator.seed_words(alloc).expect(rt, "an answer");
     let seed = hex_digits(alloc, wanted.seed).expect(rt, "an answer");
-    assert!(rt; words.as_slice() == seed.as_slice());
-    assert_eq!(rt; words.len(), wanted.words);
+    assert!(rt; words.as_slice() == seed.as_slice() && words.len() == wanted.words);
 }
 
 #[test]

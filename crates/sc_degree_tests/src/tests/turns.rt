@@ -91,8 +91,7 @@ fn assert_one<A: Abort>(
         "an answer",
     );
     let answer = searched(alloc, product, claimed, &[round], &[challenge]).expect(rt, "an answer");
-    assert!(rt; is_found(&answer.0, 0, found));
-    assert_eq!(rt; answer.1, left);
+    assert!(rt; is_found(&answer.0, 0, found) && answer.1 == left);
 }
 
 // Whether this round was found, with these coefficients, or none.
@@ -156,8 +155,7 @@ fn the_second_round_turns_a_false_claim(rt: HostRuntime) {
         &rt,
         "an answer",
     );
-    assert!(rt; is_found(&answer.0, 1, Some([0, 65533, 1])));
-    assert_eq!(rt; answer.1, 429);
+    assert!(rt; is_found(&answer.0, 1, Some([0, 65533, 1])) && answer.1 == 429);
 }
 
 // The same rounds, but for the first challenge, 2: there both polynomials of round 0 are 36, so it
@@ -174,6 +172,5 @@ fn the_first_of_two_rounds_turns_a_false_claim(rt: HostRuntime) {
         &rt,
         "an answer",
     );
-    assert!(rt; is_found(&answer.0, 0, Some([0, 2, 65536])));
-    assert_eq!(rt; answer.1, 216);
+    assert!(rt; is_found(&answer.0, 0, Some([0, 2, 65536])) && answer.1 == 216);
 }

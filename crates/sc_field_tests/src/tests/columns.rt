@@ -85,9 +85,8 @@ fn columns_are_those_of_a_plain_loop(rt: HostRuntime) {
     for count in 0..22 {
         let count = if count > 20 { 511 } else { 2 * count };
         for width in [0, 1, 2, 3, 5, 8, 40] {
-            assert_eq!(rt;
-                all_agree(rt.alloc(), count, width),
-                Ok(true),
+            assert!(rt;
+                all_agree(rt.alloc(), count, width) == Ok(true),
                 "{count} {width}"
             );
         }
@@ -99,9 +98,8 @@ fn columns_are_those_of_a_plain_loop(rt: HostRuntime) {
 fn columns_around_a_block(rt: HostRuntime) {
     for count in [0, 1, 4, 5, 6, 256, 512] {
         for width in [255, 256, 257, 512, 700] {
-            assert_eq!(rt;
-                all_agree(rt.alloc(), count, width),
-                Ok(true),
+            assert!(rt;
+                all_agree(rt.alloc(), count, width) == Ok(true),
                 "{count} {width}"
             );
         }
@@ -114,5 +112,5 @@ fn the_largest_columns_fit(rt: HostRuntime) {
     let most = [F65537::element(65536); 512];
     let mut sums = [F65537::element(65536)];
     F65537::add_columns(&mut sums, &most, &most);
-    assert_eq!(rt; sums[0].index(), 511);
+    assert!(rt; sums[0].index() == 511);
 }

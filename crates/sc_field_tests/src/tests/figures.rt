@@ -64,15 +64,14 @@ fn inverse_of<F: Field>(number: u64) -> Option<u64> {
 
 fn assert_results<F: Field, A: Abort>(rt: &A, results: &[(Operation, u64)]) {
     for (operation, result) in results {
-        assert_eq!(rt; result_of::<F>(*operation), *result, "{operation:?}");
+        assert!(rt; result_of::<F>(*operation) == *result, "{operation:?}");
     }
 }
 
 fn assert_inverses<F: Field, A: Abort>(rt: &A, inverses: &[(u64, Option<u64>)]) {
     for (number, inverse) in inverses {
-        assert_eq!(rt;
-            inverse_of::<F>(*number),
-            *inverse,
+        assert!(rt;
+            inverse_of::<F>(*number) == *inverse,
             "the inverse of {number}"
         );
     }
@@ -80,13 +79,13 @@ fn assert_inverses<F: Field, A: Abort>(rt: &A, inverses: &[(u64, Option<u64>)]) 
 
 fn assert_equal<F: Field, A: Abort>(rt: &A, pairs: &[(u64, u64, bool)]) {
     for (a, b, are_equal) in pairs {
-        assert_eq!(rt; of::<F>(*a) == of::<F>(*b), *are_equal, "{a} and {b}");
+        assert!(rt; (of::<F>(*a) == of::<F>(*b)) == *are_equal, "{a} and {b}");
     }
 }
 
 // Tells of the first figure that the field does not have.
 pub(super) fn assert_figures<F: Field, A: Abort>(rt: &A, figures: &Figures) {
-    assert_eq!(rt; constants::<F>(), figures.constants);
+    assert!(rt; constants::<F>() == figures.constants);
     assert_results::<F, A>(rt, figures.results);
     assert_inverses::<F, A>(rt, figures.inverses);
     assert_equal::<F, A>(rt, figures.equal);

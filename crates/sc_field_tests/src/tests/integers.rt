@@ -86,7 +86,7 @@ static MODULO_257: Figures = Figures {
 #[test]
 fn integers_modulo_65537(rt: HostRuntime) {
     assert_figures::<F65537, HostRuntime>(&rt, &MODULO_65537);
-    assert_eq!(rt; super::fifteenth::<F65537>().index(), 15);
+    assert!(rt; super::fifteenth::<F65537>().index() == 15);
 }
 
 #[test]

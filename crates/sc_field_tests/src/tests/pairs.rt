@@ -91,10 +91,9 @@ fn has_its_figures(rt: HostRuntime) {
 
 #[test]
 fn numbers_its_parts(rt: HostRuntime) {
-    assert_eq!(rt; <F257x2 as ExtensionField<F257>>::DEGREE, 2);
+    assert!(rt; <F257x2 as ExtensionField<F257>>::DEGREE == 2);
     for (a, b, number) in &PARTS {
-        assert_eq!(rt; of(*a, *b).index(), *number);
-        assert_eq!(rt; parts(at(*number)), (*a, *b));
+        assert!(rt; of(*a, *b).index() == *number && parts(at(*number)) == (*a, *b));
     }
 }
 
@@ -102,11 +101,13 @@ fn numbers_its_parts(rt: HostRuntime) {
 fn replaces_one_part(rt: HostRuntime) {
     for (number, put, first, second) in &REPLACED {
         let part = F257::element(*put % 257);
-        assert_eq!(rt; at(*number).with_part(0, part).index(), *first);
-        assert_eq!(rt; at(*number).with_part(1, part).index(), *second);
+        assert!(rt;
+            at(*number).with_part(0, part).index() == *first
+                && at(*number).with_part(1, part).index() == *second
+        );
     }
     let (degree, first, put) = super::first_part_put(at(1288), F257::element(256));
-    assert_eq!(rt; (degree, first.index(), put.index()), (2, 3, 1541));
+    assert!(rt; (degree, first.index(), put.index()) == (2, 3, 1541));
 }
 
 // 4 (2 + 3 u) + 7 (5 + 6 u) is 43 + 54 u.
@@ -115,8 +116,5 @@ fn is_over_the_integers(rt: HostRuntime) {
     let embedded: F257x2 = Algebra::embed(F257::element(200));
     let scaled = of(10, 20).mul_base(F257::element(100));
     let combined = super::combined(of(2, 3), F257::element(4), of(5, 6), F257::element(7));
-    assert_eq!(rt;
-        (embedded.index(), parts(scaled), parts(combined)),
-        (200, (229, 201), (43, 54))
-    );
+    assert!(rt; (embedded.index(), parts(scaled), parts(combined)) == (200, (229, 201), (43, 54)));
 }

@@ -75,24 +75,20 @@ fn sums_agree<B: Field, A: Algebra<B>>(alloc: Global, len: usize) -> Result<bool
 fn sums_are_those_of_a_plain_loop(rt: HostRuntime) {
     for len in 0..43 {
         let len = if len > 40 { len + 470 } else { len };
-        assert_eq!(rt;
-            sums_agree::<F65537, F65537>(rt.alloc(), len),
-            Ok(true),
+        assert!(rt;
+            sums_agree::<F65537, F65537>(rt.alloc(), len) == Ok(true),
             "{len}"
         );
-        assert_eq!(rt;
-            sums_agree::<F257, F257x2>(rt.alloc(), len),
-            Ok(true),
+        assert!(rt;
+            sums_agree::<F257, F257x2>(rt.alloc(), len) == Ok(true),
             "{len}"
         );
-        assert_eq!(rt;
-            sums_agree::<F257x2, F257x2>(rt.alloc(), len),
-            Ok(true),
+        assert!(rt;
+            sums_agree::<F257x2, F257x2>(rt.alloc(), len) == Ok(true),
             "{len}"
         );
-        assert_eq!(rt;
-            sums_agree::<Tower16, Tower16>(rt.alloc(), len),
-            Ok(true),
+        assert!(rt;
+            sums_agree::<Tower16, Tower16>(rt.alloc(), len) == Ok(true),
             "{len}"
         );
     }
@@ -103,14 +99,10 @@ fn sums_are_those_of_a_plain_loop(rt: HostRuntime) {
 fn the_largest_products_fit(rt: HostRuntime) {
     let none = [F65537::ZERO; 512];
     let most = [F65537::element(65536); 512];
-    assert_eq!(rt; F65537::dot(&most, &most).index(), 512);
-    assert_eq!(rt;
-        F65537::dot_differences(&none, &most, &none, &most).index(),
-        512
-    );
-    assert_eq!(rt;
-        F65537::dot_differences(&most, &none, &most, &none).index(),
-        512
+    assert!(rt;
+        F65537::dot(&most, &most).index() == 512
+            && F65537::dot_differences(&none, &most, &none, &most).index() == 512
+            && F65537::dot_differences(&most, &none, &most, &none).index() == 512
     );
 }
 
@@ -120,13 +112,9 @@ fn the_largest_products_of_pairs_fit(rt: HostRuntime) {
     let none = [F257x2::ZERO; 512];
     let most = [F257x2::element(66048); 512];
     let sum = 249 + 257 * 253;
-    assert_eq!(rt; F257x2::dot(&most, &most).index(), sum);
-    assert_eq!(rt;
-        F257x2::dot_differences(&none, &most, &none, &most).index(),
-        sum
-    );
-    assert_eq!(rt;
-        F257x2::dot_differences(&most, &none, &most, &none).index(),
-        sum
+    assert!(rt;
+        F257x2::dot(&most, &most).index() == sum
+            && F257x2::dot_differences(&none, &most, &none, &most).index() == sum
+            && F257x2::dot_differences(&most, &none, &most, &none).index() == sum
     );
 }

@@ -88,15 +88,15 @@ fn doublings(alloc: Global, depth: usize) -> Result<Circuit, CircuitError> {
 fn as_many_layers_as_there_may_be(rt: HostRuntime) {
     let alloc = rt.alloc();
     let deep = doublings(alloc, 32).expect(&rt, "a circuit");
-    assert_eq!(&rt; deep.depth(), 32);
-    assert_eq!(&rt; deep.inputs(), 1);
-    assert_eq!(&rt; deep.outputs(), 1);
+    assert!(&rt; deep.depth() == 32 && deep.inputs() == 1 && deep.outputs() == 1);
     // 2^16 is 65536, the opposite of 1, and 2^32 is 1
     let rows = values::<F65537>(alloc, &deep, &[5]).expect(&rt, "values");
-    assert_eq!(&rt; rows.len(), 33);
-    assert!(&rt; have_numbers(rows[0].as_slice(), &[5]));
-    assert!(&rt; have_numbers(rows[16].as_slice(), &[65532]));
-    assert!(&rt; have_numbers(rows[31].as_slice(), &[10]));
+    assert!(&rt;
+        rows.len() == 33
+            && have_numbers(rows[0].as_slice(), &[5])
+            && have_numbers(rows[16].as_slice(), &[65532])
+            && have_numbers(rows[31].as_slice(), &[10])
+    );
     match doublings(alloc, 33) {
         Ok(_) => assert!(&rt; false),
         Err(error) => assert!(&rt; error == CircuitError::Depth { layers: 33 }),
@@ -111,9 +111,7 @@ fn values_of_all_layers(rt: HostRuntime) {
         &[(true, 0, 1), (false, 2, 3)],
     ];
     let two = circuit(alloc, &layers, 4).expect(&rt, "a circuit");
-    assert_eq!(&rt; two.depth(), 2);
-    assert_eq!(&rt; two.inputs(), 4);
-    assert_eq!(&rt; two.outputs(), 2);
+    assert!(&rt; two.depth() == 2 && two.inputs() == 4 && two.outputs() == 2);
     let rows = values::<F65537>(alloc, &two, &[3, 5, 7, 2]).expect(&rt, "values");
     assert!(&rt; are_rows(&rows, &[&[24, 135], &[15, 9], &[3, 5, 7, 2]]));
     // modulo 257: 30 * 20 is 86, 200 + 100 is 43, and 86 * 43 is 100
@@ -144,7 +142,7 @@ fn every_width_that_there_may_be(rt: HostRuntime) {
     for k in 0..9_usize {
         let len = 1_usize << k;
         let wide = turned(alloc, len).expect(&rt, "a circuit");
-        assert_eq!(&rt; wide.outputs(), len);
+        assert!(&rt; wide.outputs() == len);
         let mut inputs = Vec::new(alloc);
         let mut wanted = Vec::new(alloc);
         for g in 0..len {
@@ -154,8 +152,10 @@ fn every_width_that_there_may_be(rt: HostRuntime) {
                 .expect(&rt, "room");
         }
         let rows = values::<F65537>(alloc, &wide, &inputs).expect(&rt, "values");
-        assert_eq!(&rt; rows.len(), 2);
-        assert!(&rt; have_numbers(rows[0].as_slice(), &wanted));
-        assert!(&rt; have_numbers(rows[1].as_slice(), &inputs));
+        assert!(&rt;
+            rows.len() == 2
+                && have_numbers(rows[0].as_slice(), &wanted)
+                && have_numbers(rows[1].as_slice(), &inputs)
+        );
     }
 }

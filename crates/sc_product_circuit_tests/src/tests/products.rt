@@ -145,7 +145,7 @@ fn assert_scripted<F: Field, EF: ExtensionField<F>, A: Abort>(rt: &A, alloc: Glo
     let mut challenger = scripted::<F>(alloc, case.draws, case.good).expect(rt, "an answer");
     let answer = answered::<F, EF, _>(alloc, case, &mut challenger);
     assert!(rt; is_answer(&answer, &case.answer), "{}", case.name);
-    assert_eq!(rt; challenger.events().len(), case.events, "{}", case.name);
+    assert!(rt; challenger.events().len() == case.events, "{}", case.name);
     assert!(rt; challenger.events().ends_with(case.last), "{}", case.name);
 }
 
@@ -217,7 +217,7 @@ fn of_many(
 fn as_many_tables_as_elements(rt: HostRuntime) {
     let alloc = rt.alloc();
     let most = of_many(alloc, 255, &[7], 0).expect(&rt, "a report");
-    assert_eq!(&rt; most.product.index(), 7);
+    assert!(&rt; most.product.index() == 7);
     let too_many = ProductError::TableCount {
         tables: 257,
         bound: 256,

@@ -103,7 +103,7 @@ fn wrong_by_hand(
 fn rounds_begin_on_base_elements(rt: HostRuntime) {
     for wanted in &PLAYS {
         for (i, (_challenge, left)) in wanted.after.iter().enumerate() {
-            assert_eq!(rt; wrong_by_hand(rt.alloc(), wanted, i + 1, left), Ok(None));
+            assert!(rt; wrong_by_hand(rt.alloc(), wanted, i + 1, left) == Ok(None));
         }
     }
 }
@@ -142,9 +142,7 @@ fn tables_that_do_not_agree(rt: HostRuntime) {
     let agree = |evals: &[F65537], sum: u64| {
         BaseProduct::<F65537, F65537>::tables_agree(evals, &weights, of(sum))
     };
-    assert!(rt; agree(&evals, 2));
-    assert!(rt; !agree(&evals, 3));
-    assert!(rt; !agree(&evals[..2], 2));
+    assert!(rt; agree(&evals, 2) && !agree(&evals, 3) && !agree(&evals[..2], 2));
 }
 
 // ---- over an extension, beside a prover of the images
@@ -224,7 +222,7 @@ fn rounds_on_base_elements_are_those_on_their_images(rt: HostRuntime) {
         (Basis::Projective, VariableOrder::Prefix),
     ] {
         for (n, rounds) in [(1, 1), (2, 1), (2, 2), (5, 3), (5, 5)] {
-            assert_eq!(rt; differs(rt.alloc(), form, n, rounds), Ok(None));
+            assert!(rt; differs(rt.alloc(), form, n, rounds) == Ok(None));
         }
     }
 }

@@ -81,7 +81,7 @@ fn a_constraint_is_taken_in_between_batches(rt: HostRuntime) {
         assert!(rt; claim_is_true(rt.alloc(), &mut prover, &[2], row.value + 1) == Ok(false));
         let right = one_claim(rt.alloc(), &[2], row.value).expect(&rt, "an answer");
         right.combine_evals(&mut claim);
-        assert_eq!(rt; claim.index(), row.claim);
+        assert!(rt; claim.index() == row.claim);
         let second = round_in_step(
             &rt,
             rt.alloc(),
@@ -91,9 +91,11 @@ fn a_constraint_is_taken_in_between_batches(rt: HostRuntime) {
             &mut claim,
             Some(right),
         );
-        assert!(rt; are_pairs(second.polynomial_evaluations(), &[row.sent]));
-        assert!(rt; (claim.index(), prover.claimed_sum().index()) == (row.left, row.left));
-        assert!(rt; prover_side.events() == verifier_side.events());
+        assert!(rt;
+            are_pairs(second.polynomial_evaluations(), &[row.sent])
+                && (claim.index(), prover.claimed_sum().index()) == (row.left, row.left)
+                && prover_side.events() == verifier_side.events()
+        );
     }
 }
 
@@ -128,9 +130,11 @@ fn a_claim_is_added_row_by_row(rt: HostRuntime) {
         &[5, 0, 0, 1],
     )
     .expect(&rt, "an answer");
-    assert_eq!(rt; prover.claimed_sum().index(), 9);
+    assert!(rt; prover.claimed_sum().index() == 9);
     let delta = elements(rt.alloc(), &[0, 1, 0, 65536]).expect(&rt, "an answer");
-    assert!(rt; !add_claim(&mut prover, &delta, of(2)));
-    assert!(rt; add_claim(&mut prover, &delta, of(65535)));
-    assert!(rt; stands(rt.alloc(), &mut prover, &ADDED) == Ok(true));
+    assert!(rt;
+        !add_claim(&mut prover, &delta, of(2))
+            && add_claim(&mut prover, &delta, of(65535))
+            && stands(rt.alloc(), &mut prover, &ADDED) == Ok(true)
+    );
 }

@@ -43,13 +43,16 @@ fn held(prover: &SumcheckProver<F65537, F65537>) -> Option<u64> {
 fn the_last_challenge_is_held_until_it_is_settled(rt: HostRuntime) {
     for wanted in &PLAYS {
         let mut prover = after_one_round(&rt, rt.alloc(), wanted.form);
-        assert!(rt; (held(&prover), prover.num_variables()) == (Some(3), 1));
-        assert_eq!(rt; prover.claimed_sum().index(), wanted.after[0].1.sum);
+        assert!(rt;
+            (held(&prover), prover.num_variables()) == (Some(3), 1)
+                && prover.claimed_sum().index() == wanted.after[0].1.sum
+        );
         prover.settle();
         assert!(rt; (held(&prover), prover.num_variables()) == (None, 1));
         prover.settle();
-        assert_eq!(rt; held(&prover), None);
-        assert!(rt; stands(rt.alloc(), &mut prover, &wanted.after[0].1) == Ok(true));
+        assert!(rt;
+            held(&prover) == None && stands(rt.alloc(), &mut prover, &wanted.after[0].1) == Ok(true)
+        );
     }
 }
 
@@ -89,7 +92,7 @@ fn readers_settle_first(rt: HostRuntime) {
         for reader in [Reader::Evals, Reader::Weights, Reader::View, Reader::Value] {
             let mut prover = after_one_round(&rt, rt.alloc(), wanted.form);
             let (first, last) = (&wanted.after[0].1, &wanted.after[1].1);
-            assert_eq!(rt; last.evals.len(), 1);
+            assert!(rt; last.evals.len() == 1);
             let read = reads_bound(rt.alloc(), &mut prover, reader, first, last.evals[0]);
             assert!(rt; read == Ok(true));
         }
@@ -122,13 +125,15 @@ fn rounds_by_hand<A: Abort>(
             let once = prover.measure_round();
             assert!(rt; (once.c_a.index(), once.c_inf.index()) == *sent);
         }
-        assert_eq!(rt; held(&prover), None);
-        assert_eq!(rt; round_by_hand(&mut prover, *challenge), Some(*sent));
-        assert_eq!(rt; held(&prover), Some(*challenge));
-        assert_eq!(rt; prover.num_variables(), standing.variables);
-        assert_eq!(rt; prover.claimed_sum().index(), standing.sum);
+        assert!(rt;
+            held(&prover) == None
+                && round_by_hand(&mut prover, *challenge) == Some(*sent)
+                && held(&prover) == Some(*challenge)
+                && prover.num_variables() == standing.variables
+        );
+        assert!(rt; prover.claimed_sum().index() == standing.sum);
     }
-    assert_eq!(rt; round_by_hand(&mut prover, 5), None);
+    assert!(rt; round_by_hand(&mut prover, 5) == None);
     prover
 }
 
@@ -151,6 +156,5 @@ static SCALED: Standing = Standing {
 fn weights_and_claim_are_scaled_on_the_bound_tables(rt: HostRuntime) {
     let mut prover = after_one_round(&rt, rt.alloc(), (Basis::Evaluation, VariableOrder::Prefix));
     prover.scale_weights_and_claim(of(5));
-    assert_eq!(rt; held(&prover), None);
-    assert!(rt; stands(rt.alloc(), &mut prover, &SCALED) == Ok(true));
+    assert!(rt; held(&prover) == None && stands(rt.alloc(), &mut prover, &SCALED) == Ok(true));
 }

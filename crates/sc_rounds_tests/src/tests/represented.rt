@@ -293,12 +293,13 @@ fn a_held_challenge_is_carried_across(rt: HostRuntime) {
         let mut prover = prover.expect(&rt, "values");
         assert!(rt; (held(&prover), prover.num_variables()) == (Some(2), 1));
         let drawn = play(rt.alloc(), &mut prover, &mut data, &mut challenger, 1, 0);
-        assert!(rt; drew(&drawn, &[4]));
-        assert_eq!(rt; held(&prover), Some(4));
+        assert!(rt; drew(&drawn, &[4]) && held(&prover) == Some(4));
         prover.settle();
-        assert_eq!(rt; held(&prover), None);
-        assert!(rt; stands(rt.alloc(), &mut prover, &batches.after[1].1) == Ok(true));
-        assert!(rt; is_data(&data, batches.messages, &[]));
+        assert!(rt;
+            held(&prover) == None
+                && stands(rt.alloc(), &mut prover, &batches.after[1].1) == Ok(true)
+                && is_data(&data, batches.messages, &[])
+        );
     }
 }
 
@@ -334,9 +335,11 @@ fn the_transcript_is_that_of_the_elements(rt: HostRuntime) {
     for batches in &BATCHES {
         let mut challenger = scripted(rt.alloc(), &[5, 6]).expect(&rt, "an answer");
         let mut other_challenger = challenger.copy(rt.alloc()).expect(&rt, "an answer");
-        assert!(rt; is_played_plain(rt.alloc(), batches, &mut challenger) == Ok(true));
-        assert!(rt; is_played(rt.alloc(), batches, &mut other_challenger) == Ok(true));
-        assert!(rt; challenger.events() == other_challenger.events());
+        assert!(rt;
+            is_played_plain(rt.alloc(), batches, &mut challenger) == Ok(true)
+                && is_played(rt.alloc(), batches, &mut other_challenger) == Ok(true)
+                && challenger.events() == other_challenger.events()
+        );
     }
 }
 
@@ -403,7 +406,9 @@ fn no_witness_stops_a_batch_on_images(rt: HostRuntime) {
     let mut data = SumcheckData::new(rt.alloc());
     let mut challenger = scripted(rt.alloc(), &[5]).expect(&rt, "an answer");
     let refused = play(rt.alloc(), &mut prover, &mut data, &mut challenger, 2, 1);
-    assert!(rt; refused.err() == Some(SumcheckError::NoWitness { round: 1 }));
-    assert!(rt; (prover.num_variables(), prover.claimed_sum().index()) == (1, 7));
-    assert!(rt; is_data(&data, &[(2, 6)], &[5]));
+    assert!(rt;
+        refused.err() == Some(SumcheckError::NoWitness { round: 1 })
+            && (prover.num_variables(), prover.claimed_sum().index()) == (1, 7)
+            && is_data(&data, &[(2, 6)], &[5])
+    );
 }

@@ -162,10 +162,7 @@ fn assert_batch<F: Field, EF: ExtensionField<F>, C: Challenger<F>, A: Abort>(
         alloc, prover, &mut data, one_side, other_side, rounds, pow_bits, constraint,
     )
     .expect(rt, "an answer");
-    assert_eq!(rt;
-        wrong_part(batch, &sides, &data, prover.claimed_sum()),
-        None
-    );
+    assert!(rt; wrong_part(batch, &sides, &data, prover.claimed_sum()) == None);
 }
 
 // A prover by its order and weights, its claim, and one or two batches.
@@ -286,7 +283,7 @@ fn assert_in_step<A: Abort>(
         rt,
         "an answer",
     );
-    assert_eq!(rt; prover.claimed_sum().index(), row.sum);
+    assert!(rt; prover.claimed_sum().index() == row.sum);
     let mut one_side = scripted(alloc).expect(rt, "an answer");
     let mut other_side = one_side.copy(alloc).expect(rt, "an answer");
     assert_batch(
@@ -384,7 +381,7 @@ fn shapes_have_seeds_of_their_own(rt: HostRuntime) {
     shape_laws();
     for (i, shape) in SHAPES.iter().enumerate() {
         for (j, other) in SHAPES.iter().enumerate() {
-            assert_eq!(rt; have_one_seed(rt.alloc(), *shape, *other), Ok(i == j));
+            assert!(rt; have_one_seed(rt.alloc(), *shape, *other) == Ok(i == j));
         }
     }
 }
@@ -405,7 +402,7 @@ fn a_constraint_is_combined_into_a_pair(rt: HostRuntime) {
     )
     .expect(&rt, "an answer");
     let mut sum = pair.dot_product();
-    assert_eq!(rt; sum.index(), 0);
+    assert!(rt; sum.index() == 0);
     let constraint = one_claim(rt.alloc(), &[0, 1], 2).expect(&rt, "an answer");
     pair.combine(rt.alloc(), &mut sum, &constraint)
         .expect(&rt, "an answer");
@@ -472,9 +469,11 @@ fn a_true_constraint_is_taken_in(rt: HostRuntime) {
         &[0, 0, 0, 0],
     )
     .expect(&rt, "an answer");
-    assert_eq!(rt; prover.claimed_sum().index(), 0);
-    assert!(rt; claim_is_true(rt.alloc(), &mut prover, &[0, 1], 3) == Ok(false));
-    assert!(rt; claim_is_true(rt.alloc(), &mut prover, &[0], 2) == Ok(false));
+    assert!(rt;
+        prover.claimed_sum().index() == 0
+            && claim_is_true(rt.alloc(), &mut prover, &[0, 1], 3) == Ok(false)
+            && claim_is_true(rt.alloc(), &mut prover, &[0], 2) == Ok(false)
+    );
     let right = one_claim(rt.alloc(), &[0, 1], 2).expect(&rt, "an answer");
     let mut data = SumcheckData::new(rt.alloc());
     let mut challenger = scripted(rt.alloc()).expect(&rt, "an answer");
@@ -488,8 +487,9 @@ fn a_true_constraint_is_taken_in(rt: HostRuntime) {
         0,
         Some(right),
     );
-    assert_eq!(rt; none.num_variables(), 0);
-    assert!(rt; stands(rt.alloc(), &mut prover, &TAKEN_IN) == Ok(true));
+    assert!(rt;
+        none.num_variables() == 0 && stands(rt.alloc(), &mut prover, &TAKEN_IN) == Ok(true)
+    );
     let first = play(
         &rt,
         rt.alloc(),
@@ -500,11 +500,12 @@ fn a_true_constraint_is_taken_in(rt: HostRuntime) {
         0,
         None,
     );
-    assert!(rt; have_numbers(first.as_slice(), &[3]));
-    assert!(rt; prover.order() == VariableOrder::Prefix);
+    assert!(rt; have_numbers(first.as_slice(), &[3]) && prover.order() == VariableOrder::Prefix);
     prover.settle();
-    assert!(rt; stands(rt.alloc(), &mut prover, &BOUND) == Ok(true));
-    assert!(rt; value_at(rt.alloc(), &mut prover, &[4]) == Ok(Some(11)));
+    assert!(rt;
+        stands(rt.alloc(), &mut prover, &BOUND) == Ok(true)
+            && value_at(rt.alloc(), &mut prover, &[4]) == Ok(Some(11))
+    );
 }
 
 // In each form a round follows on a look at the evaluations, which is what `stands` ends with.
@@ -526,9 +527,11 @@ fn a_look_at_the_evaluations_changes_nothing(rt: HostRuntime) {
                 0,
                 None,
             );
-            assert!(rt; have_numbers(drawn.as_slice(), &[*challenge]));
-            assert!(rt; stands(rt.alloc(), &mut prover, standing) == Ok(true));
-            assert!(rt; (prover.basis(), prover.order()) == wanted.form);
+            assert!(rt;
+                have_numbers(drawn.as_slice(), &[*challenge])
+                    && stands(rt.alloc(), &mut prover, standing) == Ok(true)
+                    && (prover.basis(), prover.order()) == wanted.form
+            );
         }
         assert!(rt; are_pairs(data.polynomial_evaluations(), wanted.sent));
     }
@@ -547,6 +550,6 @@ fn constraints_have_their_values_at_the_last_challenges(rt: HostRuntime) {
         let value: F65537 = order
             .eval_constraints_poly(rt.alloc(), &constraints, &challenges)
             .expect(&rt, "an answer");
-        assert_eq!(rt; value.index(), wanted);
+        assert!(rt; value.index() == wanted);
     }
 }

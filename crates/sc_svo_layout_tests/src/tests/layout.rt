@@ -71,11 +71,13 @@ fn assert_two<A: Abort, O: BindingOrder>(rt: &A, alloc: Global) {
     let value = prover
         .add_virtual_eval(&mut challenger)
         .expect(rt, "a value");
-    assert_eq!(rt; value.index(), 5);
+    assert!(rt; value.index() == 5);
     // 4 + 10 2 + 100 5
-    assert_eq!(rt; prover.claims().sum(of(10)).index(), 524);
-    assert_eq!(rt; prover.claims().concrete_claims().len(), 1);
-    assert_eq!(rt; prover.claims().virtual_claims().len(), 1);
+    assert!(rt;
+        prover.claims().sum(of(10)).index() == 524
+            && prover.claims().concrete_claims().len() == 1
+            && prover.claims().virtual_claims().len() == 1
+    );
     let events = [
         Event::Draw,
         Event::Word(4),
@@ -102,10 +104,12 @@ fn assert_four<A: Abort, O: BindingOrder>(rt: &A, alloc: Global, folding: usize)
     let mut challenger = scripted::<F65537>(alloc, &[2, 3], &[]).expect(rt, "a challenger");
     let asked = request(alloc, 2, 1).expect(rt, "a request");
     let evals = prover.eval(0, &asked, &mut challenger).expect(rt, "values");
-    assert!(rt; are(&evals, &[8, 8], &[3]));
-    assert_eq!(rt; prover.folding(), folding);
-    assert_eq!(rt; prover.num_variables(), 2);
-    assert!(rt; have_numbers(prover.table().as_slice(), &[1, 2, 3, 4]));
+    assert!(rt;
+        are(&evals, &[8, 8], &[3])
+            && prover.folding() == folding
+            && prover.num_variables() == 2
+            && have_numbers(prover.table().as_slice(), &[1, 2, 3, 4])
+    );
 }
 
 #[test]
@@ -127,7 +131,9 @@ fn an_opening_of_nothing(rt: HostRuntime) {
     let evals = prover
         .eval(0, &asked, &mut challenger)
         .expect(&rt, "values");
-    assert!(&rt; are(&evals, &[], &[]));
-    assert_eq!(&rt; challenger.events().len(), 2);
-    assert_eq!(&rt; prover.claims().sum(of(10)).index(), 0);
+    assert!(&rt;
+        are(&evals, &[], &[])
+            && challenger.events().len() == 2
+            && prover.claims().sum(of(10)).index() == 0
+    );
 }

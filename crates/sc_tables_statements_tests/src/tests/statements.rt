@@ -104,17 +104,13 @@ fn assert_told<A: Abort>(
 )
     requires { variables_of table.now ≡ eq_arity statement.now }
 {
-    assert_eq!(rt;
+    assert!(rt;
         (
             statement.len(),
             statement.num_variables(),
             statement.is_empty()
-        ),
-        told
-    );
-    assert_eq!(rt;
-        (statement.verify(table), all_true(statement, table)),
-        (hold, hold)
+        ) == told
+            && (statement.verify(table), all_true(statement, table)) == (hold, hold)
     );
 }
 
@@ -127,13 +123,10 @@ fn assert_values<A: Abort>(
 )
     requires { variables_of table.now ≡ eq_arity statement.now }
 {
-    assert_eq!(rt; statement.len(), values.len());
+    assert!(rt; statement.len() == values.len());
     for (i, value) in values.iter().enumerate() {
         let actual: F65537 = statement.true_value(i, table);
-        assert_eq!(rt;
-            (statement.claimed_value(i).index(), actual.index()),
-            *value
-        );
+        assert!(rt; (statement.claimed_value(i).index(), actual.index()) == *value);
     }
 }
 
@@ -151,8 +144,9 @@ fn assert_weights<R: Abort + AllocGlobal>(
             .weights_at(&row)
             .collect(rt.alloc())
             .expect(rt, "weights");
-        assert!(rt; have_numbers(&at, *weights));
-        assert_eq!(rt; batched_at(statement, &row, of(2)).index(), *batch);
+        assert!(rt;
+            have_numbers(&at, *weights) && batched_at(statement, &row, of(2)).index() == *batch
+        );
     }
 }
 
@@ -196,7 +190,7 @@ static THREE_WEIGHTS: [([u64; 2], &[u64], u64); 1] = [([0, 1], &[1, 65534, 0], 6
 #[test]
 fn statements_are_put_behind_others(rt: HostRuntime) {
     let mut statement = claims(&rt, &FIRST);
-    assert_eq!(rt; statement.concatenate(&claims(&rt, &FURTHER)), Ok(()));
+    assert!(rt; statement.concatenate(&claims(&rt, &FURTHER)) == Ok(()));
     let table = four(&rt);
     assert_told(&rt, &statement, &table, (3, 2, false), true);
     assert_values(&rt, &statement, &table, &[(2, 2), (8, 8), (4, 4)]);
@@ -209,7 +203,7 @@ static SUMMED: [([u64; 2], u64); 2] = [([0, 1], 3), ([2, 3], 5)];
 fn claims_are_summed_from_the_shift_on(rt: HostRuntime) {
     let mut sum = F65537::ZERO;
     claims(&rt, &SUMMED).combine_evals(&mut sum, of(2), 1);
-    assert_eq!(rt; sum.index(), 26);
+    assert!(rt; sum.index() == 26);
 }
 
 // Statements that are taken into weights and a sum, and what these are then.
@@ -254,8 +248,10 @@ fn sum_of_steps<R: Abort + AllocGlobal>(
     let mut sum = of(sum);
     for step in steps {
         let taken = take(rt.alloc(), statement, &mut weights, &mut sum, step);
-        assert_eq!(rt; (taken, sum.index()), (Ok(()), step.sum));
-        assert!(rt; have_numbers(weights.as_slice(), step.weights));
+        assert!(rt;
+            (taken, sum.index()) == (Ok(()), step.sum)
+                && have_numbers(weights.as_slice(), step.weights)
+        );
     }
     sum
 }
@@ -310,7 +306,7 @@ fn no_statement_changes_nothing(rt: HostRuntime) {
     assert_told(&rt, &none, &table, (0, 1, true), true);
     let mut sum = sum_of_steps(&rt, &none, table, 5, &NOTHING);
     none.combine_evals(&mut sum, of(9), 0);
-    assert_eq!(rt; sum.index(), 5);
+    assert!(rt; sum.index() == 5);
 }
 
 static POINT: [([u64; 0], u64); 1] = [([], 7)];

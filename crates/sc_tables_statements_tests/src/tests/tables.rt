@@ -48,15 +48,11 @@ fn a_point_copied_and_reversed(rt: HostRuntime) {
         have_numbers(
             z.copy(rt.alloc()).expect(&rt, "an answer").as_slice(),
             &[2, 3]
-        )
-    );
-    assert!(rt;
-        have_numbers(
+        ) && have_numbers(
             z.reversed(rt.alloc()).expect(&rt, "an answer").as_slice(),
             &[3, 2]
-        )
+        ) && have_numbers(z.as_slice(), &[2, 3])
     );
-    assert!(rt; have_numbers(z.as_slice(), &[2, 3]));
 }
 
 // The point (2, 3) split there.
@@ -73,7 +69,7 @@ fn a_point_split(rt: HostRuntime) {
         (1, &[2], &[3]),
         (2, &[2, 3], &[]),
     ] {
-        assert_eq!(rt; splits(rt.alloc(), k, front, back), Ok(true), "{k}");
+        assert!(rt; splits(rt.alloc(), k, front, back) == Ok(true), "{k}");
     }
 }
 
@@ -81,11 +77,11 @@ fn a_point_split(rt: HostRuntime) {
 fn equality_weights_of_two_points(rt: HostRuntime) {
     let z = Point::new(elements(rt.alloc(), &[0, 1]).expect(&rt, "an answer"));
     let x = elements(rt.alloc(), &[3, 4]).expect(&rt, "an answer");
-    assert_eq!(rt; z.num_variables(), 2);
+    assert!(rt; z.num_variables() == 2);
     let weight = Point::eval_eq(z.as_slice(), &x);
-    assert_eq!(rt; weight.index(), 65529);
+    assert!(rt; weight.index() == 65529);
     let empty: [F65537; 0] = [];
-    assert_eq!(rt; Point::eval_eq(&empty, &empty).index(), 1);
+    assert!(rt; Point::eval_eq(&empty, &empty).index() == 1);
 }
 
 #[test]
@@ -98,18 +94,16 @@ fn equality_weights_of_a_point(rt: HostRuntime) {
     let scaled = Poly::new_from_point(rt.alloc(), &[], seven).expect(&rt, "an answer");
     assert!(rt; have_numbers(scaled.as_slice(), &[7]));
     let row = Poly::new_from_point(rt.alloc(), &[F65537::ZERO, one], one).expect(&rt, "an answer");
-    assert!(rt; have_numbers(row.as_slice(), &[0, 1, 0, 0]));
-    assert_eq!(rt; row.num_variables(), 2);
+    assert!(rt; have_numbers(row.as_slice(), &[0, 1, 0, 0]) && row.num_variables() == 2);
 }
 
 #[test]
 fn a_table_at_a_point(rt: HostRuntime) {
     let table = four(rt.alloc()).expect(&rt, "an answer");
-    assert!(rt; table.num_evals() == 4);
-    assert!(rt; table.num_variables() == 2);
+    assert!(rt; table.num_evals() == 4 && table.num_variables() == 2);
     let z = Point::new(elements(rt.alloc(), &[3, 4]).expect(&rt, "an answer"));
     let at: F65537 = table.eval(&z);
-    assert_eq!(rt; at.index(), 11);
+    assert!(rt; at.index() == 11);
 }
 
 #[test]
@@ -122,7 +116,7 @@ fn a_bound_table(rt: HostRuntime) {
     assert!(rt; have_numbers(table.as_slice(), &[11]));
     let nowhere = Point::new(Vec::new(rt.alloc()));
     let left: F65537 = table.eval(&nowhere);
-    assert_eq!(rt; left.index(), 11);
+    assert!(rt; left.index() == 11);
 }
 
 // 1 + (2 - 1) * 3 and 3 + (4 - 3) * 3, and then 4 + (6 - 4) * 4.
@@ -133,8 +127,7 @@ fn a_table_bound_from_its_last_variable(rt: HostRuntime) {
     table.fix_suffix_var_mut(F65537::element(3));
     assert!(rt; have_numbers(table.as_slice(), &[4, 6]));
     table.fix_suffix_var_mut(F65537::element(4));
-    assert!(rt; have_numbers(table.as_slice(), &[12]));
-    assert_eq!(rt; table.num_variables(), 0);
+    assert!(rt; have_numbers(table.as_slice(), &[12]) && table.num_variables() == 0);
 }
 
 #[test]
@@ -211,8 +204,7 @@ fn tables_of_zeros_and_copies(rt: HostRuntime) {
         .expect(&rt, "an answer")
         .copy(rt.alloc())
         .expect(&rt, "an answer");
-    assert!(rt; have_numbers(copied.as_slice(), &[1, 2, 3, 4]));
-    assert_eq!(rt; copied.num_variables(), 2);
+    assert!(rt; have_numbers(copied.as_slice(), &[1, 2, 3, 4]) && copied.num_variables() == 2);
 }
 
 // Row 2 has the digits 1 and 0.
@@ -224,19 +216,15 @@ fn a_written_value_is_the_tables(rt: HostRuntime) {
     assert!(rt; have_numbers(table.as_slice(), &[1, 2, 50, 4]));
     let row = Point::new(elements(rt.alloc(), &[1, 0]).expect(&rt, "an answer"));
     let at: F65537 = table.eval(&row);
-    assert_eq!(rt; at.index(), 50);
+    assert!(rt; at.index() == 50);
 }
 
 #[test]
 fn a_quadratic_by_its_values(rt: HostRuntime) {
     let (one, two) = (F65537::ONE, F65537::TWO);
-    assert_eq!(rt;
-        extrapolate_01inf(one, two, one, F65537::element(3)).index(),
-        10
-    );
-    assert_eq!(rt;
-        extrapolate_01inf(one, two, one, F65537::element(4)).index(),
-        17
+    assert!(rt;
+        extrapolate_01inf(one, two, one, F65537::element(3)).index() == 10
+            && extrapolate_01inf(one, two, one, F65537::element(4)).index() == 17
     );
 }
 
@@ -318,13 +306,17 @@ fn claims_after_rounds(rt: HostRuntime) {
 #[test]
 fn bases_orders_and_messages_compared(rt: HostRuntime) {
     strategy_laws::<F65537>();
-    assert!(rt; Basis::default() == Basis::Evaluation);
-    assert!(rt; Basis::Evaluation != Basis::Projective);
-    assert!(rt; VariableOrder::Suffix == VariableOrder::Suffix);
-    assert!(rt; VariableOrder::Prefix != VariableOrder::Suffix);
-    assert!(rt; message(1, 2) == message(1, 2));
-    assert!(rt; message(1, 2) != message(3, 2));
-    assert!(rt; message(1, 2) != message(1, 3));
+    assert!(rt;
+        Basis::default() == Basis::Evaluation
+            && Basis::Evaluation != Basis::Projective
+            && VariableOrder::Suffix == VariableOrder::Suffix
+            && VariableOrder::Prefix != VariableOrder::Suffix
+    );
+    assert!(rt;
+        message(1, 2) == message(1, 2)
+            && message(1, 2) != message(3, 2)
+            && message(1, 2) != message(1, 3)
+    );
 }
 
 // That the successor weights of the point of these numbers are the wanted ones.
@@ -373,9 +365,8 @@ static POWERS: [(u64, &[u64], u64); 7] = [
 #[test]
 fn successor_weights_of_a_point(rt: HostRuntime) {
     for (coords, weights) in &SUCCESSOR_WEIGHTS {
-        assert_eq!(rt;
-            successor_weights_are(rt.alloc(), coords, weights),
-            Ok(true),
+        assert!(rt;
+            successor_weights_are(rt.alloc(), coords, weights) == Ok(true),
             "{coords:?}"
         );
     }
@@ -399,9 +390,8 @@ fn successor_sums_are(
 #[test]
 fn successor_sums_of_two_points(rt: HostRuntime) {
     for (z, x, sums) in &SUCCESSOR_SUMS {
-        assert_eq!(rt;
-            successor_sums_are(rt.alloc(), z, x, *sums),
-            Ok(true),
+        assert!(rt;
+            successor_sums_are(rt.alloc(), z, x, *sums) == Ok(true),
             "{z:?} {x:?}"
         );
     }
@@ -416,6 +406,6 @@ fn powers_at(alloc: Global, var: u64, x: &[u64]) -> Result<u64, NoMemory> {
 #[test]
 fn powers_at_a_point(rt: HostRuntime) {
     for (var, x, value) in &POWERS {
-        assert_eq!(rt; powers_at(rt.alloc(), *var, x), Ok(*value), "{var} {x:?}");
+        assert!(rt; powers_at(rt.alloc(), *var, x) == Ok(*value), "{var} {x:?}");
     }
 }

@@ -111,10 +111,12 @@ fn explains<F: Field>(alloc: Global, figure: &Figure) -> Result<bool, NoMemory> 
 
 #[test]
 fn two_cubic_masks(rt: HostRuntime) {
-    assert!(rt; assembles::<F65537>(rt.alloc(), &CUBIC) == Ok(true));
-    assert!(rt; explains::<F65537>(rt.alloc(), &CUBIC) == Ok(true));
-    assert!(rt; assembles::<F257x2>(rt.alloc(), &REDUCED) == Ok(true));
-    assert!(rt; explains::<F257x2>(rt.alloc(), &REDUCED) == Ok(true));
+    assert!(rt;
+        assembles::<F65537>(rt.alloc(), &CUBIC) == Ok(true)
+            && explains::<F65537>(rt.alloc(), &CUBIC) == Ok(true)
+            && assembles::<F257x2>(rt.alloc(), &REDUCED) == Ok(true)
+            && explains::<F257x2>(rt.alloc(), &REDUCED) == Ok(true)
+    );
 }
 
 // One mask that is 2 + 3 X + 5 X^2 over 7 + 13 X^2, which is taken 31 times: the round's polynomial
@@ -225,6 +227,8 @@ fn masks_come_back_from_their_view(rt: HostRuntime) {
         [65000, 1, 0, 40000, 9],
         [31, 60000, 2, 5, 0],
     ];
-    assert!(rt; come_back::<F65537>(rt.alloc(), &masks) == Ok(true));
-    assert!(rt; come_back::<F257x2>(rt.alloc(), &masks) == Ok(true));
+    assert!(rt;
+        come_back::<F65537>(rt.alloc(), &masks) == Ok(true)
+            && come_back::<F257x2>(rt.alloc(), &masks) == Ok(true)
+    );
 }

@@ -45,9 +45,9 @@ fn assert_numbers<F: Form<Out = u64>, A: Abort>(
 ) {
     for (text, want) in rows {
         let read = read_text(alloc, form, *text).expect(rt, "JSON");
-        assert_eq!(rt; read, *want, "{text}");
+        assert!(rt; read == *want, "{text}");
         let taken = take_text(alloc, form, *text).expect(rt, "JSON");
-        assert_eq!(rt; taken, *want, "{text}, given up");
+        assert!(rt; taken == *want, "{text}, given up");
     }
 }
 
@@ -60,11 +60,13 @@ fn assert_lists<F: Form<Out = Row<u64>>, A: Abort>(
 ) {
     for (text, want) in rows {
         let read = read_text(alloc, form, *text).expect(rt, "JSON");
-        assert_eq!(rt; read.ok().expect(rt, "a list").as_slice(), *want, "{text}");
+        assert!(rt;
+            read.ok().expect(rt, "a list").as_slice() == *want,
+            "{text}"
+        );
         let taken = take_text(alloc, form, *text).expect(rt, "JSON");
-        assert_eq!(rt;
-            taken.ok().expect(rt, "a list").as_slice(),
-            *want,
+        assert!(rt;
+            taken.ok().expect(rt, "a list").as_slice() == *want,
             "{text}, given up"
         );
     }
@@ -80,9 +82,9 @@ fn assert_faults<F: Form, A: Abort>(
 ) {
     for text in texts {
         let read = read_text(alloc, form, *text).expect(rt, "JSON");
-        assert_eq!(rt; read.err(), fault, "{text}");
+        assert!(rt; read.err() == fault, "{text}");
         let taken = take_text(alloc, form, *text).expect(rt, "JSON");
-        assert_eq!(rt; taken.err(), fault, "{text}, given up");
+        assert!(rt; taken.err() == fault, "{text}, given up");
     }
 }
 
@@ -200,7 +202,7 @@ fn a_list_of_pairs(rt: HostRuntime) {
         item: PairOf { item: UNBOUNDED },
     };
     let read = read_text(rt.alloc(), &form, "[[1,2],[3,4]]").expect(&rt, "JSON");
-    assert_eq!(rt; read.ok().expect(&rt, "pairs").as_slice(), PAIRS.as_slice());
+    assert!(rt; read.ok().expect(&rt, "pairs").as_slice() == PAIRS.as_slice());
     assert_refused(&rt, rt.alloc(), &form, &NO_PAIRS);
 }
 
@@ -245,9 +247,9 @@ static MEMBERS: [(&str, &str, (bool, Result<u64, Misread>)); 4] = [
 fn of_a_member_that_stands_twice_the_last_counts(rt: HostRuntime) {
     for (text, name, want) in MEMBERS.iter() {
         let found = number_in(rt.alloc(), *text, *name).expect(&rt, "JSON");
-        assert_eq!(rt; found, *want, "{name} of {text}");
+        assert!(rt; found == *want, "{name} of {text}");
         let taken = number_of(rt.alloc(), *text, *name).expect(&rt, "JSON");
-        assert_eq!(rt; taken, (*want).1, "{name} of {text}, given up");
+        assert!(rt; taken == (*want).1, "{name} of {text}, given up");
     }
 }
 
@@ -309,7 +311,7 @@ static BYTES: [(&[u8], Option<NoValue>); 14] = [
 #[test]
 fn texts_that_are_no_json(rt: HostRuntime) {
     for (text, fault) in BYTES.iter() {
-        assert_eq!(rt; read_value(rt.alloc(), *text).err(), *fault, "{text:?}");
+        assert!(rt; read_value(rt.alloc(), *text).err() == *fault, "{text:?}");
     }
 }
 
@@ -325,7 +327,7 @@ fn arrays_nest_127_deep(rt: HostRuntime) {
     for (depth, is_read) in [(1, true), (127, true), (128, false)] {
         let text = nested(&rt, rt.alloc(), depth);
         let value = read_value(rt.alloc(), text.as_bytes());
-        assert_eq!(rt; value.is_ok(), is_read, "{depth}");
+        assert!(rt; value.is_ok() == is_read, "{depth}");
     }
 }
 
@@ -346,9 +348,8 @@ fn a_table_of_a_million_numbers_is_read(rt: HostRuntime) {
     let taken = form.take(rt.alloc(), value).ok().expect(&rt, "a table");
     for row in [read, taken] {
         let numbers = row.as_slice();
-        assert_eq!(rt;
-            (numbers.len(), numbers.first(), numbers.last()),
-            (1 << 20, Some(&65_536), Some(&0))
+        assert!(rt;
+            (numbers.len(), numbers.first(), numbers.last()) == (1 << 20, Some(&65_536), Some(&0))
         );
     }
 }
@@ -360,13 +361,13 @@ fn errors_have_texts(rt: HostRuntime) {
         (Misread::NoMemory, "out of memory"),
     ] {
         let text = error.to_string(rt.alloc()).expect(&rt, "a text");
-        assert_eq!(rt; text.as_str(), want);
+        assert!(rt; text.as_str() == want);
     }
     for (error, want) in [
         (NoValue::Bad, "the bytes are not one JSON value"),
         (NoValue::NoMemory, "out of memory"),
     ] {
         let text = error.to_string(rt.alloc()).expect(&rt, "a text");
-        assert_eq!(rt; text.as_str(), want);
+        assert!(rt; text.as_str() == want);
     }
 }

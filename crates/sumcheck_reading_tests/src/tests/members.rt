@@ -19,14 +19,14 @@ fn a_misfit_is_named(rt: HostRuntime) {
         let text = Unread::Misfit(Member::named(*member))
             .to_string(rt.alloc())
             .expect(&rt, "a text");
-        assert_eq!(rt; text.as_str(), *wanted);
+        assert!(rt; text.as_str() == *wanted);
     }
 }
 
 #[test]
 fn want_of_memory_has_a_text(rt: HostRuntime) {
     let text = Unread::NoMemory.to_string(rt.alloc()).expect(&rt, "a text");
-    assert_eq!(rt; text.as_str(), "out of memory");
+    assert!(rt; text.as_str() == "out of memory");
 }
 
 // A job without variables; MODE is what is done.
@@ -73,7 +73,7 @@ static BUILDS: [(&str, Option<Strategy>); 8] = [
 #[test]
 fn a_build_is_named_or_on_small_values(rt: HostRuntime) {
     for (mode, wanted) in &BUILDS {
-        assert_eq!(rt; build_of(&rt, rt.alloc(), *mode), Ok(*wanted), "{mode}");
+        assert!(rt; build_of(&rt, rt.alloc(), *mode) == Ok(*wanted), "{mode}");
     }
 }
 
@@ -100,7 +100,10 @@ static NO_BUILDS: [&str; 16] = [
 fn anything_else_is_a_bad_mode(rt: HostRuntime) {
     for mode in &NO_BUILDS {
         let found = build_of(&rt, rt.alloc(), *mode);
-        assert_eq!(rt; found, Err(Unread::Misfit(Member::named("mode"))), "{mode}");
+        assert!(rt;
+            found == Err(Unread::Misfit(Member::named("mode"))),
+            "{mode}"
+        );
     }
 }
 
@@ -137,9 +140,8 @@ static BASES: [(&str, Basis); 7] = [
 #[test]
 fn a_basis_is_named_or_that_of_values(rt: HostRuntime) {
     for (members, wanted) in &BASES {
-        assert_eq!(rt;
-            basis_of(&rt, rt.alloc(), *members),
-            Ok(*wanted),
+        assert!(rt;
+            basis_of(&rt, rt.alloc(), *members) == Ok(*wanted),
             "{members}"
         );
     }
@@ -165,9 +167,8 @@ static NO_BASES: [(&str, &str); 8] = [
 fn anything_else_is_a_bad_basis(rt: HostRuntime) {
     for (members, told) in &NO_BASES {
         let found = basis_of(&rt, rt.alloc(), *members);
-        assert_eq!(rt;
-            found,
-            Err(Unread::Misfit(Member::named(*told))),
+        assert!(rt;
+            found == Err(Unread::Misfit(Member::named(*told))),
             "{members}"
         );
     }
@@ -207,9 +208,9 @@ static TABLES: [(&str, &[usize]); 4] = [
 fn from_one_to_eight_tables(rt: HostRuntime) {
     for (tables, lengths) in &TABLES {
         let job = product_of(&rt, rt.alloc(), *tables, r#""build""#).expect(&rt, "a job");
-        assert_eq!(rt; job.tables.len(), lengths.len(), "{tables}");
+        assert!(rt; job.tables.len() == lengths.len(), "{tables}");
         for i in 0..lengths.len() {
-            assert_eq!(rt; job.tables.as_slice()[i].len(), lengths[i], "{tables}");
+            assert!(rt; job.tables.as_slice()[i].len() == lengths[i], "{tables}");
         }
         assert!(rt; matches!(job.mode, BuildOrCheck::Build), "{tables}");
     }
@@ -246,11 +247,13 @@ fn a_proof_of_a_product(rt: HostRuntime) {
     let BuildOrCheck::Check(proof) = mode else {
         panic!(rt; "no check");
     };
-    assert_eq!(rt; proof.claimed, 7);
-    assert_eq!(rt; proof.rounds.len(), 2);
-    assert_eq!(rt; proof.rounds.as_slice()[0].as_slice(), [0; 0].as_slice());
-    assert_eq!(rt; proof.rounds.as_slice()[1].as_slice(), [1, 2, 3].as_slice());
-    assert_eq!(rt; proof.witnesses.as_slice(), [4, 5].as_slice());
+    assert!(rt;
+        proof.claimed == 7
+            && proof.rounds.len() == 2
+            && proof.rounds.as_slice()[0].as_slice() == [0; 0].as_slice()
+            && proof.rounds.as_slice()[1].as_slice() == [1, 2, 3].as_slice()
+    );
+    assert!(rt; proof.witnesses.as_slice() == [4, 5].as_slice());
 }
 
 static NO_MODES: [&str; 6] = [

@@ -238,7 +238,7 @@ fn a_report_has_its_grids_before_the_verdict(rt: HostRuntime) {
         let report = report_with(&rt, rt.alloc(), *lists);
         let answer = show_report(rt.alloc(), &report).expect(&rt, "memory");
         let text = format!(in rt.alloc(); "{FIGURES}{lines}verdict holds\n").expect(&rt, "memory");
-        assert_eq!(rt; answer.outcome(), Outcome::Holds);
-        assert_eq!(rt; answer.text(), text.as_bytes(), "{lines}");
+        assert!(rt; answer.outcome() == Outcome::Holds);
+        assert!(rt; answer.text() == text.as_bytes(), "{lines}");
     }
 }

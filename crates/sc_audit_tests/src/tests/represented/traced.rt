@@ -108,6 +108,6 @@ fn both_values_of_a_round_are_read_off_grids(rt: HostRuntime) {
     let messages = report.rounds.polynomial_evaluations();
     assert!(rt; messages.len() == 2, "rounds");
     let (zero, infinity) = (messages[1].c_a.count, messages[1].c_inf.count);
-    assert_eq!(rt; zero, infinity, "counts of the second round");
+    assert!(rt; zero == infinity, "counts of the second round");
     assert!(rt; zero >= 4, "a count of the second round");
 }

@@ -97,7 +97,7 @@ fn begins_with_the_digest_of_nothing(rt: HostRuntime) {
         challenger.state(),
         challenger.max_bits(),
     );
-    assert_eq!(rt; begins, (0, EMPTY, 16));
+    assert!(rt; begins == (0, EMPTY, 16));
 }
 
 #[test]
@@ -112,7 +112,7 @@ fn plays_by_digests(rt: HostRuntime) {
 fn keeps_the_list_of_its_events(rt: HostRuntime) {
     let mut challenger = HashChallenger::<F65537>::new(rt.alloc());
     play(&rt, &mut challenger, &TESTS_OF_EIGHT_BITS);
-    assert_eq!(rt; challenger.events() == EVENTS.as_slice(), true);
+    assert!(rt; challenger.events() == EVENTS.as_slice());
 }
 
 #[test]
@@ -122,5 +122,5 @@ fn copies_have_the_same_draws(rt: HostRuntime) {
     let mut copied = challenger.copy(rt.alloc()).expect(&rt, "room");
     play(&rt, &mut copied, &BEHIND_A_COPY);
     play(&rt, &mut challenger, &BEHIND_A_COPY);
-    assert_eq!(rt; copied.events() == challenger.events(), true);
+    assert!(rt; copied.events() == challenger.events());
 }

@@ -197,8 +197,7 @@ fn a_round_of_three_values_is_played(rt: HostRuntime) {
     let mut prover = challenger(rt.alloc()).expect(&rt, "an answer");
     let shape = shape(&prover);
     let answer = sent(&mut prover, shape, &[of(1), of(2), of(3)]).expect(&rt, "an answer");
-    assert!(rt; numbers(answer) == (7, Some(5)));
-    assert!(rt; ends(&prover, 8, &SENT));
+    assert!(rt; numbers(answer) == (7, Some(5)) && ends(&prover, 8, &SENT));
 }
 
 #[test]
@@ -206,8 +205,7 @@ fn a_round_of_three_values_is_taken(rt: HostRuntime) {
     let mut verifier = challenger(rt.alloc()).expect(&rt, "an answer");
     let shape = shape(&verifier);
     let answer = taken(&mut verifier, shape, &[of(1), of(2), of(3)], Some(of(5)));
-    assert!(rt; answer == Ok(of(7)));
-    assert!(rt; ends(&verifier, 8, &SENT));
+    assert!(rt; answer == Ok(of(7)) && ends(&verifier, 8, &SENT));
 }
 
 #[test]
@@ -246,8 +244,7 @@ fn a_round_has_its_steps(rt: HostRuntime) {
         length: Length::Fixed(3),
         label: Label::RoundPoly,
     };
-    assert_eq!(rt; steps.len(), 3);
-    assert!(rt; steps[0] == message);
+    assert!(rt; steps.len() == 3 && steps[0] == message);
 }
 
 #[test]

@@ -208,7 +208,7 @@ fn assert_scripted<F: Field, EF: ExtensionField<F>, A: Abort>(rt: &A, alloc: Glo
     let mut challenger = scripted::<F>(alloc, case.draws, case.good).expect(rt, "an answer");
     let answer = answered::<F, EF, _>(alloc, case, &mut challenger);
     assert!(rt; is_answer(&answer, &case.answer), "{}", case.name);
-    assert_eq!(rt; challenger.events().len(), case.events, "{}", case.name);
+    assert!(rt; challenger.events().len() == case.events, "{}", case.name);
     assert!(rt; challenger.events().ends_with(case.last), "{}", case.name);
 }
 

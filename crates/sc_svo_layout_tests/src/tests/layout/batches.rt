@@ -26,9 +26,11 @@ fn assert_batch<A: Abort, O: BindingOrder>(rt: &A, alloc: Global) {
         .batched_accumulators(alloc, table, prover.order(), folding, of(10))
         .expect(rt, "a batch");
     let grids = batch.grids().rounds.as_slice();
-    assert_eq!(rt; grids.len(), 1);
-    assert!(rt; have_numbers(grids[0].zero.as_slice(), &[65235]));
-    assert!(rt; have_numbers(grids[0].infinity.as_slice(), &[715]));
+    assert!(rt;
+        grids.len() == 1
+            && have_numbers(grids[0].zero.as_slice(), &[65235])
+            && have_numbers(grids[0].infinity.as_slice(), &[715])
+    );
 }
 
 #[test]

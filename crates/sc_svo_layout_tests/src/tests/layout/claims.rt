@@ -21,11 +21,10 @@ fn opened<A: Abort, O: BindingOrder>(rt: &A, alloc: Global) -> TableProver<F6553
     let mut prover = TableProver::<F65537, F65537, O>::new(alloc, table, 1);
     let mut challenger = scripted::<F65537>(alloc, &[2, 3], &[]).expect(rt, "a challenger");
     let asked = request(alloc, 2, 1).expect(rt, "a request");
-    assert!(rt; asked.current() == &[0, 0][..] && asked.next() == &[0][..]);
-    assert_eq!(rt; asked.len(), 3);
+    assert!(rt; asked.current() == &[0, 0][..] && asked.next() == &[0][..] && asked.len() == 3);
     let evals = prover.eval(0, &asked, &mut challenger).expect(rt, "values");
     let evals = evals.copy(alloc).expect(rt, "values");
-    assert_eq!(rt; evals.len(), 3);
+    assert!(rt; evals.len() == 3);
     prover
 }
 
@@ -49,12 +48,13 @@ fn has_partials(claim: &Claim, current: &[u64], next: [&[u64]; 3]) -> bool {
 
 // The point, the columns, and the values, which are 8 and 3 in either order.
 fn assert_told<A: Abort>(rt: &A, claim: &Claim, order: VariableOrder) {
-    assert!(rt; have_numbers(claim.coordinates().as_slice(), &[2, 3]));
-    assert!(rt; claim.point().var_order() == order);
-    assert_eq!(rt; claim.point().num_variables(), 2);
-    assert_eq!(rt; claim.point().num_variables_svo(), 1);
-    assert_eq!(rt; claim.current_openings().len(), 2);
-    assert_eq!(rt; claim.next_openings().len(), 1);
+    assert!(rt;
+        have_numbers(claim.coordinates().as_slice(), &[2, 3])
+            && claim.point().var_order() == order
+            && claim.point().num_variables() == 2
+            && claim.point().num_variables_svo() == 1
+    );
+    assert!(rt; claim.current_openings().len() == 2 && claim.next_openings().len() == 1);
     for opening in claim.current_openings() {
         assert!(rt; *opening.point() == 0 && opening.eval().index() == 8);
     }

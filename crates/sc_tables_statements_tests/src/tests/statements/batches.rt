@@ -36,16 +36,17 @@ fn powers_go_on_over_groups(rt: HostRuntime) {
     let combined = constraint.combine(rt.alloc(), &mut weights, &mut sum);
     let first = sum.index();
     constraint.combine_evals(&mut sum);
-    assert_eq!(rt; (combined, first, sum.index()), (Ok(()), 125, 150));
-    assert!(rt; have_numbers(weights.as_slice(), &[65512, 68]));
+    assert!(rt;
+        (combined, first, sum.index()) == (Ok(()), 125, 150)
+            && have_numbers(weights.as_slice(), &[65512, 68])
+    );
 }
 
 #[test]
 fn a_batch_is_made_anew(rt: HostRuntime) {
     let constraint = three_claims(&rt);
     let (weights, claim) = constraint.combine_new(rt.alloc()).expect(&rt, "a batch");
-    assert_eq!(rt; claim.index(), 25);
-    assert!(rt; have_numbers(weights.as_slice(), &[65502, 48]));
+    assert!(rt; claim.index() == 25 && have_numbers(weights.as_slice(), &[65502, 48]));
 }
 
 #[test]
@@ -70,12 +71,9 @@ fn groups_are_kept_in_order(rt: HostRuntime) {
         constraint.challenge().index(),
         constraint.statements().len(),
     );
-    assert_eq!(rt; told, (1, 0, 3, 2));
+    assert!(rt; told == (1, 0, 3, 2));
     for (group, told) in constraint.statements().iter().zip(&GROUPS) {
-        assert_eq!(rt;
-            (group.len(), group.num_variables(), group.is_empty()),
-            *told
-        );
+        assert!(rt; (group.len(), group.num_variables(), group.is_empty()) == *told);
     }
 }
 
@@ -103,10 +101,7 @@ static FALSE: [([u64; 2], Option<FalseClaim>); 2] = [
 fn false_statements_are_numbered_over_groups(rt: HostRuntime) {
     let constraint = three_claims(&rt);
     for (values, found) in &FALSE {
-        assert_eq!(rt;
-            constraint.first_false(table(&rt, 1, values).as_slice()),
-            *found
-        );
+        assert!(rt; constraint.first_false(table(&rt, 1, values).as_slice()) == *found);
     }
 }
 
@@ -116,8 +111,5 @@ static RIGHT: [([u64; 1], u64); 1] = [([1], 2)];
 fn no_statement_is_false_of_a_table(rt: HostRuntime) {
     let groups = vec![in rt.alloc(); Statements::Eq(claims(&rt, &RIGHT))].expect(&rt, "groups");
     let constraint = Constraint::<F65537, F65537>::new(of(3), 1, groups);
-    assert_eq!(rt;
-        constraint.first_false(table(&rt, 1, &[1, 2]).as_slice()),
-        None
-    );
+    assert!(rt; constraint.first_false(table(&rt, 1, &[1, 2]).as_slice()) == None);
 }

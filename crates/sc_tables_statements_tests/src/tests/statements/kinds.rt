@@ -95,7 +95,7 @@ fn assert_values<R: Abort + AllocGlobal>(
 )
     requires { variables_of table.now ≡ next_arity statement.now }
 {
-    assert_eq!(rt; statement.len(), values.len());
+    assert!(rt; statement.len() == values.len());
     for (i, value) in values.iter().enumerate() {
         let actual: F65537 = statement
             .true_value(rt.alloc(), i, table)
@@ -106,10 +106,7 @@ fn assert_values<R: Abort + AllocGlobal>(
             statement.claimed_value(i).index(),
             actual.index(),
         );
-        assert_eq!(rt;
-            told,
-            (value.has_selector, true, value.claimed, value.actual)
-        );
+        assert!(rt; told == (value.has_selector, true, value.claimed, value.actual));
     }
 }
 
@@ -123,7 +120,7 @@ fn assert_successors<R: Abort + AllocGlobal>(rt: &R, values: &[Successor], hold:
         statement.is_empty(),
         statement.verify(rt.alloc(), &table).expect(rt, "an answer"),
     );
-    assert_eq!(rt; told, (2, false, hold));
+    assert!(rt; told == (2, false, hold));
 }
 
 #[test]
@@ -148,8 +145,10 @@ fn a_selector_that_stands_first(rt: HostRuntime) {
         of(9),
         0,
     );
-    assert_eq!(rt; (combined, sum.index()), (Ok(()), 12));
-    assert!(rt; have_numbers(weights.as_slice(), &[0, 65533, 0, 5]));
+    assert!(rt;
+        (combined, sum.index()) == (Ok(()), 12)
+            && have_numbers(weights.as_slice(), &[0, 65533, 0, 5])
+    );
 }
 
 #[test]
@@ -160,8 +159,10 @@ fn successor_statements_are_batched(rt: HostRuntime) {
     statement.combine_evals(&mut sum, of(2), 1);
     let first = sum.index();
     let combined = statement.combine(rt.alloc(), &mut weights, &mut sum, of(2), 1);
-    assert_eq!(rt; (combined, first, sum.index()), (Ok(()), 26, 52));
-    assert!(rt; have_numbers(weights.as_slice(), &[10, 24, 8, 64]));
+    assert!(rt;
+        (combined, first, sum.index()) == (Ok(()), 26, 52)
+            && have_numbers(weights.as_slice(), &[10, 24, 8, 64])
+    );
 }
 
 // Asserts that the weights at a row are these.
@@ -198,7 +199,7 @@ fn assert_told<R: Abort + AllocGlobal>(
             .verify(rt.alloc(), &four(rt))
             .expect(rt, "an answer"),
     );
-    assert_eq!(rt; (told, statement.num_variables()), (wanted, 2));
+    assert!(rt; (told, statement.num_variables()) == (wanted, 2));
 }
 
 // The values 49 and 1 that the scalars 2 and 0 select.
@@ -213,7 +214,7 @@ pub(super) fn two_scalars<R: Abort + AllocGlobal>(rt: &R) -> SelectStatement<F65
 fn scalars_select(rt: HostRuntime) {
     let mut statement = two_scalars(&rt);
     assert_told(&rt, &statement, (2, false, true, false, true));
-    assert_eq!(rt; statement.add_constraint(of(3), of(141)), Ok(()));
+    assert!(rt; statement.add_constraint(of(3), of(141)) == Ok(()));
     assert_told(&rt, &statement, (3, false, true, false, false));
     assert_third(&rt, &statement);
     assert_last(&rt, &statement);
@@ -232,29 +233,27 @@ fn scalars_are_batched(rt: HostRuntime) {
     let mut weights = table(&rt, 2, &[1, 2, 3, 4]);
     let mut sum = of(5);
     let combined = statement.combine(rt.alloc(), &mut weights, &mut sum, of(10), 1);
-    assert_eq!(rt; (combined, sum.index()), (Ok(()), 4915));
-    assert!(rt; have_numbers(weights.as_slice(), &[111, 202, 403, 804]));
+    assert!(rt;
+        (combined, sum.index()) == (Ok(()), 4915)
+            && have_numbers(weights.as_slice(), &[111, 202, 403, 804])
+    );
 }
 
 // Asserts the claimed value and the true one of the last of three statements.
 fn assert_third<R: Abort + AllocGlobal>(rt: &R, statement: &SelectStatement<F65537, F65537>)
     requires { select_arity statement.now ≡ 2 }
 {
-    assert_eq!(rt; statement.len(), 3);
+    assert!(rt; statement.len() == 3);
     let actual = statement
         .true_value(rt.alloc(), 2, &four(rt))
         .expect(rt, "a value");
-    assert_eq!(rt;
-        (statement.claimed_value(2).index(), actual.index()),
-        (141, 142)
-    );
+    assert!(rt; (statement.claimed_value(2).index(), actual.index()) == (141, 142));
 }
 
 // Asserts the last of three scalars and its value.
 fn assert_last<R: Abort + AllocGlobal>(rt: &R, statement: &SelectStatement<F65537, F65537>) {
     let pairs: Vec<(&F65537, &F65537)> = statement.iter().collect(rt.alloc()).expect(rt, "pairs");
-    assert_eq!(rt; pairs.len(), 3);
-    assert_eq!(rt; (pairs[2].0.index(), pairs[2].1.index()), (3, 141));
+    assert!(rt; pairs.len() == 3 && (pairs[2].0.index(), pairs[2].1.index()) == (3, 141));
 }
 
 // The statement of a value that the direct point (0, 3) selects.
@@ -289,14 +288,11 @@ fn assert_direct<R: Abort + AllocGlobal>(
 )
     requires { select_arity statement.now ≡ 2 }
 {
-    assert_eq!(rt; statement.len(), 1);
+    assert!(rt; statement.len() == 1);
     let actual = statement
         .true_value(rt.alloc(), 0, &four(rt))
         .expect(rt, "a value");
-    assert_eq!(rt;
-        (statement.claimed_value(0).index(), actual.index()),
-        values
-    );
+    assert!(rt; (statement.claimed_value(0).index(), actual.index()) == values);
 }
 
 #[test]
@@ -306,8 +302,9 @@ fn direct_points_are_batched(rt: HostRuntime) {
     let mut sum = F65537::ZERO;
     let combined = statement.combine(rt.alloc(), &mut weights, &mut sum, of(5), 0);
     statement.combine_evals(&mut sum, of(5), 1);
-    assert_eq!(rt; (combined, sum.index()), (Ok(()), 42));
-    assert!(rt; have_numbers(weights.as_slice(), &[1, 3, 0, 0]));
+    assert!(rt;
+        (combined, sum.index()) == (Ok(()), 42) && have_numbers(weights.as_slice(), &[1, 3, 0, 0])
+    );
 }
 
 #[test]
@@ -340,8 +337,10 @@ fn assert_batch<R: Abort + AllocGlobal>(
     requires { constraint_arity constraint.now ≤ 40 }
 {
     let (weights, claim) = constraint.combine_new(rt.alloc()).expect(rt, "a batch");
-    assert_eq!(rt; (constraint.initial_power(), claim.index()), told);
-    assert!(rt; have_numbers(weights.as_slice(), numbers));
+    assert!(rt;
+        (constraint.initial_power(), claim.index()) == told
+            && have_numbers(weights.as_slice(), numbers)
+    );
 }
 
 #[test]
@@ -351,8 +350,9 @@ fn groups_of_several_kinds_are_batched(rt: HostRuntime) {
     let point = point(&rt, &[3, 4]);
     let at = constraint.eval_at(Basis::Evaluation, &point).index();
     let of_coefficients = constraint.eval_at(Basis::Projective, &point).index();
-    assert_eq!(rt; (at, of_coefficients), (535, 1193));
-    assert_eq!(rt; constraint.first_false(four(&rt).as_slice()), None);
+    assert!(rt;
+        (at, of_coefficients) == (535, 1193) && constraint.first_false(four(&rt).as_slice()) == None
+    );
 }
 
 #[test]
@@ -365,5 +365,5 @@ fn a_claim_that_is_there_has_the_coefficient_one(rt: HostRuntime) {
 fn a_claim_carries_its_payload(rt: HostRuntime) {
     let claim = Claim::new(7, of::<F65537>(3), 'x');
     let told = (*claim.point(), claim.eval().index(), *claim.payload());
-    assert_eq!(rt; told, (7, 3, 'x'));
+    assert!(rt; told == (7, 3, 'x'));
 }

@@ -77,19 +77,16 @@ fn messages_agree<B: Field, A: Algebra<B>>(alloc: Global, half: usize) -> Result
 #[test]
 fn messages_of_each_even_length(rt: HostRuntime) {
     for half in 1..21 {
-        assert_eq!(rt;
-            messages_agree::<F65537, F65537>(rt.alloc(), half),
-            Ok(true),
+        assert!(rt;
+            messages_agree::<F65537, F65537>(rt.alloc(), half) == Ok(true),
             "{half}"
         );
-        assert_eq!(rt;
-            messages_agree::<F257, F257x2>(rt.alloc(), half),
-            Ok(true),
+        assert!(rt;
+            messages_agree::<F257, F257x2>(rt.alloc(), half) == Ok(true),
             "{half}"
         );
-        assert_eq!(rt;
-            messages_agree::<Tower16, Tower16>(rt.alloc(), half),
-            Ok(true),
+        assert!(rt;
+            messages_agree::<Tower16, Tower16>(rt.alloc(), half) == Ok(true),
             "{half}"
         );
     }
@@ -98,14 +95,12 @@ fn messages_of_each_even_length(rt: HostRuntime) {
 #[test]
 fn messages_around_a_block(rt: HostRuntime) {
     for half in [255, 256, 257, 511, 512, 513, 1023, 1024, 1025, 2600] {
-        assert_eq!(rt;
-            messages_agree::<F65537, F65537>(rt.alloc(), half),
-            Ok(true),
+        assert!(rt;
+            messages_agree::<F65537, F65537>(rt.alloc(), half) == Ok(true),
             "{half}"
         );
-        assert_eq!(rt;
-            messages_agree::<F257, F257x2>(rt.alloc(), half),
-            Ok(true),
+        assert!(rt;
+            messages_agree::<F257, F257x2>(rt.alloc(), half) == Ok(true),
             "{half}"
         );
     }
@@ -156,14 +151,12 @@ fn pass_agrees<A: Field>(alloc: Global, order: VariableOrder, n: usize) -> Resul
 fn passes_of_each_power_of_two(rt: HostRuntime) {
     for n in 2..14 {
         for order in [Prefix, Suffix] {
-            assert_eq!(rt;
-                pass_agrees::<F65537>(rt.alloc(), order, n),
-                Ok(true),
+            assert!(rt;
+                pass_agrees::<F65537>(rt.alloc(), order, n) == Ok(true),
                 "{n}"
             );
-            assert_eq!(rt;
-                pass_agrees::<F257x2>(rt.alloc(), order, n),
-                Ok(true),
+            assert!(rt;
+                pass_agrees::<F257x2>(rt.alloc(), order, n) == Ok(true),
                 "{n}"
             );
         }
@@ -207,8 +200,8 @@ fn block_agrees<F: Field>(alloc: Global, k: usize) -> Result<bool, NoMemory>
 #[test]
 fn weights_of_a_block(rt: HostRuntime) {
     for k in 0..9 {
-        assert_eq!(rt; block_agrees::<F65537>(rt.alloc(), k), Ok(true), "{k}");
-        assert_eq!(rt; block_agrees::<F257x2>(rt.alloc(), k), Ok(true), "{k}");
+        assert!(rt; block_agrees::<F65537>(rt.alloc(), k) == Ok(true), "{k}");
+        assert!(rt; block_agrees::<F257x2>(rt.alloc(), k) == Ok(true), "{k}");
     }
 }
 
@@ -228,24 +221,20 @@ fn value_agrees<A: Field, E: Algebra<A>>(alloc: Global, n: usize) -> Result<bool
 #[test]
 fn values_around_a_block(rt: HostRuntime) {
     for n in 0..12 {
-        assert_eq!(rt;
-            value_agrees::<F65537, F65537>(rt.alloc(), n),
-            Ok(true),
+        assert!(rt;
+            value_agrees::<F65537, F65537>(rt.alloc(), n) == Ok(true),
             "{n}"
         );
-        assert_eq!(rt;
-            value_agrees::<F257, F257x2>(rt.alloc(), n),
-            Ok(true),
+        assert!(rt;
+            value_agrees::<F257, F257x2>(rt.alloc(), n) == Ok(true),
             "{n}"
         );
-        assert_eq!(rt;
-            value_agrees::<Tower16, Tower16>(rt.alloc(), n),
-            Ok(true),
+        assert!(rt;
+            value_agrees::<Tower16, Tower16>(rt.alloc(), n) == Ok(true),
             "{n}"
         );
-        assert_eq!(rt;
-            value_agrees::<Wide<F257>, Wide<F257>>(rt.alloc(), n),
-            Ok(true),
+        assert!(rt;
+            value_agrees::<Wide<F257>, Wide<F257>>(rt.alloc(), n) == Ok(true),
             "{n}"
         );
     }
@@ -254,10 +243,12 @@ fn values_around_a_block(rt: HostRuntime) {
 // A block of elements is an array where they are small.
 #[test]
 fn blocks_of_small_elements(rt: HostRuntime) {
-    assert!(rt; fits_in_blocks::<F65537>());
-    assert!(rt; fits_in_blocks::<F257x2>());
-    assert!(rt; fits_in_blocks::<Tower16>());
-    assert!(rt; fits_in_blocks::<Traced>());
+    assert!(rt;
+        fits_in_blocks::<F65537>()
+            && fits_in_blocks::<F257x2>()
+            && fits_in_blocks::<Tower16>()
+            && fits_in_blocks::<Traced>()
+    );
     assert!(rt; !fits_in_blocks::<Wide<F257>>());
 }
 

@@ -16,7 +16,7 @@ fn coefficients_at_a_point(rt: HostRuntime) {
     assert!(rt; poly.num_variables() == 2);
     let z = Point::new(elements(rt.alloc(), &[3, 4]).expect(&rt, "an answer"));
     let at: F65537 = poly.eval_projective(&z);
-    assert_eq!(rt; at.index(), 66);
+    assert!(rt; at.index() == 66);
 }
 
 // It is 10 + 14 y at x = 3, and 66 at y = 4.
@@ -30,7 +30,7 @@ fn bound_coefficients(rt: HostRuntime) {
     assert!(rt; have_numbers(poly.as_slice(), &[66]));
     let nowhere = Point::new(Vec::new(rt.alloc()));
     let left: F65537 = poly.eval_projective(&nowhere);
-    assert_eq!(rt; left.index(), 66);
+    assert!(rt; left.index() == 66);
 }
 
 // The square of element 257 is 3, so that 4 x y is 12 + 4 x at x = 257 and y = 258.
@@ -39,9 +39,9 @@ fn coefficients_at_elements_of_an_extension(rt: HostRuntime) {
     let one = [of::<F257>(1), of(2), of(3), of(4)];
     let z: [F257x2; 2] = [of(257), of(258)];
     let at: F257x2 = eval_slice_projective(&one, &z);
-    assert_eq!(rt; at.index(), 15 + 9 * 257);
+    assert!(rt; at.index() == 15 + 9 * 257);
     let last: F257x2 = eval_slice_projective(&one[2..], &z[..1]);
-    assert_eq!(rt; last.index(), 3 + 4 * 257);
+    assert!(rt; last.index() == 3 + 4 * 257);
 }
 
 // The table 1, 2, 3, 4 over the extension.
@@ -64,17 +64,21 @@ fn coefficients_bound_apart(rt: HostRuntime) {
     let evals = [of::<F257>(1), of(2), of(3), of(4)];
     let r: F257x2 = of(257);
     let bound = fix_prefix_var_slice_projective(rt.alloc(), &evals, r).expect(&rt, "an answer");
-    assert!(rt; have_numbers(bound.as_slice(), &[1 + 3 * 257, 2 + 4 * 257]));
-    assert!(rt; have_numbers(&evals, &[1, 2, 3, 4]));
+    assert!(rt;
+        have_numbers(bound.as_slice(), &[1 + 3 * 257, 2 + 4 * 257])
+            && have_numbers(&evals, &[1, 2, 3, 4])
+    );
 }
 
 #[test]
 fn orders_that_a_basis_is_offered_with(rt: HostRuntime) {
     let (prefix, suffix) = (VariableOrder::Prefix, VariableOrder::Suffix);
-    assert!(rt; Basis::Evaluation.is_offered(prefix));
-    assert!(rt; Basis::Evaluation.is_offered(suffix));
-    assert!(rt; Basis::Projective.is_offered(prefix));
-    assert!(rt; !Basis::Projective.is_offered(suffix));
+    assert!(rt;
+        Basis::Evaluation.is_offered(prefix)
+            && Basis::Evaluation.is_offered(suffix)
+            && Basis::Projective.is_offered(prefix)
+            && !Basis::Projective.is_offered(suffix)
+    );
 }
 
 #[test]
@@ -93,15 +97,19 @@ fn tables_bound_by_basis(rt: HostRuntime) {
     let mut by_halves = four(rt.alloc()).expect(&rt, "an answer");
     let mut by_neighbours = four(rt.alloc()).expect(&rt, "an answer");
     let mut of_coefficients = four(rt.alloc()).expect(&rt, "an answer");
-    assert!(rt; by_halves.num_variables() == 2);
-    assert!(rt; by_neighbours.num_variables() == 2);
-    assert!(rt; of_coefficients.num_variables() == 2);
+    assert!(rt;
+        by_halves.num_variables() == 2
+            && by_neighbours.num_variables() == 2
+            && of_coefficients.num_variables() == 2
+    );
     Basis::Evaluation.fix_var(prefix, &mut by_halves, F65537::element(3));
     Basis::Evaluation.fix_var(suffix, &mut by_neighbours, F65537::element(3));
     Basis::Projective.fix_var(prefix, &mut of_coefficients, F65537::element(3));
-    assert!(rt; have_numbers(by_halves.as_slice(), &[7, 8]));
-    assert!(rt; have_numbers(by_neighbours.as_slice(), &[4, 6]));
-    assert!(rt; have_numbers(of_coefficients.as_slice(), &[10, 14]));
+    assert!(rt;
+        have_numbers(by_halves.as_slice(), &[7, 8])
+            && have_numbers(by_neighbours.as_slice(), &[4, 6])
+            && have_numbers(of_coefficients.as_slice(), &[10, 14])
+    );
 }
 
 #[test]
@@ -114,6 +122,8 @@ fn slices_bound_by_basis(rt: HostRuntime) {
     let coefficients = Basis::Projective
         .fix_var_slice(rt.alloc(), VariableOrder::Prefix, &evals, r)
         .expect(&rt, "an answer");
-    assert!(rt; have_numbers(values.as_slice(), &[1 + 257, 3 + 257]));
-    assert!(rt; have_numbers(coefficients.as_slice(), &[1 + 3 * 257, 2 + 4 * 257]));
+    assert!(rt;
+        have_numbers(values.as_slice(), &[1 + 257, 3 + 257])
+            && have_numbers(coefficients.as_slice(), &[1 + 3 * 257, 2 + 4 * 257])
+    );
 }

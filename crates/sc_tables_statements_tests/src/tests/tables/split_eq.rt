@@ -53,9 +53,8 @@ fn four_values_compressed(rt: HostRuntime) {
         (Prefix, true, [65534, 65533]),
         (Suffix, true, [65535, 65533]),
     ] {
-        assert_eq!(rt;
-            four_compress(rt.alloc(), order, shifted, &left),
-            Ok(true),
+        assert!(rt;
+            four_compress(rt.alloc(), order, shifted, &left) == Ok(true),
             "{order:?} {shifted}"
         );
     }
@@ -178,7 +177,7 @@ fn each_field_agrees(alloc: Global, n: usize, m: usize) -> Result<bool, NoMemory
 fn tables_compressed(rt: HostRuntime) {
     for n in 0..13 {
         for m in 0..13 - n {
-            assert_eq!(rt; each_field_agrees(rt.alloc(), n, m), Ok(true), "{n} {m}");
+            assert!(rt; each_field_agrees(rt.alloc(), n, m) == Ok(true), "{n} {m}");
         }
     }
 }
@@ -187,7 +186,7 @@ fn tables_compressed(rt: HostRuntime) {
 #[test]
 fn tables_compressed_around_a_block(rt: HostRuntime) {
     for (n, m) in [(13, 1), (10, 3), (8, 5), (9, 5), (10, 5), (8, 6), (3, 10)] {
-        assert_eq!(rt; each_field_agrees(rt.alloc(), n, m), Ok(true), "{n} {m}");
+        assert!(rt; each_field_agrees(rt.alloc(), n, m) == Ok(true), "{n} {m}");
     }
 }
 
@@ -258,9 +257,9 @@ fn weights_agree<E: Field>(alloc: Global, n: usize) -> Result<bool, NoMemory>
 #[test]
 fn split_weights_of_points(rt: HostRuntime) {
     for n in 0..13 {
-        assert_eq!(rt; weights_agree::<F65537>(rt.alloc(), n), Ok(true), "{n}");
-        assert_eq!(rt; weights_agree::<F257x2>(rt.alloc(), n), Ok(true), "{n}");
-        assert_eq!(rt; weights_agree::<Traced>(rt.alloc(), n), Ok(true), "{n}");
+        assert!(rt; weights_agree::<F65537>(rt.alloc(), n) == Ok(true), "{n}");
+        assert!(rt; weights_agree::<F257x2>(rt.alloc(), n) == Ok(true), "{n}");
+        assert!(rt; weights_agree::<Traced>(rt.alloc(), n) == Ok(true), "{n}");
     }
 }
 
@@ -278,14 +277,12 @@ fn dot_agrees<A: Field, E: Algebra<A>>(alloc: Global, len: usize) -> Result<bool
 #[test]
 fn sums_around_a_piece(rt: HostRuntime) {
     for len in [0, 1, 511, 512, 513, 1300] {
-        assert_eq!(rt;
-            dot_agrees::<F65537, F65537>(rt.alloc(), len),
-            Ok(true),
+        assert!(rt;
+            dot_agrees::<F65537, F65537>(rt.alloc(), len) == Ok(true),
             "{len}"
         );
-        assert_eq!(rt;
-            dot_agrees::<F257, F257x2>(rt.alloc(), len),
-            Ok(true),
+        assert!(rt;
+            dot_agrees::<F257, F257x2>(rt.alloc(), len) == Ok(true),
             "{len}"
         );
     }
@@ -310,9 +307,8 @@ fn weights_of_grids(rt: HostRuntime) {
         (&[5], &[65533, 5, 20]),
         (&[5, 7], &at_both),
     ] {
-        assert_eq!(rt;
-            grid_weights_are(rt.alloc(), rs, weights),
-            Ok(true),
+        assert!(rt;
+            grid_weights_are(rt.alloc(), rs, weights) == Ok(true),
             "{rs:?}"
         );
     }

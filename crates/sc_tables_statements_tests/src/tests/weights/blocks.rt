@@ -163,19 +163,16 @@ fn powers<F: Field, E: ExtensionField<F>>(
 fn equality_weights_around_a_block(rt: HostRuntime) {
     for n in 6..12 {
         let coords = &COORDINATES[..n];
-        assert_eq!(rt;
-            equality::<F65537, F65537>(rt.alloc(), coords),
-            Ok(true),
+        assert!(rt;
+            equality::<F65537, F65537>(rt.alloc(), coords) == Ok(true),
             "{n}"
         );
-        assert_eq!(rt;
-            equality::<F257, F257x2>(rt.alloc(), coords),
-            Ok(true),
+        assert!(rt;
+            equality::<F257, F257x2>(rt.alloc(), coords) == Ok(true),
             "{n}"
         );
-        assert_eq!(rt;
-            equality::<Wide<F257>, Wide<F257>>(rt.alloc(), coords),
-            Ok(true),
+        assert!(rt;
+            equality::<Wide<F257>, Wide<F257>>(rt.alloc(), coords) == Ok(true),
             "{n}"
         );
     }
@@ -187,19 +184,17 @@ fn successor_weights_around_a_block(rt: HostRuntime) {
         for k in 0..n + 1 {
             for order in [VariableOrder::Prefix, VariableOrder::Suffix] {
                 let (selector, coords) = (&SELECTORS[..k], &COORDINATES[..n - k]);
-                assert_eq!(rt;
-                    successor::<F65537, F65537>(rt.alloc(), order, selector, coords),
-                    Ok(true),
+                assert!(rt;
+                    successor::<F65537, F65537>(rt.alloc(), order, selector, coords) == Ok(true),
                     "{n} {k}"
                 );
-                assert_eq!(rt;
-                    successor::<F257, F257x2>(rt.alloc(), order, selector, coords),
-                    Ok(true),
+                assert!(rt;
+                    successor::<F257, F257x2>(rt.alloc(), order, selector, coords) == Ok(true),
                     "{n} {k}"
                 );
-                assert_eq!(rt;
-                    successor::<Wide<F257>, Wide<F257>>(rt.alloc(), order, selector, coords),
-                    Ok(true),
+                assert!(rt;
+                    successor::<Wide<F257>, Wide<F257>>(rt.alloc(), order, selector, coords)
+                        == Ok(true),
                     "{n} {k}"
                 );
             }
@@ -211,19 +206,16 @@ fn successor_weights_around_a_block(rt: HostRuntime) {
 fn products_around_a_block(rt: HostRuntime) {
     for n in 6..12 {
         let coords = &COORDINATES[..n];
-        assert_eq!(rt;
-            products::<F65537, F65537>(rt.alloc(), coords),
-            Ok(true),
+        assert!(rt;
+            products::<F65537, F65537>(rt.alloc(), coords) == Ok(true),
             "{n}"
         );
-        assert_eq!(rt;
-            products::<F257, F257x2>(rt.alloc(), coords),
-            Ok(true),
+        assert!(rt;
+            products::<F257, F257x2>(rt.alloc(), coords) == Ok(true),
             "{n}"
         );
-        assert_eq!(rt;
-            products::<Wide<F257>, Wide<F257>>(rt.alloc(), coords),
-            Ok(true),
+        assert!(rt;
+            products::<Wide<F257>, Wide<F257>>(rt.alloc(), coords) == Ok(true),
             "{n}"
         );
     }
@@ -233,19 +225,16 @@ fn products_around_a_block(rt: HostRuntime) {
 fn powers_around_a_block(rt: HostRuntime) {
     for n in 6..12 {
         for var in [0, 1, 3, 250] {
-            assert_eq!(rt;
-                powers::<F65537, F65537>(rt.alloc(), var, n),
-                Ok(true),
+            assert!(rt;
+                powers::<F65537, F65537>(rt.alloc(), var, n) == Ok(true),
                 "{var} {n}"
             );
-            assert_eq!(rt;
-                powers::<F257, F257x2>(rt.alloc(), var, n),
-                Ok(true),
+            assert!(rt;
+                powers::<F257, F257x2>(rt.alloc(), var, n) == Ok(true),
                 "{var} {n}"
             );
-            assert_eq!(rt;
-                powers::<Wide<F257>, Wide<F257>>(rt.alloc(), var, n),
-                Ok(true),
+            assert!(rt;
+                powers::<Wide<F257>, Wide<F257>>(rt.alloc(), var, n) == Ok(true),
                 "{var} {n}"
             );
         }

@@ -71,13 +71,14 @@ fn assert_played<A: Abort, L: Layout<F65537, F65537>>(
     let mut prover = ZkProver::new(layout, NodeCode::new(4, 2, 12), Sha2Mmcs::new());
     let asked = request(alloc).expect(rt, "a request");
     let came = prover.eval(0, &asked, &mut ours).expect(rt, "values");
-    assert!(rt; have_numbers(came.current.as_slice(), &[4]));
-    assert!(rt; have_numbers(came.next.as_slice(), &[2]));
+    assert!(rt;
+        have_numbers(came.current.as_slice(), &[4]) && have_numbers(came.next.as_slice(), &[2])
+    );
     let value = prover.add_virtual_eval(&mut ours).expect(rt, "a value");
-    assert_eq!(rt; value.index(), 5);
+    assert!(rt; value.index() == 5);
     let mut verifier = verifier;
     record(rt, alloc, &mut verifier, &mut theirs);
-    assert_eq!(rt; verifier.sum(of(10)).index(), 524);
+    assert!(rt; verifier.sum(of(10)).index() == 524);
     ZkSumcheckShape::new_batching(prover.folding(), 4, 0)
         .validate::<F65537>()
         .expect(rt, "a shape");
@@ -88,20 +89,25 @@ fn assert_played<A: Abort, L: Layout<F65537, F65537>>(
         .expect(rt, "an answer");
     let evals = handed.residual_prover.evals(alloc).expect(rt, "a table");
     let weights = handed.residual_prover.weights(alloc).expect(rt, "weights");
-    assert!(rt; have_numbers(evals.as_slice(), &[left.0]));
-    assert!(rt; have_numbers(weights.as_slice(), &[left.1]));
-    assert_eq!(rt; handed.residual_prover.claimed_sum().index(), 39367);
+    assert!(rt;
+        have_numbers(evals.as_slice(), &[left.0])
+            && have_numbers(weights.as_slice(), &[left.1])
+            && handed.residual_prover.claimed_sum().index() == 39367
+    );
     let (mmcs, commitment) = (Sha2Mmcs::new(), &handed.mask_oracle.0);
     let accepted = verifier
         .into_sumcheck(alloc, &mmcs, &data, commitment, 4, 1, 0, &mut theirs)
         .expect(rt, "an answer");
-    assert_eq!(rt; accepted.eps.index(), 31);
-    assert!(rt; have_numbers(accepted.randomness.as_slice(), &[2]));
-    assert!(rt; have_numbers(handed.randomness.as_slice(), &[2]));
+    assert!(rt;
+        accepted.eps.index() == 31
+            && have_numbers(accepted.randomness.as_slice(), &[2])
+            && have_numbers(handed.randomness.as_slice(), &[2])
+    );
     let masks = mask_residual(&handed.mask_messages, handed.randomness.as_slice());
     let residual = of::<F65537>(39367).add(masks);
-    assert_eq!(rt; accepted.claimed_residual.index(), residual.index());
-    assert!(rt; theirs.events() == ours.events());
+    assert!(rt;
+        accepted.claimed_residual.index() == residual.index() && theirs.events() == ours.events()
+    );
 }
 
 #[test]
@@ -160,9 +166,11 @@ fn a_claim_that_is_simulated_is_accepted(rt: HostRuntime) {
         &mut theirs,
     )
     .expect(&rt, "an answer");
-    assert_eq!(&rt; accepted.eps.index(), 31);
-    assert!(&rt; accepted.randomness.as_slice() == challenges.as_slice());
-    assert!(&rt; theirs.events() == simulator.events());
+    assert!(&rt;
+        accepted.eps.index() == 31
+            && accepted.randomness.as_slice() == challenges.as_slice()
+            && theirs.events() == simulator.events()
+    );
 }
 
 // One value of each kind is asked for, and no next one comes: nothing is recorded, and no event
@@ -178,18 +186,18 @@ fn a_misshapen_claim_is_refused(rt: HostRuntime) {
     let refused = verifier
         .add_claim(0, &asked, &came, &mut theirs)
         .expect_err(&rt, "a refusal");
-    assert_eq!(&rt;
-        refused,
-        SumcheckError::OpeningShapeMismatch {
-            table_idx: 0,
-            expected_current: 1,
-            expected_next: 1,
-            actual_current: 1,
-            actual_next: 0,
-        }
+    assert!(&rt;
+        refused
+            == SumcheckError::OpeningShapeMismatch {
+                table_idx: 0,
+                expected_current: 1,
+                expected_next: 1,
+                actual_current: 1,
+                actual_next: 0,
+            }
+            && theirs.events().len() == 0
+            && verifier.sum(of(10)).index() == 0
     );
-    assert_eq!(&rt; theirs.events().len(), 0);
-    assert_eq!(&rt; verifier.sum(of(10)).index(), 0);
     record(&rt, alloc, &mut verifier, &mut theirs);
     let events = [
         Event::Draw,
@@ -198,6 +206,5 @@ fn a_misshapen_claim_is_refused(rt: HostRuntime) {
         Event::Draw,
         Event::Word(5),
     ];
-    assert!(&rt; theirs.events() == &events[..]);
-    assert_eq!(&rt; verifier.sum(of(10)).index(), 524);
+    assert!(&rt; theirs.events() == &events[..] && verifier.sum(of(10)).index() == 524);
 }

@@ -60,8 +60,7 @@ fn played<A: Abort, L: Layout<F65537, F65537>>(
         have_numbers(came.current.as_slice(), &[23]) && have_numbers(came.next.as_slice(), &[3])
     );
     let value = prover.add_virtual_eval(challenger).expect(rt, "a value");
-    assert_eq!(rt; value.index(), 47);
-    assert_eq!(rt; prover.num_variables(), 2);
+    assert!(rt; value.index() == 47 && prover.num_variables() == 2);
     ZkSumcheckShape::new_batching(prover.folding(), 4, 0)
         .validate::<F65537>()
         .expect(rt, "a shape");
@@ -133,21 +132,25 @@ fn assert_handed_on<A: Abort, L: Layout<F65537, F65537>>(
     let folding = layout.folding();
     let mut ours = challenger(rt, alloc);
     let (mut handed, data) = played(rt, alloc, layout, &mut ours);
-    assert_eq!(rt; handed.eps.index(), 31);
-    assert!(rt; have_numbers(handed.randomness.as_slice(), &[2, 7][..folding]));
-    assert!(rt; are_left(&mut handed.residual_prover, alloc, left));
+    assert!(rt;
+        handed.eps.index() == 31
+            && have_numbers(handed.randomness.as_slice(), &[2, 7][..folding])
+            && are_left(&mut handed.residual_prover, alloc, left)
+    );
     let mut theirs = challenger(rt, alloc);
     let accepted = replayed(rt, alloc, verifier, folding, &data, &handed, &mut theirs);
     let (masks, gammas) = (
         handed.mask_messages.as_slice(),
         handed.randomness.as_slice(),
     );
-    assert_eq!(rt; masks.len(), gammas.len());
+    assert!(rt; masks.len() == gammas.len());
     let masks = mask_residual(masks, gammas);
     let claim: F65537 = of(left.claim);
-    assert_eq!(rt; accepted.claimed_residual.index(), claim.add(masks).index());
-    assert!(rt; accepted.randomness.as_slice() == gammas);
-    assert!(rt; theirs.events() == ours.events());
+    assert!(rt;
+        accepted.claimed_residual.index() == claim.add(masks).index()
+            && accepted.randomness.as_slice() == gammas
+            && theirs.events() == ours.events()
+    );
 }
 
 fn assert_prefix<A: Abort>(rt: &A, alloc: Global, folding: usize, left: &Left)
@@ -228,7 +231,7 @@ fn stepped<A: Abort, L: Layout<F65537, F65537>>(
     prover.add_virtual_eval(&mut ours).expect(rt, "a value");
     let mut verifier = verifier;
     record(rt, alloc, &mut verifier, &mut challenger(rt, alloc));
-    assert_eq!(rt; prover.mask_length(), 4);
+    assert!(rt; prover.mask_length() == 4);
     ZkSumcheckShape::new_batching(prover.folding(), 4, 0)
         .validate::<F65537>()
         .expect(rt, "a shape");
@@ -243,13 +246,17 @@ fn both_sides_stay_in_step(rt: HostRuntime) {
     let rows = table(alloc).expect(&rt, "a table");
     let verifier = ZkVerifier::new_suffix(alloc, &[TableShape::new(2)][..]);
     let run = stepped(&rt, alloc, SuffixProver::new(alloc, rows, 2), verifier);
-    assert!(&rt; have_numbers(run.randomness.as_slice(), &[2, 7]));
-    assert_eq!(&rt; run.eps.index(), 31);
-    assert_eq!(&rt; run.scaled.index(), 57780);
-    assert_eq!(&rt; run.carried.index(), 0);
+    assert!(&rt;
+        have_numbers(run.randomness.as_slice(), &[2, 7])
+            && run.eps.index() == 31
+            && run.scaled.index() == 57780
+            && run.carried.index() == 0
+    );
     let residual = run.scaled.add(run.mask_residual);
-    assert_eq!(&rt; run.claimed_residual.index(), residual.index());
-    assert_eq!(&rt; run.zk_data.round_coefficients.len(), 2);
+    assert!(&rt;
+        run.claimed_residual.index() == residual.index()
+            && run.zk_data.round_coefficients.len() == 2
+    );
 }
 
 // What a layout shows a masked prover, after the same openings: the batch of its values under 10,
@@ -268,16 +275,19 @@ fn assert_read<A: Abort, L: ZkLayout<F65537, F65537>>(
     let asked = request(alloc).expect(rt, "a request");
     layout.eval(0, &asked, &mut ours).expect(rt, "values");
     layout.add_virtual_eval(&mut ours).expect(rt, "a value");
-    assert_eq!(rt; layout.concrete_claims().len(), 1);
-    assert_eq!(rt; layout.virtual_claims().len(), 1);
-    assert_eq!(rt; layout.batched_sum(of(10)).index(), 4753);
+    assert!(rt;
+        layout.concrete_claims().len() == 1
+            && layout.virtual_claims().len() == 1
+            && layout.batched_sum(of(10)).index() == 4753
+    );
     let challenges = Point::new(elements(alloc, &[2, 7]).expect(rt, "challenges"));
-    assert_eq!(rt; challenges.num_variables(), layout.folding());
+    assert!(rt; challenges.num_variables() == layout.folding());
     let left = layout.zk_residual_handoff(alloc, &challenges, of(10), of(31));
     let left = left.expect(rt, "tables");
     let weights = left.weights(alloc).expect(rt, "weights");
-    assert!(rt; have_numbers(left.evals_view(), &[evals]));
-    assert!(rt; have_numbers(weights.as_slice(), &[weight]));
+    assert!(rt;
+        have_numbers(left.evals_view(), &[evals]) && have_numbers(weights.as_slice(), &[weight])
+    );
 }
 
 #[test]

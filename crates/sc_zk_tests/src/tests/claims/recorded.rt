@@ -59,7 +59,7 @@ fn assert_accepted<A: Abort>(
     let mut simulator = record(rt, alloc, &mut first);
     let mut challenger = record(rt, alloc, &mut second);
     // 4 + 10 2 + 100 5
-    assert_eq!(rt; second.sum(of(10)).index(), 524);
+    assert!(rt; second.sum(of(10)).index() == 524);
     ZkSumcheckShape::new_batching(1, 4, 0)
         .validate::<F65537>()
         .expect(rt, "a shape");
@@ -79,10 +79,12 @@ fn assert_accepted<A: Abort>(
     let replayed = second
         .into_sumcheck(alloc, &mmcs, &data, &commitment, 4, 1, 0, &mut challenger)
         .expect(rt, "an answer");
-    assert_eq!(rt; replayed.eps.index(), 31);
-    assert!(rt; have_numbers(replayed.randomness.as_slice(), &[2]));
-    assert!(rt; challenges.as_slice() == replayed.randomness.as_slice());
-    assert!(rt; challenger.events() == simulator.events());
+    assert!(rt;
+        replayed.eps.index() == 31
+            && have_numbers(replayed.randomness.as_slice(), &[2])
+            && challenges.as_slice() == replayed.randomness.as_slice()
+            && challenger.events() == simulator.events()
+    );
 }
 
 #[test]
@@ -116,11 +118,13 @@ fn a_simulator_stays_in_step(rt: HostRuntime) {
         &mut ChaCha8Rng::from_seed([7; 32]),
     )
     .expect(&rt, "a run");
-    assert_eq!(&rt; run.eps.index(), 31);
-    assert!(&rt; have_numbers(run.randomness.as_slice(), &[2]));
-    assert_eq!(&rt; run.zk_data.round_coefficients.len(), 1);
+    assert!(&rt;
+        run.eps.index() == 31
+            && have_numbers(run.randomness.as_slice(), &[2])
+            && run.zk_data.round_coefficients.len() == 1
+    );
     let wire = run.zk_data.round_coefficients[0].as_slice();
-    assert_eq!(&rt; wire.len(), 3);
+    assert!(&rt; wire.len() == 3);
     let (c0, c2, c3) = (wire[0], wire[1], wire[2]);
     // The first target is 31 times the claim 524 and the masks' total; its value at 2 is what is
     // left, where the linear coefficient is the target less twice the constant and the others.
@@ -130,7 +134,7 @@ fn a_simulator_stays_in_step(rt: HostRuntime) {
         .add(linear.double())
         .add(of::<F65537>(4).mul(c2))
         .add(of::<F65537>(8).mul(c3));
-    assert_eq!(&rt; run.claimed_residual.index(), left.index());
+    assert!(&rt; run.claimed_residual.index() == left.index());
 }
 
 // The answer to these wires of masks of four coefficients, whose total is 12, in one round, and the
@@ -164,9 +168,11 @@ fn replayed<A: Abort>(
 fn recorded_claims_are_replayed(rt: HostRuntime) {
     let (answer, challenger) = replayed(&rt, rt.alloc(), &[&[1, 2, 3]]);
     let handed = answer.expect(&rt, "an answer");
-    assert_eq!(&rt; handed.claimed_residual.index(), 32531);
-    assert_eq!(&rt; handed.eps.index(), 31);
-    assert!(&rt; have_numbers(handed.randomness.as_slice(), &[2]));
+    assert!(&rt;
+        handed.claimed_residual.index() == 32531
+            && handed.eps.index() == 31
+            && have_numbers(handed.randomness.as_slice(), &[2])
+    );
     let last = [Event::Word(1), Event::Word(2), Event::Word(3), Event::Draw];
     assert!(&rt; challenger.events().ends_with(&last));
 }
@@ -180,17 +186,16 @@ fn other_wires_are_refused(rt: HostRuntime) {
         expected: 3,
         actual: 2,
     };
-    assert!(&rt; answer.err() == Some(narrow));
     assert!(&rt;
-        challenger
-            .events()
-            .ends_with(&[Event::Word(12), Event::Draw])
+        answer.err() == Some(narrow)
+            && challenger
+                .events()
+                .ends_with(&[Event::Word(12), Event::Draw])
     );
     let (answer, challenger) = replayed(&rt, rt.alloc(), &[&[1, 2, 3], &[4, 5, 6]]);
     let many = SumcheckError::RoundCountMismatch {
         expected: 1,
         actual: 2,
     };
-    assert!(&rt; answer.err() == Some(many));
-    assert_eq!(&rt; challenger.events().len(), 5);
+    assert!(&rt; answer.err() == Some(many) && challenger.events().len() == 5);
 }

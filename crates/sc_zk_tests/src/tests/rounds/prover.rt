@@ -141,11 +141,13 @@ fn wrong_table(
 fn two_rounds_hand_on_what_is_left(rt: HostRuntime) {
     let (answer, data, challenger) = played(&rt, rt.alloc(), VariableOrder::Prefix, 0, &[]);
     let mut handed = answer.expect(&rt, "an answer");
-    assert_eq!(&rt; wrong_part(&mut handed, rt.alloc(), 8, 372, 2976), None);
-    assert_eq!(&rt; data.mu_tilde.index(), 100);
-    assert!(&rt; are_wires(&data, &[&[33501, 258, 14], &[50718, 40, 16]]));
-    assert!(&rt; data.pow_witnesses.is_empty());
-    assert_eq!(&rt; challenger.events().len(), 714 + 67 + 8);
+    assert!(&rt;
+        wrong_part(&mut handed, rt.alloc(), 8, 372, 2976) == None
+            && data.mu_tilde.index() == 100
+            && are_wires(&data, &[&[33501, 258, 14], &[50718, 40, 16]])
+            && data.pow_witnesses.is_empty()
+    );
+    assert!(&rt; challenger.events().len() == 714 + 67 + 8);
 }
 
 // In the other order, with tests of two bits: the witnesses 6 and 8 pass.
@@ -159,9 +161,11 @@ fn witnesses_are_put_on_the_wire(rt: HostRuntime) {
         &[&[6], &[8]],
     );
     let mut handed = answer.expect(&rt, "an answer");
-    assert_eq!(&rt; wrong_part(&mut handed, rt.alloc(), 9, 403, 3627), None);
-    assert!(&rt; are_wires(&data, &[&[33780, 72, 14], &[49974, 133, 16]]));
-    assert!(&rt; have_numbers(&data.pow_witnesses, &[6, 8]));
+    assert!(&rt;
+        wrong_part(&mut handed, rt.alloc(), 9, 403, 3627) == None
+            && are_wires(&data, &[&[33780, 72, 14], &[49974, 133, 16]])
+            && have_numbers(&data.pow_witnesses, &[6, 8])
+    );
 }
 
 // No witness passes in the second round: the first one stays on the wire, and the history ends with
@@ -175,10 +179,12 @@ fn a_round_without_a_witness_is_named(rt: HostRuntime) {
         2,
         &[&[6], &[]],
     );
-    assert!(&rt; answer.err() == Some(SumcheckError::NoWitness { round: 1 }));
-    assert!(&rt; are_wires(&data, &[&[33501, 258, 14]]));
-    assert!(&rt; have_numbers(&data.pow_witnesses, &[6]));
-    assert_eq!(&rt; challenger.events().len(), 854 + 67 + 6 + 3);
+    assert!(&rt;
+        answer.err() == Some(SumcheckError::NoWitness { round: 1 })
+            && are_wires(&data, &[&[33501, 258, 14]])
+            && have_numbers(&data.pow_witnesses, &[6])
+            && challenger.events().len() == 854 + 67 + 6 + 3
+    );
     assert!(&rt;
         challenger.events().ends_with(&[
             Event::Draw,
@@ -222,29 +228,31 @@ fn in_step<A: Abort>(
 fn a_run_in_step_adds_up(rt: HostRuntime) {
     let (answer, challenger) = in_step(&rt, rt.alloc(), 2, &[&[6], &[8]]);
     let run = answer.expect(&rt, "an answer");
-    assert!(&rt; have_numbers(run.randomness.as_slice(), &[2, 3]));
     assert!(&rt;
-        have_numbers(
-            &[
-                run.eps,
-                run.claimed_residual,
-                run.scaled,
-                run.carried,
-                run.mask_residual
-            ],
-            &[31, 52824, 2976, 49238, 610],
-        )
+        have_numbers(run.randomness.as_slice(), &[2, 3])
+            && have_numbers(
+                &[
+                    run.eps,
+                    run.claimed_residual,
+                    run.scaled,
+                    run.carried,
+                    run.mask_residual
+                ],
+                &[31, 52824, 2976, 49238, 610],
+            )
+            && are_wires(&run.zk_data, &[&[33501, 258, 14], &[50718, 40, 16]])
+            && challenger.events().len() == 854 + 67 + 12
     );
-    assert!(&rt; are_wires(&run.zk_data, &[&[33501, 258, 14], &[50718, 40, 16]]));
-    assert_eq!(&rt; challenger.events().len(), 854 + 67 + 12);
 }
 
 // Without a witness nothing of the run is left on the challenger.
 #[test]
 fn a_run_without_a_witness_leaves_its_challenger(rt: HostRuntime) {
     let (answer, challenger) = in_step(&rt, rt.alloc(), 2, &[&[]]);
-    assert!(&rt; answer.err() == Some(SumcheckError::NoWitness { round: 0 }));
-    assert!(&rt; challenger.events().is_empty());
+    assert!(&rt;
+        answer.err() == Some(SumcheckError::NoWitness { round: 0 })
+            && challenger.events().is_empty()
+    );
 }
 
 // Masks from a generator are those that are drawn first.
@@ -274,6 +282,5 @@ fn masks_are_drawn_first(rt: HostRuntime) {
         .expect(&rt, "an answer");
     let mut again = ChaCha8Rng::from_seed([7; 32]);
     let (masks, randomness) = sample_masks(alloc, &code, 2, &mut again).expect(&rt, "masks");
-    assert!(&rt; handed.mask_messages == masks);
-    assert!(&rt; handed.mask_randomness == randomness);
+    assert!(&rt; handed.mask_messages == masks && handed.mask_randomness == randomness);
 }

@@ -82,16 +82,19 @@ fn wire_is<F: Field>(
 // the mask is taken four times, and the constant has a part of the others.
 #[test]
 fn wires_of_masked_rounds(rt: HostRuntime) {
-    assert!(rt; wire_is::<F65537>(rt.alloc(), &[2, 3, 5], 1, 0, &[219, 408]) == Ok(true));
     assert!(rt;
-        wire_is::<F65537>(rt.alloc(), &[1, 2, 3, 4, 5], 4, 100, &[321, 415, 16, 20]) == Ok(true)
+        wire_is::<F65537>(rt.alloc(), &[2, 3, 5], 1, 0, &[219, 408]) == Ok(true)
+            && wire_is::<F65537>(rt.alloc(), &[1, 2, 3, 4, 5], 4, 100, &[321, 415, 16, 20])
+                == Ok(true)
     );
 }
 
 #[test]
 fn new_data_is_empty(rt: HostRuntime) {
     let data = ZkSumcheckData::<F65537, F257x2>::new(rt.alloc());
-    assert_eq!(rt; data.mu_tilde.index(), 0);
-    assert!(rt; data.round_coefficients.is_empty());
-    assert!(rt; data.pow_witnesses.is_empty());
+    assert!(rt;
+        data.mu_tilde.index() == 0
+            && data.round_coefficients.is_empty()
+            && data.pow_witnesses.is_empty()
+    );
 }

@@ -95,9 +95,11 @@ fn assert_answer<A: Abort>(rt: &A, alloc: Global, asked: &Replay, good: &[&[u64]
         "an answer",
     );
     let handed = answer.expect(rt, "an answer");
-    assert!(rt; have_numbers(handed.randomness.as_slice(), &[2, 3][..asked.rounds.min(2)]));
-    assert_eq!(rt; handed.eps.index(), 31);
-    assert_eq!(rt; handed.claimed_residual.index(), left);
+    assert!(rt;
+        have_numbers(handed.randomness.as_slice(), &[2, 3][..asked.rounds.min(2)])
+            && handed.eps.index() == 31
+            && handed.claimed_residual.index() == left
+    );
 }
 
 // The first target is 31 5 + 12 = 167. The linear coefficient of the first wire is 160, which is
@@ -269,9 +271,11 @@ fn assert_refused<A: Abort>(rt: &A, alloc: Global, refused: &Refused) {
         &[31, 2, 3],
         &[&[6], &[8]],
     ).expect(rt, "an answer");
-    assert!(rt; answer.err() == Some(refused.error));
-    assert_eq!(rt; challenger.events().len(), refused.events);
-    assert!(rt; challenger.events().ends_with(refused.last));
+    assert!(rt;
+        answer.err() == Some(refused.error)
+            && challenger.events().len() == refused.events
+            && challenger.events().ends_with(refused.last)
+    );
 }
 
 #[test]
@@ -293,6 +297,7 @@ fn masks_need_an_odd_field(rt: HostRuntime) {
         &rt,
         "an answer",
     );
-    assert!(rt; answer.err() == Some(SumcheckError::EvenCharacteristic));
-    assert!(rt; challenger.events().is_empty());
+    assert!(rt;
+        answer.err() == Some(SumcheckError::EvenCharacteristic) && challenger.events().is_empty()
+    );
 }

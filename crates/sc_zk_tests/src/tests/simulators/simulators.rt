@@ -61,7 +61,7 @@ fn what_is_sent_is_drawn(rt: HostRuntime) {
     let mut again = ChaCha8Rng::from_seed([7; 32]);
     let (masks, randomness) = sample_masks(alloc, &code, 2, &mut again).expect(&rt, "masks");
     let total = masks_total::<F65537, F65537>(&masks);
-    assert_eq!(&rt; data.mu_tilde.index(), total.index());
+    assert!(&rt; data.mu_tilde.index() == total.index());
     let matrix = code
         .encode_batch_with_randomness(alloc, &masks, &randomness)
         .expect(&rt, "a matrix");
@@ -70,9 +70,11 @@ fn what_is_sent_is_drawn(rt: HostRuntime) {
         .expect(&rt, "a commitment");
     assert!(&rt; commitment == made);
     let wires: Vec<F65537> = draw_list(alloc, 6, &mut again).expect(&rt, "draws");
-    assert_eq!(&rt; data.round_coefficients.len(), 2);
-    assert!(&rt; data.round_coefficients[0].as_slice() == &wires[..3]);
-    assert!(&rt; data.round_coefficients[1].as_slice() == &wires[3..]);
+    assert!(&rt;
+        data.round_coefficients.len() == 2
+            && data.round_coefficients[0].as_slice() == &wires[..3]
+            && data.round_coefficients[1].as_slice() == &wires[3..]
+    );
 }
 
 // What was simulated is accepted on an equal history, with its challenges, and with its witnesses.
@@ -99,9 +101,11 @@ fn what_is_sent_is_accepted(rt: HostRuntime) {
         &mut challenger,
     )
     .expect(&rt, "an answer");
-    assert!(&rt; have_numbers(replayed.randomness.as_slice(), &[2, 3]));
-    assert!(&rt; challenges.as_slice() == replayed.randomness.as_slice());
-    assert!(&rt; challenger.events() == simulator.events());
+    assert!(&rt;
+        have_numbers(replayed.randomness.as_slice(), &[2, 3])
+            && challenges.as_slice() == replayed.randomness.as_slice()
+            && challenger.events() == simulator.events()
+    );
 }
 
 // No witness passes in the second round: the history ends with its wire, which is drawn as ever.
@@ -111,9 +115,11 @@ fn a_round_without_a_witness_is_named(rt: HostRuntime) {
     let (plain, _challenger) = simulated(&rt, alloc, 0, &[]);
     let (data, _commitment, _challenges) = plain.expect(&rt, "an answer");
     let (answer, challenger) = simulated(&rt, alloc, 2, &[&[6], &[]]);
-    assert!(&rt; answer.err() == Some(SumcheckError::NoWitness { round: 1 }));
-    assert_eq!(&rt; challenger.events().len(), 854 + 67 + 6 + 3);
-    assert_eq!(&rt; data.round_coefficients.len(), 2);
+    assert!(&rt;
+        answer.err() == Some(SumcheckError::NoWitness { round: 1 })
+            && challenger.events().len() == 854 + 67 + 6 + 3
+            && data.round_coefficients.len() == 2
+    );
     let mut last = with_room(alloc, 3).expect(&rt, "room");
     for value in &data.round_coefficients[1] {
         last.push(Event::Word(value.index())).expect(&rt, "room");
@@ -142,21 +148,22 @@ fn recorded_claims_are_simulated(rt: HostRuntime) {
     .expect(&rt, "an answer");
     let (plain, _challenger) = simulated(&rt, alloc, 0, &[]);
     let (drawn, made, _challenges) = plain.expect(&rt, "an answer");
-    assert!(&rt; commitment == made);
-    assert!(&rt; data.round_coefficients == drawn.round_coefficients);
+    assert!(&rt; commitment == made && data.round_coefficients == drawn.round_coefficients);
     let mut challenger = scripted::<F65537>(alloc, &[4, 31, 2, 3], &[]).expect(&rt, "a challenger");
     check_came(shape, &data).expect(&rt, "a wire");
     let words = Mmcs::<F65537>::words(&Sha2Mmcs::new(), alloc, commitment).expect(&rt, "words");
     let room = with_room(alloc, 2).expect(&rt, "room");
     let alpha: F65537 = begin_recorded(alloc, &mut challenger, shape).expect(&rt, "a challenge");
-    assert_eq!(&rt; alpha.index(), 4);
+    assert!(&rt; alpha.index() == 4);
     let replayed = replay_begun(&mut challenger, &data, shape, of(77), &words, room).expect(
         &rt,
         "an answer",
     );
-    assert_eq!(&rt; replayed.eps.index(), 31);
-    assert!(&rt; challenges.as_slice() == replayed.randomness.as_slice());
-    assert!(&rt; challenger.events() == simulator.events());
+    assert!(&rt;
+        replayed.eps.index() == 31
+            && challenges.as_slice() == replayed.randomness.as_slice()
+            && challenger.events() == simulator.events()
+    );
 }
 
 // Both sides in one call.
@@ -185,7 +192,9 @@ fn a_simulation_stays_in_step(rt: HostRuntime) {
     .expect(&rt, "an answer");
     let (answer, simulator) = simulated(&rt, alloc, 2, &[&[6], &[8]]);
     let (data, _commitment, _challenges) = answer.expect(&rt, "an answer");
-    assert!(&rt; run.zk_data.round_coefficients == data.round_coefficients);
-    assert!(&rt; have_numbers(run.randomness.as_slice(), &[2, 3]));
-    assert!(&rt; challenger.events() == simulator.events());
+    assert!(&rt;
+        run.zk_data.round_coefficients == data.round_coefficients
+            && have_numbers(run.randomness.as_slice(), &[2, 3])
+            && challenger.events() == simulator.events()
+    );
 }

@@ -244,8 +244,9 @@ fn assert_batch<F: Field, EF: ExtensionField<F>, A: Abort>(rt: &A, alloc: Global
         rt,
         "an answer",
     );
-    assert!(rt; has_numbers(&played, batch));
-    assert!(rt; has_events(alloc, &ours, batch, batch.after) == Ok(true));
+    assert!(rt;
+        has_numbers(&played, batch) && has_events(alloc, &ours, batch, batch.after) == Ok(true)
+    );
 
     let mut theirs = scripted::<F>(alloc, batch.draws, batch.good).expect(rt, "an answer");
     let (taken, next) = take::<_, F, EF>(
@@ -256,9 +257,11 @@ fn assert_batch<F: Field, EF: ExtensionField<F>, A: Abort>(rt: &A, alloc: Global
         &played.witnesses,
     )
     .expect(rt, "an answer");
-    assert!(rt; have_numbers(&taken.expect(rt, "an answer"), batch.drawn));
-    assert_eq!(rt; next, ZkStep::Done);
-    assert!(rt; theirs.events() == ours.events());
+    assert!(rt;
+        have_numbers(&taken.expect(rt, "an answer"), batch.drawn)
+            && next == ZkStep::Done
+            && theirs.events() == ours.events()
+    );
 }
 
 // Whether all is drawn that the batch draws, to its end.
@@ -353,9 +356,11 @@ fn assert_rejected<A: Abort>(rt: &A, alloc: Global, rejected: &Rejected) {
         &[witness],
     )
     .expect(rt, "an answer");
-    assert!(rt; taken.err() == Some(rejected.error));
-    assert_eq!(rt; next, ZkStep::Round(0));
-    assert!(rt; has_events(alloc, &challenger, &TESTED, rejected.after) == Ok(true));
+    assert!(rt;
+        taken.err() == Some(rejected.error)
+            && next == ZkStep::Round(0)
+            && has_events(alloc, &challenger, &TESTED, rejected.after) == Ok(true)
+    );
 }
 
 #[test]

@@ -161,15 +161,16 @@ fn assert_shape<F: Field, EF: ExtensionField<F>, A: Abort>(rt: &A, alloc: Global
         .expect(rt, "an answer");
     let words = separator.seed_words(alloc).expect(rt, "an answer");
     let seed = hex_digits(alloc, wanted.seed).expect(rt, "an answer");
-    assert!(rt; words.as_slice() == seed.as_slice());
-    assert_eq!(rt; words.len(), wanted.words);
+    assert!(rt; words.as_slice() == seed.as_slice() && words.len() == wanted.words);
 }
 
 #[test]
 fn a_shape_has_its_steps_and_its_separator(rt: HostRuntime) {
     shape_laws();
-    assert!(rt; ZkSumcheckShape::new_batching(1, 3, 0) == RECORDED.shape);
-    assert!(rt; ZkSumcheckShape::new_inherited(1, 5, 4) == INHERITED.shape);
+    assert!(rt;
+        ZkSumcheckShape::new_batching(1, 3, 0) == RECORDED.shape
+            && ZkSumcheckShape::new_inherited(1, 5, 4) == INHERITED.shape
+    );
     assert_shape::<F65537, F65537, HostRuntime>(&rt, rt.alloc(), &RECORDED);
     assert_shape::<F257, F257x2, HostRuntime>(&rt, rt.alloc(), &INHERITED);
 }
@@ -179,8 +180,8 @@ fn a_shape_has_its_steps_and_its_separator(rt: HostRuntime) {
 fn a_wire_has_one_value_fewer_than_its_round(rt: HostRuntime) {
     for (ell_zk, round, wire) in [(0, 3, 2), (2, 3, 2), (3, 3, 2), (4, 4, 3), (9, 9, 8)] {
         let shape = ZkSumcheckShape::new_inherited(1, ell_zk, 0);
-        assert_eq!(rt; shape.round_poly_len(), round, "{ell_zk}");
-        assert_eq!(rt; shape.wire_len(), wire, "{ell_zk}");
+        assert!(rt; shape.round_poly_len() == round, "{ell_zk}");
+        assert!(rt; shape.wire_len() == wire, "{ell_zk}");
     }
 }
 
@@ -189,25 +190,25 @@ fn a_wire_has_one_value_fewer_than_its_round(rt: HostRuntime) {
 fn a_shape_is_refused_by_its_first_cause(rt: HostRuntime) {
     let bad = ZkSumcheckShape::new_batching(0, 2, 0);
     let short = SumcheckError::MaskTooShort { ell_zk: 2 };
-    assert_eq!(rt;
-        bad.validate::<Tower16>(),
-        Err(SumcheckError::EvenCharacteristic)
+    assert!(rt;
+        bad.validate::<Tower16>() == Err(SumcheckError::EvenCharacteristic)
+            && bad.validate::<F65537>() == Err(short)
     );
-    assert_eq!(rt; bad.validate::<F65537>(), Err(short));
     let none = ZkSumcheckShape::new_inherited(0, 3, 0);
-    assert_eq!(rt; none.validate::<F257x2>(), Err(SumcheckError::NoRounds));
+    assert!(rt; none.validate::<F257x2>() == Err(SumcheckError::NoRounds));
     let good = ZkSumcheckShape::new_inherited(1, 3, 0);
-    assert_eq!(rt;
-        good.validate::<Tower16>(),
-        Err(SumcheckError::EvenCharacteristic)
+    assert!(rt;
+        good.validate::<Tower16>() == Err(SumcheckError::EvenCharacteristic)
+            && good.validate::<F257>() == Ok(())
     );
-    assert_eq!(rt; good.validate::<F257>(), Ok(()));
 }
 
 #[test]
 fn steps_are_equal_where_their_rounds_are(rt: HostRuntime) {
-    assert!(rt; ZkStep::Round(2) == ZkStep::Round(2));
-    assert!(rt; ZkStep::Round(2) != ZkStep::Round(3));
-    assert!(rt; ZkStep::Done != ZkStep::Round(0));
-    assert!(rt; ZkStep::Prelude != ZkStep::Masks);
+    assert!(rt;
+        ZkStep::Round(2) == ZkStep::Round(2)
+            && ZkStep::Round(2) != ZkStep::Round(3)
+            && ZkStep::Done != ZkStep::Round(0)
+            && ZkStep::Prelude != ZkStep::Masks
+    );
 }
