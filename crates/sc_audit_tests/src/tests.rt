@@ -20,7 +20,7 @@ use sc_audit::{AuditError, Grid, Job, Mode, Report, Strategy, Verdict, audit};
 use sc_challenger::{Challenger, Event, ScriptedChallenger};
 use sc_constraints::{Constraint, EqStatement, NextStatement, SelectStatement, Statements};
 use sc_definitions::Event::{Draw, Test, Word};
-use sc_field::Field;
+use sc_field::{ExtensionField, Field};
 use sc_rounds::SumcheckData;
 use sc_table::{Basis, Point, RoundMessage, VariableOrder};
 use sc_tests_common::{are_pairs, have_numbers, of};
@@ -377,7 +377,12 @@ fn are_grids<F: Field>(grids: &[Grid<F>], wanted: &[Lists]) -> bool {
 }
 
 // Asserts that a report has these figures.
-fn assert_figures<F: Field, A: Abort>(rt: &A, report: &Report<F, F>, wanted: &Figures, name: &str) {
+fn assert_figures<F: Field, EF: ExtensionField<F>, A: Abort>(
+    rt: &A,
+    report: &Report<F, EF>,
+    wanted: &Figures,
+    name: &str,
+) {
     let values = (
         report.claim.index(),
         report.residual.index(),
@@ -386,30 +391,26 @@ fn assert_figures<F: Field, A: Abort>(rt: &A, report: &Report<F, F>, wanted: &Fi
     );
     let figures = (wanted.claim, wanted.residual, wanted.eval, wanted.weight);
     assert!(rt; values == figures, "{name}: claim, residual, eval, weight");
-    let are_lists = (
-        are_pairs(report.rounds.polynomial_evaluations(), wanted.rounds),
-        have_numbers(&report.rounds.pow_witnesses, wanted.witnesses),
-        have_numbers(report.challenges.as_slice(), wanted.challenges),
-        is_verdict(&report.verdict, &wanted.finding),
-    );
-    assert!(rt;
-        are_lists == (true, true, true, true),
-        "{name}: rounds, witnesses, challenges, verdict"
-    );
+    let are_lists = are_pairs(report.rounds.polynomial_evaluations(), wanted.rounds)
+        && have_numbers(&report.rounds.pow_witnesses, wanted.witnesses)
+        && have_numbers(report.challenges.as_slice(), wanted.challenges)
+        && is_verdict(&report.verdict, &wanted.finding);
+    assert!(rt; are_lists, "{name}: rounds, witnesses, challenges, verdict");
 }
 
-// Asserts that an answer is a case's.
-fn assert_answer<F: Field, A: Abort>(
+// Asserts that an answer is as wanted, with these grids in a report.
+fn assert_answer<F: Field, EF: ExtensionField<F>, A: Abort>(
     rt: &A,
-    answer: &Result<Report<F, F>, AuditError>,
-    case: &Case,
+    answer: &Result<Report<F, EF>, AuditError>,
+    wanted: &Result<Figures, AuditError>,
+    grids: &[Lists],
+    name: &str,
 ) {
-    let name = case.name;
-    match (answer, &case.answer) {
+    match (answer, wanted) {
         (Ok(report), Ok(figures)) => {
             assert_figures(rt, report, figures, name);
-            let grids = report.grids.rounds.as_slice();
-            assert!(rt; are_grids(grids, case.grids), "{name}: grids");
+            let found = report.grids.rounds.as_slice();
+            assert!(rt; are_grids(found, grids), "{name}: grids");
         }
         (Err(error), Err(refusal)) => assert!(rt; error == refusal, "{name}"),
         (Ok(_), Err(_)) => panic!(rt; "{name}: a report"),
@@ -425,17 +426,34 @@ fn push_digits<A: Abort>(rt: &A, events: &mut Vec<Event>, digits: &str) {
     }
 }
 
-// Asserts that these events are the history that a case ends with.
-fn assert_history<R: Abort + AllocGlobal>(rt: &R, events: &[Event], case: &Case) {
-    let mut wanted = Vec::from_slice(rt.alloc(), case.past).expect(rt, "a history");
-    for digits in case.seed {
+// Asserts that these events are a past, the words of a seed, and events after them.
+fn assert_history<R: Abort + AllocGlobal>(
+    rt: &R,
+    events: &[Event],
+    past: &[Event],
+    seed: &[&str],
+    after: &[Event],
+    name: &str,
+) {
+    let mut wanted = Vec::from_slice(rt.alloc(), past).expect(rt, "a history");
+    for digits in seed {
         push_digits(rt, &mut wanted, *digits);
     }
-    for event in case.events {
+    for event in after {
         wanted.push(*event).expect(rt, "an event");
     }
-    let name = case.name;
     assert!(rt; events == wanted.as_slice(), "{name}: history");
+}
+
+// Asserts that an answer, and the history after it, are those of a case.
+fn assert_case<F: Field, R: Abort + AllocGlobal>(
+    rt: &R,
+    answer: &Result<Report<F, F>, AuditError>,
+    events: &[Event],
+    case: &Case,
+) {
+    assert_answer(rt, answer, &case.answer, case.grids, case.name);
+    assert_history(rt, events, case.past, case.seed, case.events, case.name);
 }
 
 // Asserts that a job is answered as a case says, and the history that it leaves.
@@ -447,8 +465,7 @@ fn assert_audit<F: Field, R: Abort + AllocGlobal>(
 ) {
     let mut challenger = challenger;
     let answer = audit::<F, F, F, ScriptedChallenger<F>>(rt.alloc(), job, &mut challenger);
-    assert_answer(rt, &answer, case);
-    assert_history(rt, challenger.events(), case);
+    assert_case(rt, &answer, challenger.events(), case);
 }
 
 // Asserts the same of each case's own job and challenger.

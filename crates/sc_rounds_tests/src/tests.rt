@@ -27,7 +27,7 @@ const ONE_ROUND: usize = 248;
 type Pair = (u64, u64);
 
 // The table of these four values.
-fn table(alloc: Global, values: &[u64]) -> Result<Poly<F65537>, NoMemory>
+fn table<F: Field>(alloc: Global, values: &[u64]) -> Result<Poly<F>, NoMemory>
     requires { length values.now ≡ 4 }
     ensures { IfOk result (λ p. variables_of p ≡ 2) }
 {

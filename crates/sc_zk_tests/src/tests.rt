@@ -1,6 +1,7 @@
-//! Masked rounds: shapes and drivers, provers and replays, views, simulators, and claims that are
-//! recorded.
+//! Masked rounds: commitments, shapes and drivers, provers and replays, views, simulators, and
+//! claims that are recorded.
 mod claims;
+mod commitments;
 mod rounds;
 mod simulators;
 mod transcripts;

@@ -3,9 +3,7 @@
 use super::reports::{HANDED_IN, REPRESENTED_TESTED, SMALL, SMALL_SUFFIX, SMALL_TESTED, SUFFIX};
 use super::seventeen::F17;
 use super::successors::MIXED_SMALL;
-use super::{
-    Case, Claim, Last, PREFIX, Task, assert_answer, assert_audit, assert_history, challenger, job,
-};
+use super::{Case, Claim, Last, PREFIX, Task, assert_audit, assert_case, challenger, job};
 use sc_audit::{AuditError, FitFault, Job, ShapeFault, Strategy, audit_true};
 use sc_challenger::ScriptedChallenger;
 use sc_constraints::{StatementList, Statements};
@@ -167,8 +165,7 @@ fn assert_stated<F: Field, R: Abort + AllocGlobal>(rt: &R, all: &[Stated]) {
         let mut job = job::<F, R>(rt, case);
         let mut first = challenger::<F, R>(rt, case);
         let answer = audit_true::<F, F, F, ScriptedChallenger<F>>(rt.alloc(), &mut job, &mut first);
-        assert_answer(rt, &answer, case);
-        assert_history(rt, first.events(), case);
+        assert_case(rt, &answer, first.events(), case);
         assert_claims(rt, &job, stated);
         assert_audit::<F, R>(rt, case, &job, challenger(rt, case));
     }

@@ -4,6 +4,7 @@
 ghost use Rattle.std.specs.Prelude.{◌≡◌, ◌≤◌, IfOk, length};
 ghost use Rattle.sc_table.specs.Polys.{variables_of};
 
+use super::{Pair, Standing, are_standing, table};
 use sc_challenger::{Challenger, ScriptedChallenger};
 use sc_field::{Field, NoMemory};
 use sc_rounds::{
@@ -18,17 +19,6 @@ type Prover = ReprSumcheckProver<Tower16, Tower16, Poly16>;
 
 // The data of a proof over the elements.
 type Data = SumcheckData<Tower16, Tower16>;
-
-// The two values that a round sends.
-type Pair = (u64, u64);
-
-// The table of these four values.
-fn table(alloc: Global, values: &[u64]) -> Result<Poly<Tower16>, NoMemory>
-    requires { length values.now ≡ 4 }
-    ensures { IfOk result (λ p. variables_of p ≡ 2) }
-{
-    Ok(Poly::new(elements(alloc, values)?))
-}
 
 // A challenger that draws 2 and 4, and of whose tests each is passed by the next of these elements
 // alone.
@@ -47,14 +37,6 @@ fn weights<F: Field>(alloc: Global, coords: &[u64]) -> Result<Poly<F>, NoMemory>
 {
     let point: Vec<F> = elements(alloc, coords)?;
     Poly::new_from_point(alloc, &point, F::ONE)
-}
-
-// Two tables of images of as many variables, and their sum as an element.
-struct Standing {
-    variables: usize,
-    evals: &'static [u64],
-    weights: &'static [u64],
-    sum: u64,
 }
 
 // Two batches of one round each: the order, the point of the weights, the messages, and the
@@ -139,16 +121,12 @@ fn is_data(data: &Data, messages: &[Pair], witnesses: &[u64]) -> bool {
         && have_numbers(&data.pow_witnesses, witnesses)
 }
 
-// Whether a prover's tables and its claim stand so.
+// Whether a prover's tables, which are images, and its claim, which is an element, stand so.
 fn stands(alloc: Global, prover: &mut Prover, wanted: &Standing) -> Result<bool, NoMemory> {
     let evals = prover.evals(alloc)?;
     let weights = prover.weights(alloc)?;
-    Ok(
-        prover.num_variables() == wanted.variables
-            && prover.claimed_sum().index() == wanted.sum
-            && have_numbers(evals.as_slice(), wanted.evals)
-            && have_numbers(weights.as_slice(), wanted.weights),
-    )
+    let sum = prover.claimed_sum().index();
+    Ok(are_standing(&evals, &weights, sum, wanted) && prover.num_variables() == wanted.variables)
 }
 
 static BATCHES: [Batches; 4] = [

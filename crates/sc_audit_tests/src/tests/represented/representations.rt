@@ -1,5 +1,6 @@
 //! Rounds that are built on a representation, without one and on small values, with figures from a script that is no part of this.
-use super::{BASIS, CHALLENGE_OF_TWO, Case, Figures, HEAD, TWO_ROUNDS, VALUES_OF_TWO, assert_over};
+use super::super::{BASIS, Figures, Finding, HEAD, TWO_ROUNDS};
+use super::{CHALLENGE_OF_TWO, Case, VALUES_OF_TWO, assert_over};
 use sc_audit::laws::build_laws;
 use sc_audit::{AuditError, Strategy};
 use sc_definitions::Event::{Draw, Word};
@@ -24,7 +25,7 @@ const SIXTEEN: Case = Case {
         residual: 1,
         eval: 5,
         weight: 12,
-        holds: true,
+        finding: Finding::Holds,
     }),
     grids: &[],
     seed: &TWO_ROUNDS,
@@ -42,7 +43,7 @@ const SIXTEEN_SUFFIX: Case = Case {
         residual: 5,
         eval: 3,
         weight: 10,
-        holds: true,
+        finding: Finding::Holds,
     }),
     events: &[Word(0), Word(3), Draw, Word(0), Word(15), Draw],
     ..SIXTEEN
@@ -134,7 +135,7 @@ const PAIRS: Case = Case {
         residual: 2848,
         eval: 260,
         weight: 519,
-        holds: true,
+        finding: Finding::Holds,
     }),
     grids: &[],
     seed: &ONE_ROUND_OF_TWO,
@@ -156,7 +157,7 @@ const PAIRS_SUFFIX: Case = Case {
         residual: 62305,
         eval: 43129,
         weight: 63758,
-        holds: true,
+        finding: Finding::Holds,
     }),
     seed: &TWO_ROUNDS_OF_TWO,
     events: &[

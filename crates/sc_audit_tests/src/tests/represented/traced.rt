@@ -6,7 +6,8 @@
 //!
 //! The counts can't tell tables that are folded anew, from the first ones on, before each round, from tables that are folded once more.
 
-use super::{Case, Figures, TWO_ROUNDS, assert_case};
+use super::super::{Figures, Finding, TWO_ROUNDS};
+use super::{Case, assert_case};
 use sc_audit::Strategy;
 use sc_definitions::Event::{Draw, Word};
 use sc_field::Field;
@@ -32,7 +33,7 @@ const PLAIN: Case = Case {
         residual: 3312,
         eval: 23,
         weight: 144,
-        holds: true,
+        finding: Finding::Holds,
     }),
     grids: &[],
     seed: &TWO_ROUNDS,

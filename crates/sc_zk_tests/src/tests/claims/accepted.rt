@@ -3,7 +3,7 @@
 ghost use Rattle.std.specs.Prelude.{◌≡◌, IfOk};
 ghost use Rattle.sc_table.specs.Polys.{variables_of};
 
-use super::request;
+use super::{record, request};
 use rand_chacha::ChaCha8Rng;
 use rand_core::SeedableRng;
 use sc_challenger::{Event, ScriptedChallenger};
@@ -30,29 +30,13 @@ fn two(alloc: Global) -> Result<Poly<F65537>, NoMemory>
     Ok(Poly::new(elements(alloc, &[1, 2])?))
 }
 
+// The openings of the table: 4 at 3, and 2 through the successor map there; 5 at 4.
+const OPENED: (u64, u64, u64) = (4, 2, 5);
+
 // A challenger that draws the points 3 and 4, the batching challenge 10, the combination 31, and
 // the challenge of the round, 2.
 fn challenger<A: Abort>(rt: &A, alloc: Global) -> ScriptedChallenger<F65537> {
     scripted::<F65537>(alloc, &[3, 4, 10, 31, 2], &[]).expect(rt, "a challenger")
-}
-
-// Records the openings of the table: 4 at 3, and 2 through the successor map there; 5 at 4.
-fn record<A: Abort>(
-    rt: &A,
-    alloc: Global,
-    verifier: &mut ZkVerifier<F65537, F65537>,
-    challenger: &mut ScriptedChallenger<F65537>,
-) {
-    let asked = request(alloc).expect(rt, "a request");
-    let current = elements(alloc, &[4]).expect(rt, "a value");
-    let next = elements(alloc, &[2]).expect(rt, "a value");
-    let came = OpeningEvals::new(current, next);
-    verifier
-        .add_claim(0, &asked, &came, challenger)
-        .expect(rt, "a claim");
-    verifier
-        .add_virtual_eval(of(5), challenger)
-        .expect(rt, "a claim");
 }
 
 // Plays the round of all three openings, whose batch under 10 is 524, and replays it. The batched
@@ -77,7 +61,7 @@ fn assert_played<A: Abort, L: Layout<F65537, F65537>>(
     let value = prover.add_virtual_eval(&mut ours).expect(rt, "a value");
     assert!(rt; value.index() == 5);
     let mut verifier = verifier;
-    record(rt, alloc, &mut verifier, &mut theirs);
+    record(rt, alloc, &mut verifier, &mut theirs, OPENED);
     assert!(rt; verifier.sum(of(10)).index() == 524);
     ZkSumcheckShape::new_batching(prover.folding(), 4, 0)
         .validate::<F65537>()
@@ -198,7 +182,7 @@ fn a_misshapen_claim_is_refused(rt: HostRuntime) {
             && theirs.events().len() == 0
             && verifier.sum(of(10)).index() == 0
     );
-    record(&rt, alloc, &mut verifier, &mut theirs);
+    record(&rt, alloc, &mut verifier, &mut theirs, OPENED);
     let events = [
         Event::Draw,
         Event::Word(4),

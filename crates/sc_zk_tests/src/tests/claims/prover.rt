@@ -3,7 +3,7 @@
 ghost use Rattle.std.specs.Prelude.{◌≡◌, ◌≤◌, IfOk};
 ghost use Rattle.sc_table.specs.Polys.{variables_of};
 
-use super::request;
+use super::{record, request};
 use rand_chacha::ChaCha8Rng;
 use rand_core::SeedableRng;
 use sc_challenger::ScriptedChallenger;
@@ -14,8 +14,8 @@ use sc_small_fields::F65537;
 use sc_table::{Point, Poly};
 use sc_tests_common::{elements, have_numbers, of, scripted};
 use sc_zk::{
-    MaskedRun, NodeCode, OpeningEvals, PrefixProver, Sha2Mmcs, SuffixProver, TableShape, ZkLayout,
-    ZkProver, ZkSumcheckData, ZkSumcheckHandoff, ZkSumcheckShape, ZkVerifier, ZkVerifierHandoff,
+    MaskedRun, NodeCode, PrefixProver, Sha2Mmcs, SuffixProver, TableShape, ZkLayout, ZkProver,
+    ZkSumcheckData, ZkSumcheckHandoff, ZkSumcheckShape, ZkVerifier, ZkVerifierHandoff,
     layout_in_step, mask_residual,
 };
 use std::alloc::Global;
@@ -44,8 +44,11 @@ fn challenger<A: Abort>(rt: &A, alloc: Global) -> ScriptedChallenger<F65537> {
     scripted::<F65537>(alloc, &[3, 4, 5, 6, 10, 31, 2, 7], &[]).expect(rt, "a challenger")
 }
 
-// Opens a layout: at (3, 4) the value is 23, and 3 through the successor map; at (5, 6) it is 47.
-// Its masked rounds are then played: what they hand on, and their data.
+// Of a layout the value at (3, 4) is 23, and 3 through the successor map; at (5, 6) it is 47.
+const OPENED: (u64, u64, u64) = (23, 3, 47);
+
+// Opens a layout at these points. Its masked rounds are then played: what they hand on, and their
+// data.
 fn played<A: Abort, L: Layout<F65537, F65537>>(
     rt: &A,
     alloc: Global,
@@ -69,25 +72,6 @@ fn played<A: Abort, L: Layout<F65537, F65537>>(
     (answer.expect(rt, "an answer"), data)
 }
 
-// Records these openings.
-fn record<A: Abort>(
-    rt: &A,
-    alloc: Global,
-    verifier: &mut ZkVerifier<F65537, F65537>,
-    challenger: &mut ScriptedChallenger<F65537>,
-) {
-    let asked = request(alloc).expect(rt, "a request");
-    let current = elements(alloc, &[23]).expect(rt, "a value");
-    let next = elements(alloc, &[3]).expect(rt, "a value");
-    let came = OpeningEvals::new(current, next);
-    verifier
-        .add_claim(0, &asked, &came, challenger)
-        .expect(rt, "a claim");
-    verifier
-        .add_virtual_eval(of(47), challenger)
-        .expect(rt, "a claim");
-}
-
 // What a verifier of these openings leaves of these rounds.
 fn replayed<A: Abort>(
     rt: &A,
@@ -99,7 +83,7 @@ fn replayed<A: Abort>(
     challenger: &mut ScriptedChallenger<F65537>,
 ) -> ZkVerifierHandoff<F65537> {
     let mut verifier = verifier;
-    record(rt, alloc, &mut verifier, challenger);
+    record(rt, alloc, &mut verifier, challenger, OPENED);
     let (mmcs, commitment) = (Sha2Mmcs::new(), &handed.mask_oracle.0);
     verifier
         .into_sumcheck(alloc, &mmcs, data, commitment, 4, folding, 0, challenger)
@@ -230,7 +214,7 @@ fn stepped<A: Abort, L: Layout<F65537, F65537>>(
     prover.eval(0, &asked, &mut ours).expect(rt, "values");
     prover.add_virtual_eval(&mut ours).expect(rt, "a value");
     let mut verifier = verifier;
-    record(rt, alloc, &mut verifier, &mut challenger(rt, alloc));
+    record(rt, alloc, &mut verifier, &mut challenger(rt, alloc), OPENED);
     assert!(rt; prover.mask_length() == 4);
     ZkSumcheckShape::new_batching(prover.folding(), 4, 0)
         .validate::<F65537>()

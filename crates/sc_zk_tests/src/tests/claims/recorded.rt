@@ -1,7 +1,7 @@
 //! A verifier that records openings, and the replay of masked rounds of all of them, by figures by
 //! hand.
 
-use super::request;
+use super::record;
 use rand_chacha::ChaCha8Rng;
 use rand_core::SeedableRng;
 use sc_challenger::{Event, ScriptedChallenger};
@@ -11,8 +11,8 @@ use sc_table::VariableOrder;
 use sc_tests_common::{elements, have_numbers, of, scripted};
 use sc_transcript::SumcheckError;
 use sc_zk::{
-    NodeCode, OpeningEvals, Sha2Mmcs, TableShape, ZkSumcheckData, ZkSumcheckShape, ZkVerifier,
-    ZkVerifierHandoff, recorded_simulation_in_step, simulate_classic_unpacked,
+    NodeCode, Sha2Mmcs, TableShape, ZkSumcheckData, ZkSumcheckShape, ZkVerifier, ZkVerifierHandoff,
+    recorded_simulation_in_step, simulate_classic_unpacked,
 };
 use std::alloc::Global;
 use std::process::Abort;
@@ -28,23 +28,14 @@ fn suffix(alloc: Global) -> ZkVerifier<F65537, F65537> {
 
 // The openings of the table 1, 2, as they come: at 3 the value 4, and 2 through the successor map
 // there; at 4 the value 5. The challenger is going to draw 10, 31 and 2.
-fn record<A: Abort>(
+fn opened<A: Abort>(
     rt: &A,
     alloc: Global,
     verifier: &mut ZkVerifier<F65537, F65537>,
 ) -> ScriptedChallenger<F65537> {
     let draws = [3, 4, 10, 31, 2];
     let mut challenger = scripted::<F65537>(alloc, &draws, &[]).expect(rt, "a challenger");
-    let asked = request(alloc).expect(rt, "a request");
-    let current = elements(alloc, &[4]).expect(rt, "a value");
-    let next = elements(alloc, &[2]).expect(rt, "a value");
-    let came = OpeningEvals::new(current, next);
-    verifier
-        .add_claim(0, &asked, &came, &mut challenger)
-        .expect(rt, "a claim");
-    verifier
-        .add_virtual_eval(of(5), &mut challenger)
-        .expect(rt, "a claim");
+    record(rt, alloc, verifier, &mut challenger, (4, 2, 5));
     challenger
 }
 
@@ -56,8 +47,8 @@ fn assert_accepted<A: Abort>(
     second: ZkVerifier<F65537, F65537>,
 ) {
     let (mut first, mut second) = (first, second);
-    let mut simulator = record(rt, alloc, &mut first);
-    let mut challenger = record(rt, alloc, &mut second);
+    let mut simulator = opened(rt, alloc, &mut first);
+    let mut challenger = opened(rt, alloc, &mut second);
     // 4 + 10 2 + 100 5
     assert!(rt; second.sum(of(10)).index() == 524);
     ZkSumcheckShape::new_batching(1, 4, 0)
@@ -102,7 +93,7 @@ fn what_is_simulated_is_accepted(rt: HostRuntime) {
 fn a_simulator_stays_in_step(rt: HostRuntime) {
     let alloc = rt.alloc();
     let mut verifier = prefix(alloc);
-    let mut challenger = record(&rt, alloc, &mut verifier);
+    let mut challenger = opened(&rt, alloc, &mut verifier);
     ZkSumcheckShape::new_batching(1, 4, 0)
         .validate::<F65537>()
         .expect(&rt, "a shape");
@@ -154,7 +145,7 @@ fn replayed<A: Abort>(
         data.round_coefficients.push(values).expect(rt, "room");
     }
     let mut verifier = suffix(alloc);
-    let mut challenger = record(rt, alloc, &mut verifier);
+    let mut challenger = opened(rt, alloc, &mut verifier);
     let mmcs = Sha2Mmcs::new();
     let commitment = [0; 32];
     let answer = verifier.into_sumcheck(alloc, &mmcs, &data, &commitment, 4, 1, 0, &mut challenger);

@@ -1,6 +1,0 @@
-//! The tests of `sc_commitments`, in a crate of their own, since a check of tests proves all that
-//! stands beside them once more.
-#![tactic(auto)]
-
-#[cfg(test)]
-mod tests;
