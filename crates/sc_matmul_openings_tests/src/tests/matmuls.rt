@@ -2,12 +2,12 @@
 mod figures;
 mod texts;
 
+use super::rounds_of;
 use figures::{CHECKED, IN_PARTS, PLAYED, REFUSED};
 use sc_challenger::{Challenger, Event};
 use sc_field::{ExtensionField, Field, NoMemory};
-use sc_matmul::{MatmulError, MatmulReport, MatmulVerdict, Matrix, SumcheckData, audit_matmul};
+use sc_matmul::{MatmulError, MatmulReport, MatmulVerdict, Matrix, audit_matmul};
 use sc_small_fields::{F257, F257x2, F65537};
-use sc_table::RoundMessage;
 use sc_tests_common::{are_pairs, elements, have_numbers, of, scripted};
 use std::alloc::Global;
 use std::process::Abort;
@@ -84,23 +84,6 @@ fn filled<F: Field>(
     Ok(Matrix::new(rows, cols, values))
 }
 
-fn data<F: Field, EF: ExtensionField<F>>(
-    alloc: Global,
-    proof: &Proof,
-) -> Result<SumcheckData<F, EF>, NoMemory> {
-    let mut polynomial_evaluations = Vec::new(alloc);
-    for (c_a, c_inf) in proof.rounds {
-        polynomial_evaluations.push(RoundMessage {
-            c_a: of(*c_a),
-            c_inf: of(*c_inf),
-        })?;
-    }
-    Ok(SumcheckData {
-        polynomial_evaluations,
-        pow_witnesses: elements(alloc, proof.witnesses)?,
-    })
-}
-
 // The answer to a case.
 fn answered<F: Field, EF: ExtensionField<F>, C: Challenger<F>>(
     alloc: Global,
@@ -112,7 +95,7 @@ fn answered<F: Field, EF: ExtensionField<F>, C: Challenger<F>>(
     let claimed = matrix(alloc, &case.claimed)?;
     let proof = match &case.proof {
         None => None,
-        Some(proof) => Some(data(alloc, proof)?),
+        Some(proof) => Some(rounds_of(alloc, proof.rounds, proof.witnesses)?),
     };
     audit_matmul(
         alloc,

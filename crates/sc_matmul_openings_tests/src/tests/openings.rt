@@ -6,6 +6,7 @@ mod many;
 mod refused;
 mod texts;
 
+use super::rounds_of;
 use checked::CHECKED;
 use fields::{HASHED, HASHED_IN_PARTS, IN_PARTS, OF_SIXTEEN};
 use figures::PLAYED;
@@ -13,11 +14,10 @@ use refused::REFUSED;
 use sc_challenger::{Challenger, Event, HashChallenger};
 use sc_field::{ExtensionField, Field, NoMemory};
 use sc_openings::{
-    MergeError, MergeProof, MergeReport, MergeVerdict, OpeningClaim, SumcheckData, audit_openings,
+    MergeError, MergeProof, MergeReport, MergeVerdict, OpeningClaim, audit_openings,
 };
 use sc_sixteen::Tower16;
 use sc_small_fields::{F257, F257x2, F65537};
-use sc_table::RoundMessage;
 use sc_tests_common::{are_pairs, elements, have_numbers, of, point, scripted};
 use std::alloc::Global;
 use std::process::Abort;
@@ -103,19 +103,8 @@ fn made_proof<F: Field, EF: ExtensionField<F>>(
     alloc: Global,
     proof: &Proof,
 ) -> Result<MergeProof<F, EF>, NoMemory> {
-    let mut polynomial_evaluations = Vec::new(alloc);
-    for (c_a, c_inf) in proof.rounds {
-        polynomial_evaluations.push(RoundMessage {
-            c_a: of(*c_a),
-            c_inf: of(*c_inf),
-        })?;
-    }
-    let pow_witnesses = elements(alloc, proof.witnesses)?;
     Ok(MergeProof {
-        rounds: SumcheckData {
-            polynomial_evaluations,
-            pow_witnesses,
-        },
+        rounds: rounds_of(alloc, proof.rounds, proof.witnesses)?,
         openings: elements(alloc, proof.openings)?,
     })
 }

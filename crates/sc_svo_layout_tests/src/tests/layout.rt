@@ -7,6 +7,7 @@ mod batches;
 mod claims;
 mod verifier;
 
+use super::four;
 use sc_challenger::{Challenger, Event, ScriptedChallenger};
 use sc_field::{ExtensionField, Field, NoMemory};
 use sc_layout::{
@@ -46,13 +47,6 @@ pub(crate) fn two(alloc: Global) -> Result<Poly<F65537>, NoMemory>
     ensures { IfOk result (λ p. variables_of p ≡ 1) }
 {
     Ok(Poly::new(elements(alloc, &[1, 2])?))
-}
-
-// The table 1, 2, 3, 4.
-pub(crate) fn four(alloc: Global) -> Result<Poly<F65537>, NoMemory>
-    ensures { IfOk result (λ p. variables_of p ≡ 2) }
-{
-    Ok(Poly::new(elements(alloc, &[1, 2, 3, 4])?))
 }
 
 pub(crate) fn are(evals: &OpeningEvals<F65537>, current: &[u64], next: &[u64]) -> bool {

@@ -1,7 +1,6 @@
 //! Figures by hand over the integers modulo 65537, of the table 1, 2, 3, 4.
 
 ghost use Rattle.std.specs.Prelude.{◌≡◌, ◌≤◌, length, IfOk};
-ghost use Rattle.sc_table.specs.Polys.{variables_of};
 ghost use Rattle.sc_table.specs.Strategy.{order_of};
 ghost use Rattle.sc_svo.specs.Batches.{batch_in};
 ghost use Rattle.sc_svo.specs.Points.{point_in, near_in, order_in};
@@ -11,20 +10,14 @@ mod grids;
 mod rounds;
 mod successors;
 
+use super::four;
 use VariableOrder::{Prefix, Suffix};
 use sc_field::{Field, NoMemory};
 use sc_small_fields::F65537;
 use sc_svo::{EqPartials, EqSvoPartials, Grids, SvoBatch, SvoClaim, SvoPoint};
-use sc_table::{Poly, VariableOrder};
-use sc_tests_common::{are_pairs, elements, have_numbers, of, point};
+use sc_table::VariableOrder;
+use sc_tests_common::{are_pairs, have_numbers, of, point};
 use std::alloc::Global;
-
-// The table 1, 2, 3, 4.
-fn four(alloc: Global) -> Result<Poly<F65537>, NoMemory>
-    ensures { IfOk result (λ p. variables_of p ≡ 2) }
-{
-    Ok(Poly::new(elements(alloc, &[1, 2, 3, 4])?))
-}
 
 // ---- a batch
 

@@ -1,7 +1,8 @@
 //! What a claim tells of an opening: its point, its values, each with its column, and the partial
 //! sums that were made on the way to them; by figures by hand.
 
-use super::{four, request};
+use super::super::four;
+use super::request;
 use sc_field::{ExtensionField, Field};
 use sc_layout::{
     BindingOrder, Layout, OpeningEvals, PrefixFirst, ProverMultiClaim, SuffixFirst, TableProver,

@@ -10,7 +10,8 @@ ghost use Rattle.sc_table.specs.Polys.{variables_of, table_of};
 ghost use Rattle.sc_partials.specs.Partials.{IsPartial};
 ghost use Rattle.sc_svo.specs.Points.{point_in, near_in, order_in};
 
-use super::{are_grids, claim, four, point_in_parts};
+use super::super::four;
+use super::{are_grids, claim, point_in_parts};
 use VariableOrder::{Prefix, Suffix};
 use sc_field::{ExtensionField, Field, NoMemory};
 use sc_small_fields::{F257x2, F65537};

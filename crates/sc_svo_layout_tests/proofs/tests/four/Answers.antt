@@ -1,6 +1,6 @@
 use Rattle.std.proofs.Common.{◌∙◌, sym}
 use Rattle.sc_definitions.proofs.Lengths.{pow-same}
-use Rattle.sc_svo_layout_tests.proofs.tests.svo.four.Goals as goal
+use Rattle.sc_svo_layout_tests.proofs.tests.four.Goals as goal
 
 pub new-requires : goal.new-requires
 new-requires c = (2, c.in_ok-elements.ensures)
