@@ -17,6 +17,7 @@ use Rattle.sc_transcript.proofs.GivenRounds.{given_played, count_witnesses}
 use Rattle.sc_transcript.proofs.InStep.{all_pass}
 use Rattle.sc_soundness.specs.Merged.{honest_merged}
 use Rattle.sc_merge_definitions.specs.Openings.{OpeningsCase, OpeningsFigures, SentOpenings, merging_challenge, weighted_tables, openings_challenges, values_at, openings_figures, first_false_table_claim}
+use Rattle.sc_merge_definitions.proofs.GivenLaws.{both-none}
 use Rattle.sc_merged.specs.SameRows.{HaveSameRows}
 use Rattle.sc_merged.specs.MergedPlays.{MergedState, ArePlayed, StopAt, LeavesPlay, seeded}
 use Rattle.sc_merged.proofs.SameRowsLaws.{honest-same, built-same}
@@ -28,7 +29,7 @@ use Rattle.sc_openings.specs.OpeningsRounds.{rounds_start, openings_built, with_
 use Rattle.sc_openings.specs.OpeningsReports.{GivesResult, given_result, built_result, task_result, claim_fault}
 use Rattle.sc_openings.specs.OpeningsAudits.{IsAnswered, LeavesHistory}
 use Rattle.sc_openings.specs.OpeningsPlays.{refusal_by, AreBuilt, LeavesBuilt}
-use Rattle.sc_openings.proofs.ReplayLaws.{counts-none, openings-none, count-from, given-whole}
+use Rattle.sc_openings.proofs.ReplayLaws.{openings-none, count-from, given-whole}
 
 module _ (q : OpeningsCase) (ring : IsRing q.ops) where
   -- ---- what a play leaves
@@ -115,7 +116,8 @@ module _ (q : OpeningsCase) (ring : IsRing q.ops) where
         let opened : length came.openings ≡ length q.tables =
         ap length b.openings ∙ length-map (weighted_tables q) _ ∙ count-from q.ops (merging_challenge q) q.claims 0 q.tables in
         ap (λ t. or_later t (counts_fault q.variables q.channel.bits came.wire)) (openings-none (length q.tables) came.openings opened)
-        ∙ counts-none q.variables q.channel.bits came.wire (ap (λ (t : Wire). length t.messages) b.wire ∙ length-messages b.rounds ∙ b.count)
+        ∙ both-none (length came.wire.messages) q.variables (length came.wire.witnesses) (witness_count q.channel.bits q.variables) _ _
+        (ap (λ (t : Wire). length t.messages) b.wire ∙ length-messages b.rounds ∙ b.count)
         (ap (λ (t : Wire). length t.witnesses) b.wire ∙ count_witnesses q.channel.bits b.rounds ∙ ap (witness_count q.channel.bits) b.count)
 
     built_given : openings_given q came ≡ Ok (with_openings q b.rounds)

@@ -1,15 +1,14 @@
 -- What is answered of rounds and openings that are replayed, and what is left of the history.
-use Rattle.std.proofs.Common.{◌≡◌, inl, inr, ⊎_elim, ℕ, zero, suc, ◌^◌, ◌<◌, Bool, List, [], ◌∷◌, ◌++◌, length, map, if◌then◌else◌, Option, Some, None, Result, Ok, Err, refl, ap, sym, ◌∙◌, subst, arith, eq-eqb, ne_eqb}
+use Rattle.std.proofs.Common.{◌≡◌, inl, inr, ⊎_elim, ℕ, suc, ◌^◌, ◌<◌, Bool, List, [], ◌∷◌, ◌++◌, length, map, if◌then◌else◌, Option, Some, None, Result, Ok, Err, refl, ap, sym, ◌∙◌, subst, arith, eq-eqb}
 use Rattle.std.specs.Prelude.{◌==◌, ◌&&◌, nat_eq, IsErrAnd, Vec}
 use Rattle.std.specs.Global.{Global}
 use Rattle.std.specs.Cmp.Lexicographic.{pointwise}
-use Rattle.std.proofs.lemmas.Bool.{cases_eq}
 use Rattle.std.proofs.lemmas.List.{length-map, take_all}
 use Rattle.sc_definitions.specs.declared.events.Event.{Event}
 use Rattle.sc_definitions.specs.Ring.{Ops}
 use Rattle.sc_definitions.specs.Tables.{evaluation, entries, value}
 use Rattle.sc_definitions.specs.Rounds.{next_claim, claim_along}
-use Rattle.sc_definitions.specs.Transcript.{Round, messages_of, before_draw, sent}
+use Rattle.sc_definitions.specs.Transcript.{messages_of, before_draw, sent}
 use Rattle.sc_definitions.specs.Replays.{AllPass, given_rounds, round_passes}
 use Rattle.sc_definitions.specs.Events.{Rules}
 use Rattle.sc_definitions.specs.Channels.{Wire, VerifierState, verifier_state, channel, witnesses_of}
@@ -31,6 +30,7 @@ use Rattle.sc_soundness.specs.Merged.{WeightedTable}
 use Rattle.sc_soundness.specs.Stages.{stage_luck}
 use Rattle.sc_merge_definitions.specs.QuadraticPlays.{finding_where}
 use Rattle.sc_merge_definitions.specs.Openings.{OpeningsCase, OpeningsFigures, TableClaim, after_merging, after_openings, merging_claim, weighted_from, weighted_tables, openings_challenges, products_sum, values_at, weight_values_at, openings_stage, openings_match, openings_figures, first_false_table_claim}
+use Rattle.sc_merge_definitions.proofs.GivenLaws.{none-same, both-same, witnesses-given}
 use Rattle.sc_merged.specs.SameRows.{HaveSameRows}
 use Rattle.sc_openings.specs.declared.error.MergeError.{MergeError}
 use Rattle.sc_openings.specs.declared.error.MergeError.TheVariants as errors
@@ -43,62 +43,20 @@ use Rattle.sc_openings.specs.OpeningsPlays.{refusal_by}
 use Rattle.sc_openings.proofs.ShapeLaws.{none-first, none-later}
 use Rattle.sc_openings.proofs.ValueLaws.{table-is}
 
--- ---- counts
-
-module _ (n bits : ℕ) (w : Wire) where
-  few_witnesses : Option MergeError
-  few_witnesses = Some (errors.PowWitnessCountMismatch (witness_count bits n) (length w.witnesses))
-
-  other_rounds : Option MergeError
-  other_rounds = Some (errors.RoundCountMismatch n (length w.messages))
-
-  -- as many came as have to
-  pub counts-none : length w.messages ≡ n → length w.witnesses ≡ witness_count bits n → counts_fault n bits w ≡ None
-  unfolding few_witnesses other_rounds
-  counts-none rounds witnesses =
-      ap (λ b. if b then (if length w.witnesses == witness_count bits n then None else few_witnesses) else other_rounds) (eq-eqb _ _ rounds)
-      ∙ ap (λ b. if b then None else few_witnesses) (eq-eqb _ _ witnesses)
-
-  pub counts-witnesses : length w.messages ≡ n → (length w.witnesses ≡ witness_count bits n → ⊥) →
-      counts_fault n bits w ≡ Some (errors.PowWitnessCountMismatch (witness_count bits n) (length w.witnesses))
-  unfolding few_witnesses other_rounds
-  counts-witnesses rounds other =
-      ap (λ b. if b then (if length w.witnesses == witness_count bits n then None else few_witnesses) else other_rounds) (eq-eqb _ _ rounds)
-      ∙ ap (λ b. if b then None else few_witnesses) (ne_eqb _ _ other)
-
-  pub counts-rounds : (length w.messages ≡ n → ⊥) → counts_fault n bits w ≡ Some (errors.RoundCountMismatch n (length w.messages))
-  unfolding few_witnesses other_rounds
-  counts-rounds other =
-      ap (λ b. if b then (if length w.witnesses == witness_count bits n then None else few_witnesses) else other_rounds) (ne_eqb _ _ other)
-
-  -- where there is no fault they did
-  pub counted : counts_fault n bits w ≡ None → (length w.messages ≡ n) × (length w.witnesses ≡ witness_count bits n)
-  counted none = ⊎_elim
-      (λ rounds. ⊎_elim
-      (λ witnesses. (rounds, witnesses))
-      (λ other. let bad = sym (counts-witnesses rounds other) ∙ none in cc)
-      (cases_eq (length w.witnesses) (witness_count bits n)))
-      (λ other. let bad = sym (counts-rounds other) ∙ none in cc)
-      (cases_eq (length w.messages) n)
-
 -- ---- a proof that is as long as it has to be
-
-openings-so : (tables : ℕ) (openings : List ℕ) → openings_fault tables openings ≡ None → length openings ≡ tables
-openings-so tables openings none = ⊎_elim
-    (λ same. same)
-    (λ other. let bad : Some (errors.OpeningCount tables (length openings)) ≡ None =
-    sym (ap (λ b. if b then None else Some (errors.OpeningCount tables (length openings))) (ne_eqb _ _ other)) ∙ none in cc)
-    (cases_eq (length openings) tables)
 
 pub openings-none : (tables : ℕ) (openings : List ℕ) → length openings ≡ tables → openings_fault tables openings ≡ None
 openings-none tables openings same = ap (λ b. if b then None else Some (errors.OpeningCount tables (length openings))) (eq-eqb _ _ same)
 
 module _ (tables n bits : ℕ) (came : CameOpenings) (none : proof_fault tables n bits came ≡ None) where
   pub openings-counted : length came.openings ≡ tables
-  openings-counted = openings-so tables came.openings (none-first (openings_fault tables came.openings) (counts_fault n bits came.wire) none)
+  openings-counted =
+      none-same (length came.openings) tables (errors.OpeningCount tables (length came.openings))
+      (none-first (openings_fault tables came.openings) (counts_fault n bits came.wire) none)
 
   pub rounds-counted : (length came.wire.messages ≡ n) × (length came.wire.witnesses ≡ witness_count bits n)
-  rounds-counted = counted n bits came.wire (none-later (openings_fault tables came.openings) (counts_fault n bits came.wire) none)
+  rounds-counted =
+      both-same (length came.wire.messages) n (length came.wire.witnesses) (witness_count bits n) _ _ (none-later (openings_fault tables came.openings) (counts_fault n bits came.wire) none)
 
 -- ---- values at the challenges
 
@@ -191,28 +149,15 @@ module _ (q : OpeningsCase) (came : CameOpenings) where
     given-whole pass = given-by None (first_failing-none q.channel.rules q.channel.extension q.channel.bits (rounds_start q) (rounds_given came.wire) pass)
 
     -- the witnesses of the rounds are those that came
-    all_witnesses : (ms : List (List ℕ)) (ws : List ℕ) → length ws ≡ length ms → map (λ (r : Round). r.witness) (given_rounds ms ws) ≡ ws
-    all_witnesses [] [] e = refl
-    all_witnesses [] (x ∷ ws) e = absurd (omega (arith, e))
-    all_witnesses (m ∷ ms) [] e = absurd (omega (arith, e))
-    all_witnesses (m ∷ ms) (x ∷ ws) e = ap (λ t. x ∷ t) (all_witnesses ms ws (omega (arith, e)))
-
-    no_witnesses : (ws : List ℕ) → length ws ≡ 0 → ws ≡ []
-    no_witnesses [] e = refl
-    no_witnesses (x ∷ ws) e = absurd (omega (arith, e))
-
-    witnesses-given : (bits n : ℕ) → length came.wire.messages ≡ n → length came.wire.witnesses ≡ witness_count bits n → witnesses_of bits (rounds_given came.wire) ≡ came.wire.witnesses
-    witnesses-given zero n rounds witnesses = sym (no_witnesses came.wire.witnesses witnesses)
-    witnesses-given (suc bits) n rounds witnesses =
-        let count : length came.wire.witnesses ≡ n = witnesses ∙ ap (λ b. if b then 0 else n) (ne_eqb (suc bits) 0 (λ e. absurd (omega (arith, e)))) in
-        all_witnesses came.wire.messages came.wire.witnesses (count ∙ sym rounds)
+    same_witnesses : witnesses_of q.channel.bits (rounds_given came.wire) ≡ came.wire.witnesses
+    same_witnesses = witnesses-given q.channel.bits came.wire.messages came.wire.witnesses (witnesses_as ∙ ap (witness_count q.channel.bits) (sym rounds_as))
 
     -- the figures show them
     pub shown-rounds : given_rounds (openings_figures q (sent_given came)).messages (openings_figures q (sent_given came)).witnesses ≡ rounds_given came.wire
     unfolding openings_figures
     shown-rounds =
         ap (λ ms. given_rounds ms (witnesses_of q.channel.bits (rounds_given came.wire))) (messages-given_rounds came.wire.messages came.wire.witnesses)
-        ∙ ap (given_rounds came.wire.messages) (witnesses-given q.channel.bits q.variables rounds_as witnesses_as)
+        ∙ ap (given_rounds came.wire.messages) same_witnesses
 
     -- and the openings
     shown-openings : (openings_figures q (sent_given came)).openings ≡ came.openings
@@ -248,19 +193,13 @@ module _ (q : OpeningsCase) (came : CameOpenings) where
         (λ i. record {
           claim = claim_is i;
           messages = messages i;
-          witnesses = sym (witnesses-given q.channel.bits q.variables rounds_as witnesses_as) i;
+          witnesses = sym same_witnesses i;
           openings = came.openings;
           challenges = drawn i;
           residual = residual_at i;
           weights = weights_at i;
           finding = found i;
         })
-
-    -- there are as many challenges as variables
-    pub drawn-count : (rs : List ℕ) (end : VerifierState) → IsWalked replay_for.walk rs end → length rs ≡ q.variables
-    drawn-count rs end walked =
-        ap length walked.replays.drawn ∙ length-challenges q.channel.rules q.channel.extension q.channel.bits (rounds_start q) (rounds_given came.wire)
-        ∙ length-given_rounds came.wire.messages came.wire.witnesses ∙ rounds_as
 
     -- the residual
     pub residual-is : (rs : List ℕ) (end : VerifierState) → IsWalked replay_for.walk rs end →
@@ -340,10 +279,6 @@ module _ (q : OpeningsCase) (came : CameOpenings) where
           left.1;
     }
     refused-answered untouched e end kept left = absurd left.1
-
-  -- the challenge could not be drawn for want of memory
-  pub undrawn-answered : (h' : List Event) → h' ≡ q.history → IsAnswered q (Some came) (Err errors.NoMemory) h'
-  undrawn-answered h' is = record { result = inl refl; history = inl is }
 
 -- an error that is passed on
 pub passed_on : {F EF : Type 0} (base : F → ℕ) (number : EF → ℕ) (r : Result (MergeReport F EF) MergeError) (e : MergeError) → IsErrAnd r (λ x. x ≡ e) →

@@ -1,12 +1,13 @@
 -- The first refusal of a test, and tables and claims that fit.
-use Rattle.std.proofs.Common.{◌≡◌, ℕ, zero, suc, ◌+◌, ◌^◌, ◌<◌, ◌≤◌, Bool, true, false, All, List, [], ◌∷◌, length, map, drop, get_or, if◌then◌else◌, Option, Some, None, refl, sym, ◌∙◌, ap, subst, arith, eq-eqb, ne_eqb, eqb-true}
-use Rattle.std.specs.Prelude.{◌==◌, nat_lt, Vec}
+use Rattle.std.proofs.Common.{◌≡◌, ℕ, zero, suc, ◌+◌, ◌^◌, ◌<◌, ◌≤◌, Bool, true, false, All, List, [], ◌∷◌, length, map, drop, get_or, if◌then◌else◌, Option, Some, None, refl, sym, ◌∙◌, ap, subst, arith, eq-eqb, ne_eqb}
+use Rattle.std.specs.Prelude.{nat_lt, Vec}
 use Rattle.std.specs.Global.{Global}
 use Rattle.std.proofs.lemmas.Bool.{lt-ltb, ltb-true, le-ltb, ltb-false}
 use Rattle.std.proofs.lemmas.List.{length-map}
 use Rattle.sc_definitions.specs.Statements.{arity_of}
 use Rattle.sc_definitions.proofs.FindLaws.{drop-next, drop-none}
 use Rattle.sc_merge_definitions.specs.Openings.{TableClaim, claim_kind}
+use Rattle.sc_merge_definitions.proofs.GivenLaws.{none-passed, none-same}
 use Rattle.std.specs.declared.cmp.PartialEq.{Ghosts as PartialEqOf}
 use Rattle.sc_field.specs.declared.field.Field.{Ghosts as FieldOf}
 use Rattle.sc_field.specs.declared.algebra.Algebra.{Ghosts as AlgebraOf}
@@ -62,10 +63,7 @@ pub length-wrong : (n j len : ℕ) → (len ≡ 2 ^ n → ⊥) → length_fault 
 length-wrong n j len other = ap (λ b. if b then None else Some (TableLength j len)) (ne_eqb _ _ other)
 
 length-so : (n j len : ℕ) → length_fault n j len ≡ None → len ≡ 2 ^ n
-length-so n j len = by (len == 2 ^ n) refl where
-  by : (b : Bool) → (len == 2 ^ n) ≡ b → (if b then None else Some (TableLength j len)) ≡ None → len ≡ 2 ^ n
-  by true is none = eqb-true _ _ is
-  by false is none = cc
+length-so n j len = none-same len (2 ^ n) (TableLength j len)
 
 pub name-right : (tables c : ℕ) (claim : TableClaim) → claim.table < tables → name_fault tables c claim ≡ None
 name-right tables c claim low = ap (λ b. if b then None else Some (ClaimTable c claim.table)) (lt-ltb _ _ low)
@@ -74,10 +72,7 @@ pub name-wrong : (tables c : ℕ) (claim : TableClaim) → tables ≤ claim.tabl
 name-wrong tables c claim past = ap (λ b. if b then None else Some (ClaimTable c claim.table)) (le-ltb _ _ past)
 
 name-so : (tables c : ℕ) (claim : TableClaim) → name_fault tables c claim ≡ None → claim.table < tables
-name-so tables c claim = by (nat_lt claim.table tables) refl where
-  by : (b : Bool) → nat_lt claim.table tables ≡ b → (if b then None else Some (ClaimTable c claim.table)) ≡ None → claim.table < tables
-  by true is none = ltb-true _ _ is
-  by false is none = cc
+name-so tables c claim none = ltb-true _ _ (none-passed (nat_lt claim.table tables) (ClaimTable c claim.table) none)
 
 pub arity-right : (n c : ℕ) (claim : TableClaim) → arity_of n claim.statement.kind ≡ n → arity_fault n c claim ≡ None
 arity-right n c claim is = ap (λ b. if b then None else Some (ClaimArity c n (arity_of n claim.statement.kind))) (eq-eqb _ _ is)
@@ -86,10 +81,7 @@ pub arity-wrong : (n c : ℕ) (claim : TableClaim) → (arity_of n claim.stateme
 arity-wrong n c claim other = ap (λ b. if b then None else Some (ClaimArity c n (arity_of n claim.statement.kind))) (ne_eqb _ _ other)
 
 arity-so : (n c : ℕ) (claim : TableClaim) → arity_fault n c claim ≡ None → arity_of n claim.statement.kind ≡ n
-arity-so n c claim = by (arity_of n claim.statement.kind == n) refl where
-  by : (b : Bool) → (arity_of n claim.statement.kind == n) ≡ b → (if b then None else Some (ClaimArity c n (arity_of n claim.statement.kind))) ≡ None → arity_of n claim.statement.kind ≡ n
-  by true is none = eqb-true _ _ is
-  by false is none = cc
+arity-so n c claim = none-same (arity_of n claim.statement.kind) n (ClaimArity c n (arity_of n claim.statement.kind))
 
 -- the coordinates of a claim's point
 pub arity-kind : (n : ℕ) (next : Bool) (point : List ℕ) → arity_of n (claim_kind next point) ≡ length point

@@ -12,10 +12,11 @@ use Rattle.sc_definitions.specs.Tables.{prefix, entries, rows_of, sum_below, inn
 use Rattle.sc_definitions.specs.Statements.{successor, successor_weight, slot_weight, weight_of, true_value, is_true_of, claimed_values}
 use Rattle.sc_definitions.proofs.RingLaws.{plus_comm, plus-zero, times_comm, times-one, element-times}
 use Rattle.sc_definitions.proofs.Sums.{sum-same, sum-split, element-sum}
-use Rattle.sc_definitions.proofs.FindLaws.{take-next, drop-next, drop-none}
+use Rattle.sc_definitions.proofs.FindLaws.{take-next, drop-none}
 use Rattle.sc_field.specs.Products.{products}
 use Rattle.sc_field.proofs.EntryLaws.{entry-embedded}
 use Rattle.sc_soundness.specs.Differences.{Difference, first_difference}
+use Rattle.sc_merge_definitions.proofs.PlaceLaws.{both-next}
 use Rattle.sc_merge_definitions.specs.Openings.{TableClaim, OpeningsCase, statements_of, table_at, true_claim_value, first_false_table_claim, products_sum}
 use Rattle.sc_openings.specs.OpeningsJobs.{table_of_entries}
 use Rattle.sc_openings.specs.declared.claimed.ClaimedValues.{ClaimedValues}
@@ -85,62 +86,25 @@ weigh-is o ring number xs ys same = weigh-more o ring number xs ys same
 
 -- ---- lists that are compared one by one
 
-pub same-next : {X : Type 0} (number : X → ℕ) (i : ℕ) (xs ys : List X) (x y : X) → i < length xs → i < length ys → x ≡ get_or xs i x → y ≡ get_or ys i y → number x ≡ number y →
-    pointwise nat_eq (drop i (map number xs)) (drop i (map number ys)) ≡ pointwise nat_eq (drop (i + 1) (map number xs)) (drop (i + 1) (map number ys))
-same-next number i xs ys x y lx ly rx ry same =
-    ap (λ l. pointwise nat_eq l (drop i (map number ys))) (drop-next number xs i x lx rx)
-    ∙ ap (pointwise nat_eq (number x ∷ drop (i + 1) (map number xs))) (drop-next number ys i y ly ry)
-    ∙ ap (λ b. b && pointwise nat_eq (drop (i + 1) (map number xs)) (drop (i + 1) (map number ys))) (eq-eqb _ _ same)
+module _ {X : Type 0} (number : X → ℕ) (i : ℕ) (xs ys : List X) where
+  module _ {x y : X} (in_xs : i < length xs) (in_ys : i < length ys) (x_is : x ≡ get_or xs i x) (y_is : y ≡ get_or ys i y) where
+    pub same-next : number x ≡ number y →
+        pointwise nat_eq (drop i (map number xs)) (drop i (map number ys)) ≡ pointwise nat_eq (drop (i + 1) (map number xs)) (drop (i + 1) (map number ys))
+    same-next same =
+        both-next number i xs ys in_xs in_ys x_is y_is (pointwise nat_eq)
+        ∙ ap (λ b. b && pointwise nat_eq (drop (i + 1) (map number xs)) (drop (i + 1) (map number ys))) (eq-eqb _ _ same)
 
-pub same-other : {X : Type 0} (number : X → ℕ) (i : ℕ) (xs ys : List X) (x y : X) → i < length xs → i < length ys → x ≡ get_or xs i x → y ≡ get_or ys i y → (number x ≡ number y → ⊥) →
-    pointwise nat_eq (drop i (map number xs)) (drop i (map number ys)) ≡ false
-same-other number i xs ys x y lx ly rx ry other =
-    ap (λ l. pointwise nat_eq l (drop i (map number ys))) (drop-next number xs i x lx rx)
-    ∙ ap (pointwise nat_eq (number x ∷ drop (i + 1) (map number xs))) (drop-next number ys i y ly ry)
-    ∙ ap (λ b. b && pointwise nat_eq (drop (i + 1) (map number xs)) (drop (i + 1) (map number ys))) (ne_eqb _ _ other)
+    pub same-other : (number x ≡ number y → ⊥) → pointwise nat_eq (drop i (map number xs)) (drop i (map number ys)) ≡ false
+    same-other other =
+        both-next number i xs ys in_xs in_ys x_is y_is (pointwise nat_eq)
+        ∙ ap (λ b. b && pointwise nat_eq (drop (i + 1) (map number xs)) (drop (i + 1) (map number ys))) (ne_eqb _ _ other)
 
-pub same-end : {X : Type 0} (number : X → ℕ) (i : ℕ) (xs ys : List X) → length xs ≤ i → length ys ≤ i → pointwise nat_eq (drop i (map number xs)) (drop i (map number ys)) ≡ true
-same-end number i xs ys all too =
-    ap (λ l. pointwise nat_eq l (drop i (map number ys))) (drop-none (map number xs) i (omega (arith, length-map xs number, all)))
-    ∙ ap (pointwise nat_eq []) (drop-none (map number ys) i (omega (arith, length-map ys number, too)))
+  pub same-end : length xs ≤ i → length ys ≤ i → pointwise nat_eq (drop i (map number xs)) (drop i (map number ys)) ≡ true
+  same-end all too =
+      ap (λ l. pointwise nat_eq l (drop i (map number ys))) (drop-none (map number xs) i (omega (arith, length-map xs number, all)))
+      ∙ ap (pointwise nat_eq []) (drop-none (map number ys) i (omega (arith, length-map ys number, too)))
 
 -- ---- the first that is false
-
--- of the rest of two lists, whatever number the place has
-pub rest-same : {X : Type 0} (number : X → ℕ) (p i : ℕ) (xs ys : List X) (x y : X) → i < length xs → i < length ys → x ≡ get_or xs i x → y ≡ get_or ys i y → number x ≡ number y →
-    first_difference p (drop i (map number xs)) (drop i (map number ys)) ≡ first_difference (suc p) (drop (suc i) (map number xs)) (drop (suc i) (map number ys))
-unfolding first_difference
-rest-same number p i [] ys x y lx ly rx ry same = absurd (omega (arith, lx))
-rest-same number p i (a ∷ xs) [] x y lx ly rx ry same = absurd (omega (arith, ly))
-rest-same number p zero (a ∷ xs) (b ∷ ys) x y lx ly rx ry same =
-    ap (λ t. if t then first_difference (suc p) (map number xs) (map number ys) else Some (record { place = p; claimed = number a; actual = number b }))
-    (eq-eqb _ _ (ap number (sym rx) ∙ same ∙ ap number ry))
-rest-same number p (suc i) (a ∷ xs) (b ∷ ys) x y lx ly rx ry same = rest-same number p i xs ys x y (omega (arith, lx)) (omega (arith, ly)) rx ry same
-
-pub rest-other : {X : Type 0} (number : X → ℕ) (p i : ℕ) (xs ys : List X) (x y : X) → i < length xs → i < length ys → x ≡ get_or xs i x → y ≡ get_or ys i y → (number x ≡ number y → ⊥) →
-    first_difference p (drop i (map number xs)) (drop i (map number ys)) ≡ Some (record { place = p; claimed = number x; actual = number y })
-unfolding first_difference
-rest-other number p i [] ys x y lx ly rx ry other = absurd (omega (arith, lx))
-rest-other number p i (a ∷ xs) [] x y lx ly rx ry other = absurd (omega (arith, ly))
-rest-other number p zero (a ∷ xs) (b ∷ ys) x y lx ly rx ry other =
-    ap (λ t. if t then first_difference (suc p) (map number xs) (map number ys) else Some (record { place = p; claimed = number a; actual = number b }))
-    (ne_eqb _ _ (λ e. other (ap number rx ∙ e ∙ ap number (sym ry))))
-    ∙ ap (λ k. Some (record { place = p; claimed = k; actual = number b })) (ap number (sym rx))
-    ∙ ap (λ k. Some (record { place = p; claimed = number x; actual = k })) (ap number (sym ry))
-rest-other number p (suc i) (a ∷ xs) (b ∷ ys) x y lx ly rx ry other = rest-other number p i xs ys x y (omega (arith, lx)) (omega (arith, ly)) rx ry other
-
-none_right : (p : ℕ) (ns : List ℕ) → first_difference p ns [] ≡ None
-unfolding first_difference
-none_right p [] = refl
-none_right p (n ∷ ns) = refl
-
-pub rest-none : {X : Type 0} (number : X → ℕ) (p i : ℕ) (xs ys : List X) → length xs ≤ i → first_difference p (drop i (map number xs)) (drop i (map number ys)) ≡ None
-unfolding first_difference
-rest-none number p zero [] ys all = refl
-rest-none number p (suc i) [] ys all = refl
-rest-none number p zero (x ∷ xs) ys all = absurd (omega (arith, all))
-rest-none number p (suc i) (x ∷ xs) [] all = none_right p (drop i (map number xs))
-rest-none number p (suc i) (x ∷ xs) (y ∷ ys) all = rest-none number p i xs ys (omega (arith, all))
 
 -- the first false claim is where claimed and true values differ first
 pub claims-differ : (q : OpeningsCase) (i : ℕ) (cs : List TableClaim) →
@@ -169,10 +133,10 @@ back (Some c) = refl
 same-claim : (x y : Option FalseClaim) → option_map difference_of x ≡ option_map difference_of y → x ≡ y
 same-claim x y is = sym (back x) ∙ ap (option_map claim_of) is ∙ back y
 
-pub told-claim : {EF : Type 0} (q : OpeningsCase) (number : EF → ℕ) (values : ClaimedValues EF) (xs ys : List EF) (found : Option FalseClaim) → AreValues number q values →
+pub told-claim : {EF : Type 0} {q : OpeningsCase} {number : EF → ℕ} {values : ClaimedValues EF} {xs ys : List EF} {found : Option FalseClaim} → AreValues number q values →
     xs ≡ values.claimed.items → ys ≡ values.truths.items → option_map difference_of found ≡ first_difference 0 (map number xs) (map number ys) →
     found ≡ first_false_table_claim q 0 q.claims
-told-claim q number values xs ys found are claimed truths is =
+told-claim {q = q} {number = number} {ys = ys} {found = found} are claimed truths is =
     same-claim found (first_false_table_claim q 0 q.claims)
     (is ∙ ap (λ l. first_difference 0 l (map number ys)) (ap (map number) claimed ∙ are.claimed)
     ∙ ap (first_difference 0 (claimed_values (statements_of q.claims))) (ap (map number) truths ∙ are.truths) ∙ claims-differ q 0 q.claims)

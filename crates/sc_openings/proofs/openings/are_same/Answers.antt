@@ -8,14 +8,14 @@ returns-then-index g c =
     let i = c.loop-i.i in
     sym
     (c.loop-i.invariant
-    ∙ same-other g.EF.Field.number i c.args.values.now c.args.others.now c.index-values-i.result c.index-others-i.result c.loop-i-test.true
+    ∙ same-other g.EF.Field.number i c.args.values.now c.args.others.now c.loop-i-test.true
     (omega (arith, c.loop-i-test.true, c.requires)) c.index-values-i.is c.index-others-i.is (λ e. c.if-index.true (c.index.ensures ∙ e ∙ sym c.index-in-loop-i.ensures)))
 
 pub loop-i-preserved : goal.loop-i-preserved
 loop-i-preserved g c =
     let i = c.loop-i.i in
     c.loop-i.invariant
-    ∙ same-next g.EF.Field.number i c.args.values.now c.args.others.now c.index-values-i.result c.index-others-i.result c.loop-i-test.true
+    ∙ same-next g.EF.Field.number i c.args.values.now c.args.others.now c.loop-i-test.true
     (omega (arith, c.loop-i-test.true, c.requires)) c.index-values-i.is c.index-others-i.is (sym c.index.ensures ∙ c.if-index.false ∙ c.index-in-loop-i.ensures)
 
 pub returns : goal.returns
