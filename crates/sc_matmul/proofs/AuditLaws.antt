@@ -4,13 +4,17 @@ use Rattle.std.specs.Prelude.{nat_lt, ◌==◌, ◌||◌, ◌&&◌, IfOk}
 use Rattle.std.proofs.lemmas.List.{length-map}
 use Rattle.std.proofs.lemmas.List.Elements.{All-map}
 use Rattle.sc_definitions.specs.declared.events.Event.{Event}
-use Rattle.sc_definitions.specs.Ring.{Ops, IsField, IsRingMap}
+use Rattle.sc_definitions.specs.Ring.{IsField, IsRingMap}
 use Rattle.sc_definitions.specs.Tables.{evaluation, prefix}
 use Rattle.sc_definitions.specs.Rounds.{honest_message}
 use Rattle.sc_definitions.specs.Transcript.{Round}
 use Rattle.sc_definitions.specs.Channels.{Wire}
 use Rattle.sc_definitions.proofs.WitnessLaws.{IsBuiltOr, honest_rounds-built}
 use Rattle.sc_definitions.proofs.ReplayLaws.{length-given_rounds, messages-given_rounds}
+use Rattle.std.specs.declared.cmp.PartialEq.{Ghosts as PartialEqOf}
+use Rattle.sc_field.specs.declared.field.Field.{Ghosts as FieldOf}
+use Rattle.sc_field.specs.declared.algebra.Algebra.{Ghosts as AlgebraOf}
+use Rattle.sc_field.specs.declared.algebra.ExtensionField.{Ghosts as ExtensionOf}
 use Rattle.sc_challenger.specs.Parties.{Party}
 use Rattle.sc_transcript.specs.Data.{witness_count}
 use Rattle.sc_audit_errors.specs.Findings.{holds, lucky}
@@ -21,13 +25,14 @@ use Rattle.sc_merge_definitions.proofs.MatrixLaws.{values-count, certified-matmu
 use Rattle.sc_matmul.specs.declared.error.MatmulError.{MatmulError}
 use Rattle.sc_matmul.specs.declared.error.MatmulError.TheVariants.{Side, Inner, Outer, Difficulty, FalseEntry, RoundCountMismatch, PowWitnessCountMismatch, NoMemory}
 use Rattle.sc_matmul.specs.declared.matrix.Matrix as stored
+use Rattle.sc_matmul.specs.declared.shape.FittingClaim.{FittingClaim}
 use Rattle.sc_matmul.specs.MatrixViews.{matrix_in}
 use Rattle.sc_matmul.specs.MatmulJobs.{Fields, claimed_in, case_of}
 use Rattle.sc_matmul.specs.Shapes.{or_later, side_fault, sides_fault, inner_fault, outer_fault, shape_fault, difficulty_fault, early_fault}
 use Rattle.sc_matmul.specs.MatmulRounds.{rounds_start, matmul_built, unless_fault, counts_fault, witness_fault, rounds_given}
 use Rattle.sc_matmul.specs.MatmulReports.{GivesResult, given_result, built_result, entry_fault, task_result, matmul_result}
 use Rattle.sc_matmul.specs.MatmulAudits.{LeavesHistory, IsAnswered, HoldsOrLacks, HoldsWhereBuilt}
-use Rattle.sc_matmul.proofs.SideLaws.{are-fitting}
+use Rattle.sc_matmul.proofs.SideLaws.{are-fitting, fit-by}
 use Rattle.sc_matmul.proofs.EntryLaws.{product-length}
 use Rattle.sc_matmul.proofs.ReplayLaws.{counted}
 
@@ -52,13 +57,13 @@ case-is number fs base field embeds below left right claimed bits party none =
     }
 
 -- as many entries are claimed as the product has
-pub as-many : {F : Type 0} (number : F → ℕ) (o : Ops) (left right claimed : stored.Matrix F) (product : List F) →
-    shape_fault (matrix_in number left) (matrix_in number right) (matrix_in number claimed) ≡ None →
-    map number product ≡ product_values o (matrix_in number left) (matrix_in number right) → length claimed.values.items ≡ length product
-as-many number o left right claimed product none is =
-    let fit = are-fitting (matrix_in number left) (matrix_in number right) (matrix_in number claimed) none in
-    sym claimed.values.ok.0 ∙ claimed.fits ∙ ap (λ n. n * claimed.cols) fit.rows_same ∙ ap (λ n. left.rows * n) fit.cols_same
-    ∙ sym (product-length o (matrix_in number left) (matrix_in number right)) ∙ sym (ap length is) ∙ length-map product number
+pub as-many : {F EF : Type 0} {f : FieldOf F} {p : PartialEqOf F} {x : ExtensionOf EF F} {a : AlgebraOf EF F} {e : FieldOf EF} {q : PartialEqOf EF} (c : FittingClaim F EF f p x a e q) (product : List F) →
+    map f.number product ≡ product_values f.ops (matrix_in f.number c.left.now) (matrix_in f.number c.right.now) → length c.claimed.now.values.items ≡ length product
+as-many {f = f} c product is =
+    let fit = fit-by c in
+    let claimed = c.claimed.now in
+    sym claimed.values.ok.0 ∙ claimed.fits ∙ ap (λ n. n * claimed.cols) fit.rows_same ∙ ap (λ n. c.left.now.rows * n) fit.cols_same
+    ∙ sym (product-length f.ops (matrix_in f.number c.left.now) (matrix_in f.number c.right.now)) ∙ sym (ap length is) ∙ length-map product f.number
 
 -- a refusal of a false entry is none where there is none
 pub entry-none : (cols : ℕ) (d : Option Difference) → None ≡ entry_fault cols d → d ≡ None

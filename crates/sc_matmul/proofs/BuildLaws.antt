@@ -19,6 +19,10 @@ use Rattle.sc_definitions.proofs.SameTables.{inner_product-same, built-same, hon
 use Rattle.sc_definitions.proofs.ProverStateLaws.{entries-is, rows-entries_of, message_honest}
 use Rattle.sc_definitions.proofs.WitnessLaws.{honest_rounds-whole, honest_rounds-none, none_passes}
 use Rattle.sc_rounds.specs.declared.product_polynomial.ProductPolynomial.{ProductPolynomial}
+use Rattle.std.specs.declared.cmp.PartialEq.{Ghosts as PartialEqOf}
+use Rattle.sc_field.specs.declared.field.Field.{Ghosts as FieldOf}
+use Rattle.sc_field.specs.declared.algebra.Algebra.{Ghosts as AlgebraOf}
+use Rattle.sc_field.specs.declared.algebra.ExtensionField.{Ghosts as ExtensionOf}
 use Rattle.sc_challenger.specs.Parties.{Party, IsCopyOf}
 use Rattle.sc_table.specs.declared.poly.Poly.{Poly}
 use Rattle.sc_table.specs.Polys.{variables_of, table_of}
@@ -34,14 +38,16 @@ use Rattle.sc_transcript.proofs.InStep.{all_pass}
 use Rattle.sc_soundness.proofs.ImageLaws.{same-lists}
 use Rattle.sc_merge_definitions.specs.Matrices.{MatmulCase, IsMatmulCase, MatmulFigures, drawn_point, after_point, entries_claim, left_table, right_table, matmul_tables, inner_variables, product_values, false_entry, matmul_figures}
 use Rattle.sc_merge_definitions.proofs.MatrixLaws.{values-count, entries-sum}
+use Rattle.sc_merge_definitions.proofs.GivenLaws.{both-none}
 use Rattle.sc_matmul.specs.declared.error.MatmulError.{MatmulError}
 use Rattle.sc_matmul.specs.declared.error.MatmulError.TheVariants as errors
-use Rattle.sc_matmul.specs.MatmulJobs.{Fields, ClaimedProduct, case_of}
+use Rattle.sc_matmul.specs.declared.shape.FittingClaim.{FittingClaim}
+use Rattle.sc_matmul.specs.FittingClaims.{case_by}
 use Rattle.sc_matmul.specs.MatmulRounds.{rounds_start, matmul_built, counts_fault, rounds_given, matmul_given, unless_fault}
 use Rattle.sc_matmul.specs.MatmulReports.{GivesResult, given_result, built_result, task_result, entry_fault}
 use Rattle.sc_matmul.specs.MatmulAudits.{IsAnswered, LeavesHistory}
 use Rattle.sc_matmul.specs.MatmulPlays.{refusal_by, AreBuilt, LeavesBuilt}
-use Rattle.sc_matmul.proofs.ReplayLaws.{counts-none, given-whole}
+use Rattle.sc_matmul.proofs.ReplayLaws.{given-whole}
 
 -- the entries of a table in memory are those of a table that agrees
 pub same-entries : {X : Type 0} (number : X → ℕ) (n : ℕ) (xs : List X) (f : ℕ → ℕ) → length xs ≡ 2 ^ n → ((b : ℕ) → b < 2 ^ n → entries number xs b ≡ f b) →
@@ -175,7 +181,8 @@ module _ (q : MatmulCase) (ring : IsRing q.ops) where
 
     pub built-counted : counts_fault (inner_variables q) q.channel.bits w ≡ None
     built-counted =
-        counts-none (inner_variables q) q.channel.bits w (ap (λ (t : Wire). length t.messages) b.wire ∙ length-messages b.rounds ∙ b.count)
+        both-none (length w.messages) (inner_variables q) (length w.witnesses) (witness_count q.channel.bits (inner_variables q)) _ _
+        (ap (λ (t : Wire). length t.messages) b.wire ∙ length-messages b.rounds ∙ b.count)
         (ap (λ (t : Wire). length t.witnesses) b.wire ∙ count_witnesses q.channel.bits b.rounds ∙ ap (witness_count q.channel.bits) b.count)
 
     built-given : matmul_given q w ≡ Ok b.rounds
@@ -232,8 +239,9 @@ claim-true q case none =
     ap (λ xs. batched_by_powers q.ops (drawn_point q) 0 (map q.embedding xs)) (same-lists 0 q.claimed.values V (case.claimed_count ∙ sym (values-count q case)) none) ∙ entries-sum q case
 
 -- a copy of a challenger has the same case
-pub case-copied : (fs : Fields) (m : ClaimedProduct) (bits : ℕ) (p copy : Party) → IsCopyOf p copy → case_of fs m bits copy ≡ case_of fs m bits p
-case-copied fs m bits p copy is = rw (is.rules, is.history) refl
+pub case-copied : {F EF : Type 0} {f : FieldOf F} {p : PartialEqOf F} {x : ExtensionOf EF F} {a : AlgebraOf EF F} {e : FieldOf EF} {q : PartialEqOf EF} (c : FittingClaim F EF f p x a e q) {before copy : Party} →
+    IsCopyOf before copy → case_by c copy ≡ case_by c before
+case-copied c is = rw (is.rules, is.history) refl
 
 -- a pair of the two tables in memory
 pub pair-made : {F EF : Type 0} (number : EF → ℕ) (q : MatmulCase) (pair : ProductPolynomial F EF) (left right : Poly EF) → variables_of left ≡ inner_variables q →

@@ -1,5 +1,5 @@
--- The entries of the product, and the first that is false.
-use Rattle.std.proofs.Common.{◌≡◌, ℕ, zero, suc, ◌+◌, ◌-◌, ◌*◌, ◌/◌, ◌%◌, ◌<◌, ◌≤◌, List, [], ◌∷◌, ◌++◌, length, map, get_or, take, drop, if◌then◌else◌, Some, None, inl, inr, refl, sym, ◌∙◌, ap, arith, eq-eqb, ne_eqb, zero-add}
+-- The entries of the product.
+use Rattle.std.proofs.Common.{◌≡◌, ℕ, zero, suc, ◌+◌, ◌-◌, ◌*◌, ◌/◌, ◌%◌, ◌<◌, ◌≤◌, List, ◌∷◌, ◌++◌, length, map, get_or, take, drop, if◌then◌else◌, inl, inr, refl, sym, ◌∙◌, ap, arith, zero-add}
 use Rattle.std.specs.List.{range_with_len}
 use Rattle.std.proofs.lemmas.Bool.{cases_lt}
 use Rattle.std.proofs.lemmas.Nat.{div-mul-add, mod-mul-add, mul-le}
@@ -11,48 +11,17 @@ use Rattle.sc_definitions.specs.Ring.{Ops, IsRing, plus, times}
 use Rattle.sc_definitions.specs.Tables.{entries, rows_of, sum_below}
 use Rattle.sc_definitions.proofs.RingLaws.{plus_comm, plus-zero, times_comm}
 use Rattle.sc_definitions.proofs.Sums.{sum-same, element-sum}
+use Rattle.std.specs.declared.cmp.PartialEq.{Ghosts as PartialEqOf}
+use Rattle.sc_field.specs.declared.field.Field.{Ghosts as FieldOf}
+use Rattle.sc_field.specs.declared.algebra.Algebra.{Ghosts as AlgebraOf}
+use Rattle.sc_field.specs.declared.algebra.ExtensionField.{Ghosts as ExtensionOf}
 use Rattle.sc_field.specs.Products.{products}
 use Rattle.sc_field.proofs.EntryLaws.{entry-append_left, entry-append_right, part-entry, part-length}
-use Rattle.sc_soundness.specs.Differences.{first_difference}
 use Rattle.sc_merge_definitions.specs.Matrices.{Matrix, product_entry, product_values}
 use Rattle.sc_matmul.specs.declared.matrix.Matrix as stored
+use Rattle.sc_matmul.specs.declared.shape.FittingClaim.{FittingClaim}
 use Rattle.sc_matmul.specs.MatrixViews.{matrix_in}
-
--- of the rest of two lists, whatever number the place has
-pub rest-same : {X : Type 0} (number : X → ℕ) (p i : ℕ) (xs ys : List X) (x y : X) → i < length xs → i < length ys → x ≡ get_or xs i x → y ≡ get_or ys i y → number x ≡ number y →
-    first_difference p (drop i (map number xs)) (drop i (map number ys)) ≡ first_difference (suc p) (drop (suc i) (map number xs)) (drop (suc i) (map number ys))
-unfolding first_difference
-rest-same number p i [] ys x y lx ly rx ry same = absurd (omega (arith, lx))
-rest-same number p i (a ∷ xs) [] x y lx ly rx ry same = absurd (omega (arith, ly))
-rest-same number p zero (a ∷ xs) (b ∷ ys) x y lx ly rx ry same =
-    ap (λ t. if t then first_difference (suc p) (map number xs) (map number ys) else Some (record { place = p; claimed = number a; actual = number b }))
-    (eq-eqb _ _ (ap number (sym rx) ∙ same ∙ ap number ry))
-rest-same number p (suc i) (a ∷ xs) (b ∷ ys) x y lx ly rx ry same = rest-same number p i xs ys x y (omega (arith, lx)) (omega (arith, ly)) rx ry same
-
-pub rest-other : {X : Type 0} (number : X → ℕ) (p i : ℕ) (xs ys : List X) (x y : X) → i < length xs → i < length ys → x ≡ get_or xs i x → y ≡ get_or ys i y → (number x ≡ number y → ⊥) →
-    first_difference p (drop i (map number xs)) (drop i (map number ys)) ≡ Some (record { place = p; claimed = number x; actual = number y })
-unfolding first_difference
-rest-other number p i [] ys x y lx ly rx ry other = absurd (omega (arith, lx))
-rest-other number p i (a ∷ xs) [] x y lx ly rx ry other = absurd (omega (arith, ly))
-rest-other number p zero (a ∷ xs) (b ∷ ys) x y lx ly rx ry other =
-    ap (λ t. if t then first_difference (suc p) (map number xs) (map number ys) else Some (record { place = p; claimed = number a; actual = number b }))
-    (ne_eqb _ _ (λ e. other (ap number rx ∙ e ∙ ap number (sym ry))))
-    ∙ ap (λ k. Some (record { place = p; claimed = k; actual = number b })) (ap number (sym rx))
-    ∙ ap (λ k. Some (record { place = p; claimed = number x; actual = k })) (ap number (sym ry))
-rest-other number p (suc i) (a ∷ xs) (b ∷ ys) x y lx ly rx ry other = rest-other number p i xs ys x y (omega (arith, lx)) (omega (arith, ly)) rx ry other
-
-none_right : (p : ℕ) (ns : List ℕ) → first_difference p ns [] ≡ None
-unfolding first_difference
-none_right p [] = refl
-none_right p (n ∷ ns) = refl
-
-pub rest-none : {X : Type 0} (number : X → ℕ) (p i : ℕ) (xs ys : List X) → length xs ≤ i → first_difference p (drop i (map number xs)) (drop i (map number ys)) ≡ None
-unfolding first_difference
-rest-none number p zero [] ys all = refl
-rest-none number p (suc i) [] ys all = refl
-rest-none number p zero (x ∷ xs) ys all = absurd (omega (arith, all))
-rest-none number p (suc i) (x ∷ xs) [] all = none_right p (drop i (map number xs))
-rest-none number p (suc i) (x ∷ xs) (y ∷ ys) all = rest-none number p i xs ys (omega (arith, all))
+use Rattle.sc_matmul.proofs.SideLaws.{fit-by}
 
 -- ---- the rows of the product
 
@@ -109,6 +78,16 @@ pub few-entries : {F : Type 0} (m : stored.Matrix F) → m.rows ≤ 128 → m.co
 few-entries m rows cols =
     let most : m.rows * m.cols ≤ 128 * 128 = mul-le m.rows m.cols 128 128 rows cols in
     omega (arith, most, m.fits, m.values.ok.0)
+
+-- so are those of a claim's matrices
+pub all-few : {F EF : Type 0} {f : FieldOf F} {p : PartialEqOf F} {x : ExtensionOf EF F} {a : AlgebraOf EF F} {e : FieldOf EF} {q : PartialEqOf EF} (c : FittingClaim F EF f p x a e q) →
+    (length c.left.now.values.items ≤ 16384) × (length c.right.now.values.items ≤ 16384) × (length c.claimed.now.values.items ≤ 16384)
+all-few c =
+    let fit = fit-by c in (
+      few-entries c.left.now fit.rows_most fit.inner_most,
+      few-entries c.right.now (omega (arith, fit.inner_same, fit.inner_most)) fit.cols_most,
+      few-entries c.claimed.now (omega (arith, fit.rows_same, fit.rows_most)) (omega (arith, fit.cols_same, fit.cols_most)),
+    )
 
 -- row i
 abbrev pub row_of : {F : Type 0} → stored.Matrix F → ℕ → List F

@@ -3,5 +3,4 @@ pub mod EntryLaws
 pub mod TableLaws
 pub mod ReplayLaws
 pub mod BuildLaws
-pub mod VerdictLaws
 pub mod AuditLaws

@@ -1,13 +1,12 @@
 -- What is answered of rounds that are replayed, and what is left of the history.
-use Rattle.std.proofs.Common.{◌≡◌, inl, inr, ⊎_elim, ◌⊎◌, ℕ, zero, suc, List, [], ◌∷◌, ◌++◌, length, map, if◌then◌else◌, Option, Some, None, Result, Ok, Err, refl, ap, sym, ◌∙◌, arith, eq-eqb, ne_eqb}
+use Rattle.std.proofs.Common.{◌≡◌, inl, inr, ⊎_elim, ◌⊎◌, ℕ, List, ◌∷◌, ◌++◌, length, if◌then◌else◌, Option, Some, None, Result, Ok, Err, refl, ap, sym, ◌∙◌, arith}
 use Rattle.std.specs.Prelude.{◌==◌, IsErrAnd}
-use Rattle.std.proofs.lemmas.Bool.{cases_eq}
 use Rattle.std.proofs.lemmas.List.{take_all}
 use Rattle.sc_definitions.specs.declared.events.Event.{Event}
 use Rattle.sc_definitions.specs.Tables.{evaluation, value}
 use Rattle.sc_definitions.specs.Ring.{times}
 use Rattle.sc_definitions.specs.Rounds.{next_claim, claim_along}
-use Rattle.sc_definitions.specs.Transcript.{Round, messages_of, before_draw}
+use Rattle.sc_definitions.specs.Transcript.{messages_of, before_draw}
 use Rattle.sc_definitions.specs.Replays.{AllPass, given_rounds, round_passes}
 use Rattle.sc_definitions.specs.Events.{Rules}
 use Rattle.sc_definitions.specs.Channels.{Wire, VerifierState, verifier_state, channel, witnesses_of}
@@ -18,17 +17,17 @@ use Rattle.sc_definitions.proofs.ReplayLaws.{length-given_rounds, messages-given
 use Rattle.sc_table.specs.declared.strategy.Basis.TheVariants.{Evaluation}
 use Rattle.sc_transcript.specs.declared.error.SumcheckError.{SumcheckError}
 use Rattle.sc_transcript.specs.declared.error.SumcheckError.TheVariants as rounds
-use Rattle.sc_transcript.specs.Causes.{cause_of, told_as}
-use Rattle.sc_transcript.specs.declared.error.RoundError.{RoundError}
+use Rattle.sc_transcript.specs.Causes.{cause_of}
 use Rattle.sc_transcript.specs.declared.error.RoundError.TheVariants as causes
 use Rattle.sc_transcript.specs.Data.{witness_count, pair_replay}
 use Rattle.sc_transcript.specs.Shapes.{shape_of, batch_of}
 use Rattle.sc_transcript.specs.Walks.{Walk, IsWalked}
-use Rattle.sc_transcript.specs.Replayed.{Replay, replay_of, LeavesReplay, AreCounted, AreMiscounted}
+use Rattle.sc_transcript.specs.Replayed.{Replay, replay_of, LeavesReplay}
 use Rattle.sc_audit_errors.specs.Findings.{Finding}
 use Rattle.sc_soundness.specs.Stages.{stage_luck}
 use Rattle.sc_merge_definitions.specs.QuadraticPlays.{finding_where}
 use Rattle.sc_merge_definitions.specs.Matrices.{MatmulCase, MatmulFigures, drawn_point, after_point, after_rounds, entries_claim, left_table, right_table, inner_variables, matmul_challenges, matmul_stage, matmul_figures, false_entry}
+use Rattle.sc_merge_definitions.proofs.GivenLaws.{both-same, witnesses-given}
 use Rattle.sc_matmul.specs.declared.error.MatmulError.{MatmulError}
 use Rattle.sc_matmul.specs.declared.error.MatmulError.TheVariants as errors
 use Rattle.sc_matmul.specs.declared.report.MatmulReport.{MatmulReport}
@@ -40,54 +39,9 @@ use Rattle.sc_matmul.specs.MatmulPlays.{refusal_by}
 -- ---- counts
 
 module _ (n bits : ℕ) (w : Wire) where
-  few_witnesses : Option MatmulError
-  few_witnesses = Some (errors.PowWitnessCountMismatch (witness_count bits n) (length w.witnesses))
-
-  other_rounds : Option MatmulError
-  other_rounds = Some (errors.RoundCountMismatch n (length w.messages))
-
-  -- as many came as have to
-  pub counts-none : length w.messages ≡ n → length w.witnesses ≡ witness_count bits n → counts_fault n bits w ≡ None
-  unfolding few_witnesses other_rounds
-  counts-none rounds witnesses =
-      ap (λ b. if b then (if length w.witnesses == witness_count bits n then None else few_witnesses) else other_rounds) (eq-eqb _ _ rounds)
-      ∙ ap (λ b. if b then None else few_witnesses) (eq-eqb _ _ witnesses)
-
-  pub counts-witnesses : length w.messages ≡ n → (length w.witnesses ≡ witness_count bits n → ⊥) →
-      counts_fault n bits w ≡ Some (errors.PowWitnessCountMismatch (witness_count bits n) (length w.witnesses))
-  unfolding few_witnesses other_rounds
-  counts-witnesses rounds other =
-      ap (λ b. if b then (if length w.witnesses == witness_count bits n then None else few_witnesses) else other_rounds) (eq-eqb _ _ rounds)
-      ∙ ap (λ b. if b then None else few_witnesses) (ne_eqb _ _ other)
-
-  pub counts-rounds : (length w.messages ≡ n → ⊥) → counts_fault n bits w ≡ Some (errors.RoundCountMismatch n (length w.messages))
-  unfolding few_witnesses other_rounds
-  counts-rounds other =
-      ap (λ b. if b then (if length w.witnesses == witness_count bits n then None else few_witnesses) else other_rounds) (ne_eqb _ _ other)
-
-  -- where there is no fault they did
+  -- where there is no fault as many came as have to
   pub counted : counts_fault n bits w ≡ None → (length w.messages ≡ n) × (length w.witnesses ≡ witness_count bits n)
-  counted none = ⊎_elim
-      (λ rounds. ⊎_elim
-      (λ witnesses. (rounds, witnesses))
-      (λ other. let bad = sym (counts-witnesses rounds other) ∙ none in cc)
-      (cases_eq (length w.witnesses) (witness_count bits n)))
-      (λ other. let bad = sym (counts-rounds other) ∙ none in cc)
-      (cases_eq (length w.messages) n)
-
-  -- what the test of the counts finds is that
-  pub counts-tested : AreCounted (batch_of (shape_of n bits Evaluation)) (length w.messages) (length w.witnesses) → None ≡ counts_fault n bits w
-  counts-tested c = sym (counts-none c.as_rounds c.as_witnesses)
-
-  pub counts-refused : (e : RoundError) → AreMiscounted (batch_of (shape_of n bits Evaluation)) (length w.messages) (length w.witnesses) e →
-      Some (refusal_by (told_as e)) ≡ counts_fault n bits w
-  counts-refused (causes.RoundCount expected actual) why =
-      ap (λ k. Some (errors.RoundCountMismatch k actual)) why.0 ∙ ap (λ k. Some (errors.RoundCountMismatch n k)) why.1
-      ∙ sym (counts-rounds (λ e. why.2 (why.1 ∙ e ∙ sym why.0)))
-  counts-refused (causes.WitnessCount expected actual) why =
-      ap (λ k. Some (errors.PowWitnessCountMismatch k actual)) why.0 ∙ ap (λ k. Some (errors.PowWitnessCountMismatch (witness_count bits n) k)) why.1
-      ∙ sym (counts-witnesses why.3 (λ e. why.2 (why.1 ∙ e ∙ sym why.0)))
-  counts-refused e why = absurd why
+  counted = both-same (length w.messages) n (length w.witnesses) (witness_count bits n) _ _
 
 -- ---- a replay
 
@@ -128,28 +82,15 @@ module _ (q : MatmulCase) (w : Wire) where
     given-whole pass = given-by None (first_failing-none q.channel.rules q.channel.extension q.channel.bits (rounds_start q) (rounds_given w) pass)
 
     -- the witnesses of the rounds are those that came
-    all_witnesses : (ms : List (List ℕ)) (ws : List ℕ) → length ws ≡ length ms → map (λ (r : Round). r.witness) (given_rounds ms ws) ≡ ws
-    all_witnesses [] [] e = refl
-    all_witnesses [] (x ∷ ws) e = absurd (omega (arith, e))
-    all_witnesses (m ∷ ms) [] e = absurd (omega (arith, e))
-    all_witnesses (m ∷ ms) (x ∷ ws) e = ap (λ t. x ∷ t) (all_witnesses ms ws (omega (arith, e)))
-
-    no_witnesses : (ws : List ℕ) → length ws ≡ 0 → ws ≡ []
-    no_witnesses [] e = refl
-    no_witnesses (x ∷ ws) e = absurd (omega (arith, e))
-
-    witnesses-given : (bits n : ℕ) → length w.messages ≡ n → length w.witnesses ≡ witness_count bits n → witnesses_of bits (rounds_given w) ≡ w.witnesses
-    witnesses-given zero n rounds witnesses = sym (no_witnesses w.witnesses witnesses)
-    witnesses-given (suc bits) n rounds witnesses =
-        let count : length w.witnesses ≡ n = witnesses ∙ ap (λ b. if b then 0 else n) (ne_eqb (suc bits) 0 (λ e. absurd (omega (arith, e)))) in
-        all_witnesses w.messages w.witnesses (count ∙ sym rounds)
+    same_witnesses : witnesses_of q.channel.bits (rounds_given w) ≡ w.witnesses
+    same_witnesses = witnesses-given q.channel.bits w.messages w.witnesses (witnesses_as ∙ ap (witness_count q.channel.bits) (sym rounds_as))
 
     -- the figures show them
     pub shown-rounds : given_rounds (matmul_figures q (rounds_given w)).messages (matmul_figures q (rounds_given w)).witnesses ≡ rounds_given w
     unfolding matmul_figures
     shown-rounds =
         ap (λ ms. given_rounds ms (witnesses_of q.channel.bits (rounds_given w))) (messages-given_rounds w.messages w.witnesses)
-        ∙ ap (given_rounds w.messages) (witnesses-given q.channel.bits (inner_variables q) rounds_as witnesses_as)
+        ∙ ap (given_rounds w.messages) same_witnesses
 
     -- and are these
     pub figures-are : {point claim residual left right : ℕ} {rs : List ℕ} {finding : Finding} → point ≡ drawn_point q → claim ≡ entries_claim q →
@@ -184,19 +125,13 @@ module _ (q : MatmulCase) (w : Wire) where
           point = point_is i;
           claim = claim_is i;
           messages = messages i;
-          witnesses = sym (witnesses-given q.channel.bits (inner_variables q) rounds_as witnesses_as) i;
+          witnesses = sym same_witnesses i;
           challenges = drawn i;
           residual = residual_at i;
           left = left_at i;
           right = right_at i;
           finding = found i;
         })
-
-    -- there are as many challenges as variables
-    pub drawn-count : (rs : List ℕ) (end : VerifierState) → IsWalked replay_for.walk rs end → length rs ≡ inner_variables q
-    drawn-count rs end walked =
-        ap length walked.replays.drawn ∙ length-challenges q.channel.rules q.channel.extension q.channel.bits (rounds_start q) (rounds_given w)
-        ∙ length-given_rounds w.messages w.witnesses ∙ rounds_as
 
     -- the residual
     pub residual-is : (rs : List ℕ) (end : VerifierState) → IsWalked replay_for.walk rs end →
@@ -258,10 +193,6 @@ module _ (q : MatmulCase) (w : Wire) where
           left.1;
     }
     refused-answered untouched e end kept left = absurd left.1
-
-  -- the point could not be drawn for want of memory
-  pub undrawn-answered : (h' : List Event) → h' ≡ q.history → IsAnswered q (Some w) (Err errors.NoMemory) h'
-  undrawn-answered h' is = record { result = inl refl; history = inl is }
 
 -- an error that is passed on
 pub passed_on : {F EF : Type 0} (base : F → ℕ) (number : EF → ℕ) (r : Result (MatmulReport F EF) MatmulError) (e : MatmulError) → IsErrAnd r (λ x. x ≡ e) →

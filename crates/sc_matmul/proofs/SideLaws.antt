@@ -7,11 +7,18 @@ use Rattle.std.proofs.lemmas.Bool.{cases_eq}
 use Rattle.std.proofs.lemmas.Bool.Decides.{eqb_tells, nat_tests}
 use Rattle.sc_definitions.specs.Interpolation.{first_below}
 use Rattle.sc_definitions.proofs.Lengths.{pow-same}
+use Rattle.std.specs.declared.cmp.PartialEq.{Ghosts as PartialEqOf}
+use Rattle.sc_field.specs.declared.field.Field.{Ghosts as FieldOf}
+use Rattle.sc_field.specs.declared.algebra.Algebra.{Ghosts as AlgebraOf}
+use Rattle.sc_field.specs.declared.algebra.ExtensionField.{Ghosts as ExtensionOf}
 use Rattle.sc_audit_errors.specs.Arities.{exponent_from, arity_of}
 use Rattle.sc_audit_errors.proofs.ArityLaws.{exponent-next, exponent-found, arity-tells}
 use Rattle.sc_merge_definitions.specs.Matrices.{side_variables, Matrix}
+use Rattle.sc_merge_definitions.proofs.GivenLaws.{none-same}
+use Rattle.sc_matmul.specs.declared.shape.FittingClaim.{FittingClaim}
 use Rattle.sc_matmul.specs.declared.error.MatmulError.{MatmulError}
 use Rattle.sc_matmul.specs.declared.error.MatmulError.TheVariants.{Side, Inner, Outer}
+use Rattle.sc_matmul.specs.MatrixViews.{matrix_in}
 use Rattle.sc_matmul.specs.Shapes.{or_later, side_fault, sides_fault, inner_fault, outer_fault, shape_fault, AreFitting}
 
 -- ---- the least number that passes
@@ -95,10 +102,7 @@ sides-fit which m none = fit (nat_lt 7 (side_variables m.rows)) (nat_lt 7 (side_
   fit false false ra rb none = (grind (arith, nat_tests), grind (arith, nat_tests))
 
 pub inner-fits : (left right : Matrix) → inner_fault left right ≡ None → right.rows ≡ left.cols
-inner-fits left right none = ⊎_elim
-    (λ same. sym same)
-    (λ other. let bad : Some (Inner left.cols right.rows) ≡ None = sym (ap (λ b. if b then None else Some (Inner left.cols right.rows)) (ne_eqb _ _ other)) ∙ none in cc)
-    (cases_eq left.cols right.rows)
+inner-fits left right none = sym (none-same left.cols right.rows (Inner left.cols right.rows) none)
 
 pub outer-fits : (left right claimed : Matrix) → outer_fault left right claimed ≡ None → (claimed.rows ≡ left.rows) × (claimed.cols ≡ right.cols)
 outer-fits left right claimed none = fit (claimed.rows == left.rows) (claimed.cols == right.cols) refl refl none where
@@ -138,3 +142,8 @@ are-fitting left right claimed none =
       rows_same = o.0;
       cols_same = o.1;
     }
+
+-- those of matrices in memory do
+pub fit-by : {F EF : Type 0} {f : FieldOf F} {p : PartialEqOf F} {x : ExtensionOf EF F} {a : AlgebraOf EF F} {e : FieldOf EF} {q : PartialEqOf EF} (c : FittingClaim F EF f p x a e q) →
+    AreFitting (matrix_in f.number c.left.now) (matrix_in f.number c.right.now) (matrix_in f.number c.claimed.now)
+fit-by {f = f} c = are-fitting (matrix_in f.number c.left.now) (matrix_in f.number c.right.now) (matrix_in f.number c.claimed.now) c.fits

@@ -2,44 +2,30 @@ use Rattle.std.proofs.Common.{◌≡◌, None, length, map, sym, ◌∙◌, ap, 
 use Rattle.sc_soundness.specs.Differences.{first_difference}
 use Rattle.sc_transcript.specs.Data.{wire_in}
 use Rattle.sc_merge_definitions.specs.Matrices.{MatmulCase, false_entry}
-use Rattle.sc_matmul.specs.MatrixViews.{matrix_in}
 use Rattle.sc_matmul.specs.FittingClaims.{case_by}
 use Rattle.sc_matmul.specs.MatmulReports.{result_in}
-use Rattle.sc_matmul.proofs.SideLaws.{are-fitting}
+use Rattle.sc_matmul.proofs.SideLaws.{fit-by}
 use Rattle.sc_matmul.proofs.AuditLaws.{as-many, entry-none}
 use Rattle.sc_matmul.proofs.BuildLaws.{built-counted, built-answered}
 use Rattle.sc_matmul.proofs.building.build.Goals as goal
 
 pub product_of-requires-clause-few : goal.product_of-requires-clause-few
-product_of-requires-clause-few g c =
-    let fitting = c.args.fitting.now in
-    let N = g.F.Field.number in
-    (are-fitting (matrix_in N fitting.left.now) (matrix_in N fitting.right.now) (matrix_in N fitting.claimed.now) fitting.fits).inner_most
+product_of-requires-clause-few g c = (fit-by c.args.fitting.now).inner_most
 
 pub product_of-requires-clause-rows : goal.product_of-requires-clause-rows
-product_of-requires-clause-rows g c =
-    let fitting = c.args.fitting.now in
-    let N = g.F.Field.number in
-    (are-fitting (matrix_in N fitting.left.now) (matrix_in N fitting.right.now) (matrix_in N fitting.claimed.now) fitting.fits).rows_most
+product_of-requires-clause-rows g c = (fit-by c.args.fitting.now).rows_most
 
 pub product_of-requires-clause-cols : goal.product_of-requires-clause-cols
-product_of-requires-clause-cols g c =
-    let fitting = c.args.fitting.now in
-    let N = g.F.Field.number in
-    (are-fitting (matrix_in N fitting.left.now) (matrix_in N fitting.right.now) (matrix_in N fitting.claimed.now) fitting.fits).cols_most
+product_of-requires-clause-cols g c = (fit-by c.args.fitting.now).cols_most
 
 pub check_entries-requires-clause-some : goal.check_entries-requires-clause-some
 check_entries-requires-clause-some g c =
-    let fitting = c.args.fitting.now in
-    let N = g.F.Field.number in
-    let fit = are-fitting (matrix_in N fitting.left.now) (matrix_in N fitting.right.now) (matrix_in N fitting.claimed.now) fitting.fits in
+    let fit = fit-by c.args.fitting.now in
     omega (arith, fit.cols_some, fit.cols_same)
 
 pub check_entries-requires-clause-same : goal.check_entries-requires-clause-same
 check_entries-requires-clause-same g c =
-    let fitting = c.args.fitting.now in
-    as-many g.F.Field.number g.F.Field.ops fitting.left.now fitting.right.now fitting.claimed.now c.in_ok-product.product.items fitting.fits c.in_ok-product.ensures
-    ∙ sym (ap length c.deref.ensures.value)
+    as-many c.args.fitting.now c.in_ok-product.product.items c.in_ok-product.ensures ∙ sym (ap length c.deref.ensures.value)
 
 pub replay_at-requires-clause-counted : goal.replay_at-requires-clause-counted
 replay_at-requires-clause-counted g c =

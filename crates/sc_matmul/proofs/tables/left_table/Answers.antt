@@ -2,31 +2,25 @@ use Rattle.std.proofs.Common.{◌≡◌, ◌<◌, ◌^◌, length, map, sym, ◌
 use Rattle.sc_definitions.specs.Tables.{entries}
 use Rattle.sc_definitions.proofs.Lengths.{pow-same}
 use Rattle.sc_merge_definitions.specs.Matrices.{side_variables}
-use Rattle.sc_matmul.specs.MatrixViews.{matrix_in}
 use Rattle.sc_matmul.specs.FittingClaims.{case_by}
-use Rattle.sc_matmul.proofs.SideLaws.{are-fitting}
+use Rattle.sc_matmul.proofs.SideLaws.{fit-by}
 use Rattle.sc_matmul.proofs.TableLaws.{left-sum}
 use Rattle.sc_matmul.proofs.tables.left_table.Goals as goal
 
 pub sum_rows-requires-clause-few : goal.sum_rows-requires-clause-few
 sum_rows-requires-clause-few g c =
-    let fitting = c.args.fitting.now in
-    let N = g.F.Field.number in
-    let fit = are-fitting (matrix_in N fitting.left.now) (matrix_in N fitting.right.now) (matrix_in N fitting.claimed.now) fitting.fits in
+    let fit = fit-by c.args.fitting.now in
     omega (arith, ap length c.deref.ensures.value, c.in_ok-powers.ensures.count, c.rows.ensures, fit.rows_most)
 
 pub new-requires : goal.new-requires
 new-requires g c =
     let fitting = c.args.fitting.now in
-    let N = g.F.Field.number in
-    let fit = are-fitting (matrix_in N fitting.left.now) (matrix_in N fitting.right.now) (matrix_in N fitting.claimed.now) fitting.fits in
+    let fit = fit-by c.args.fitting.now in
     (side_variables fitting.left.now.cols, c.in_ok-sums.ensures.count ∙ c.cols-width.ensures ∙ fit.inner)
 
 pub returns-clause-variables : goal.returns-clause-variables
 returns-clause-variables g c =
-    let fitting = c.args.fitting.now in
-    let N = g.F.Field.number in
-    let fit = are-fitting (matrix_in N fitting.left.now) (matrix_in N fitting.right.now) (matrix_in N fitting.claimed.now) fitting.fits in
+    let fit = fit-by c.args.fitting.now in
     pow-same _ _ (sym c.new.ensures.size ∙ c.in_ok-sums.ensures.count ∙ c.cols-width.ensures ∙ fit.inner)
 
 pub returns-clause-table : goal.returns-clause-table

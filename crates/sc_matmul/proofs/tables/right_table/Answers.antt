@@ -4,9 +4,8 @@ use Rattle.sc_definitions.specs.Tables.{entries, sum_below}
 use Rattle.sc_definitions.proofs.Lengths.{pow-same}
 use Rattle.sc_field.proofs.EntryLaws.{part-entry}
 use Rattle.sc_merge_definitions.specs.Matrices.{side_variables}
-use Rattle.sc_matmul.specs.MatrixViews.{matrix_in}
 use Rattle.sc_matmul.specs.FittingClaims.{case_by}
-use Rattle.sc_matmul.proofs.SideLaws.{are-fitting}
+use Rattle.sc_matmul.proofs.SideLaws.{fit-by}
 use Rattle.sc_matmul.proofs.EntryLaws.{row-is, row-size}
 use Rattle.sc_matmul.proofs.TableLaws.{right-sum, dot-powers, entry-more}
 use Rattle.sc_matmul.proofs.tables.right_table.Goals as goal
@@ -22,8 +21,7 @@ pub dot_base-requires-clause-few : goal.dot_base-requires-clause-few
 dot_base-requires-clause-few g c =
     let fitting = c.args.fitting.now in
     let m = fitting.right.now in
-    let N = g.F.Field.number in
-    let fit = are-fitting (matrix_in N fitting.left.now) (matrix_in N m) (matrix_in N fitting.claimed.now) fitting.fits in
+    let fit = fit-by c.args.fitting.now in
     let low : c.loop-x.x < m.rows = omega (arith, c.loop-x-test.true, c.rows-rows.ensures) in
     let size = ap length (row-is m c.loop-x.x c.cols-cols.result c.as_slice-rights.result.now c.cols-cols.ensures c.as_slice-rights.ensures) ∙ row-size m c.loop-x.x low in
     omega (arith, size, fit.cols_most)
@@ -58,16 +56,14 @@ loop-x-preserved g c =
 pub new-requires : goal.new-requires
 new-requires g c =
     let fitting = c.args.fitting.now in
-    let N = g.F.Field.number in
-    let fit = are-fitting (matrix_in N fitting.left.now) (matrix_in N fitting.right.now) (matrix_in N fitting.claimed.now) fitting.fits in
+    let fit = fit-by c.args.fitting.now in
     let made : length c.loop-x.sums.items ≡ fitting.right.now.rows = omega (arith, c.loop-x.invariant.made, c.loop-x.auto.x-end, c.loop-x-test.false, c.rows-rows.ensures) in
     (side_variables fitting.left.now.cols, made ∙ fit.inner_same ∙ fit.inner)
 
 pub returns-clause-variables : goal.returns-clause-variables
 returns-clause-variables g c =
     let fitting = c.args.fitting.now in
-    let N = g.F.Field.number in
-    let fit = are-fitting (matrix_in N fitting.left.now) (matrix_in N fitting.right.now) (matrix_in N fitting.claimed.now) fitting.fits in
+    let fit = fit-by c.args.fitting.now in
     let made : length c.loop-x.sums.items ≡ fitting.right.now.rows = omega (arith, c.loop-x.invariant.made, c.loop-x.auto.x-end, c.loop-x-test.false, c.rows-rows.ensures) in
     pow-same _ _ (sym c.new.ensures.size ∙ made ∙ fit.inner_same ∙ fit.inner)
 

@@ -1,18 +1,16 @@
-use Rattle.std.proofs.Common.{◌≡◌, true, length, map, ◌∙◌, ap, rules}
+use Rattle.std.proofs.Common.{◌≡◌, true, length, map, sym, ◌∙◌, ap, rules}
+use Rattle.std.specs.Option.{option_map}
 use Rattle.sc_soundness.specs.Differences.{first_difference}
-use Rattle.sc_merge_definitions.specs.Matrices.{MatmulCase, false_entry}
+use Rattle.sc_merge_definitions.specs.Matrices.{MatmulCase}
+use Rattle.sc_merge_definitions.proofs.FindingLaws.{finding-named, ok-then}
 use Rattle.sc_matmul.specs.Entries.{difference_of}
 use Rattle.sc_matmul.specs.FittingClaims.{case_by}
 use Rattle.sc_matmul.specs.MatmulPlays.{played_luck}
 use Rattle.sc_matmul.proofs.AuditLaws.{as-many}
-use Rattle.sc_matmul.proofs.VerdictLaws.{ok-then, finding-named}
 use Rattle.sc_matmul.proofs.verdict.verdict_on.Goals as goal
 
 pub first_false-requires : goal.first_false-requires
-first_false-requires g c =
-    let fitting = c.args.fitting.now in
-    ap length c.as_slice.ensures
-    ∙ as-many g.F.Field.number g.F.Field.ops fitting.left.now fitting.right.now fitting.claimed.now c.args.product.now fitting.fits c.requires.product
+first_false-requires g c = ap length c.as_slice.ensures ∙ as-many c.args.fitting.now c.args.product.now c.requires.product
 
 -- an entry is false
 pub returns-in-Some : goal.returns-in-Some
@@ -24,4 +22,4 @@ returns-in-Some g c =
     ∙ ap (first_difference 0 (map B fitting.claimed.now.values.items)) c.requires.product in
     ok-then c.luck_on.result c.luck_on.ensures (λ v told at on.
     let q : MatmulCase = case_by fitting at in
-    told at on ∙ finding-named difference_of (false_entry q) c.first_false.result c.in-Some.field-0 (played_luck B g.EF.Field.number q c.args.played.now) c.args.matched is found c.in-Some.is)
+    told at on ∙ finding-named c.args.matched (played_luck B g.EF.Field.number q c.args.played.now) is (sym found ∙ ap (option_map difference_of) c.in-Some.is))
