@@ -10,16 +10,16 @@ use sc_field::{Field, NoMemory};
 use sc_table::RoundMessage;
 use std::alloc::Global;
 
-/// Whether each number is below a size.
+/// Whether each number is below a size. It looks at all of them, since a loop that is left early is
+/// not compiled to lanes.
 pub(crate) fn all_below(numbers: &[u32], size: u64) -> bool
     ensures { result ≡ are_below size numbers.now }
 {
+    let mut below = true;
     for n in numbers {
-        if u64::from(*n) >= size {
-            return false;
-        }
+        below &= u64::from(*n) < size;
     }
-    true
+    below
 }
 
 /// Whether each number of each round is below a size.
