@@ -1,5 +1,5 @@
 -- Typed calls: what numbers in a caller's memory ask, and what is left there.
-use Rattle.std.specs.Prelude.{◌≡◌, ◌⊎◌, ℕ, Bool, true, false, List, [], ◌++◌, length, take, drop, Option, Some, None, Result, Ok, Err}
+use Rattle.std.specs.Prelude.{◌≡◌, ◌⊎◌, ℕ, Bool, true, false, List, [], ◌++◌, length, map, take, drop, Option, Some, None, Result, Ok, Err}
 use Rattle.sc_definitions.specs.Tables.{Basis, evaluation, projective, Order, prefix, suffix}
 use Rattle.sc_definitions.specs.Lucky.{in_batch, in_round}
 use Rattle.sc_audit_errors.specs.declared.error.AuditError.TheVariants.{NoMemory}
@@ -12,7 +12,9 @@ use Rattle.sumcheck_replies.specs.Reply.{code_of}
 use Rattle.sumcheck_run.specs.Run.{want_of_memory}
 use Rattle.sumcheck_tables.specs.declared.error.TableError.{TableError}
 use Rattle.sumcheck_tables.specs.declared.error.TableError.TheVariants.{Points, NotAnElement, Audit}
+use Rattle.sumcheck_tables.specs.declared.job.RoundNumbers.{RoundNumbers}
 use Rattle.sumcheck_tables.specs.Tables.{TableCase}
+use Rattle.sumcheck_tables.specs.Views.{numbers_in}
 use Rattle.sumcheck_c.specs.declared.tables.Found.{Found}
 use Rattle.sumcheck_c.specs.declared.tables.TableFigures.{TableFigures}
 use Rattle.sumcheck_c.specs.declared.tables.TableTerms.{TableTerms}
@@ -86,6 +88,11 @@ pub record Left : Type 0 where
   pub challenges : List ℕ
   pub polynomial : List ℕ
 
+-- these of a caller
+abbrev pub left_in : TableFigures → List ℕ → List ℕ → Left
+left_in figures challenges polynomial = record { figures = figures; challenges = challenges; polynomial = polynomial }
+
+-- what a report leaves of them
 abbrev pub left_of : Figures → Left → Left
 left_of f old = record {
   figures = record { claim = f.claim; residual = f.residual; eval = f.eval; weight = f.weight; found = found_of f.finding };
@@ -99,6 +106,11 @@ pub record LeftOfBuild : Type 0 where
   pub rounds : List (List ℕ)
   pub witnesses : List ℕ
 
+-- these of a caller
+abbrev pub built_in : Left → List RoundNumbers → List ℕ → LeftOfBuild
+built_in left rounds witnesses = record { left = left; rounds = map numbers_in rounds; witnesses = witnesses }
+
+-- what a report leaves of them
 abbrev pub built_of : Figures → LeftOfBuild → LeftOfBuild
 built_of f old = record {
   left = left_of f old.left;

@@ -24,10 +24,10 @@ ghost use Rattle.sumcheck_run.specs.Program.{CommandPromise, reply_of};
 ghost use Rattle.sumcheck_run.specs.Run.{TellsUsage};
 ghost use Rattle.sumcheck_run.specs.declared.command.Command.{Command};
 ghost use Rattle.sumcheck_tables.specs.Tables.{table_answer};
-ghost use Rattle.sumcheck_tables.specs.Views.{given_of, numbers_in};
+ghost use Rattle.sumcheck_tables.specs.Views.{given_of};
 ghost use Rattle.sumcheck_c.specs.Commands.{make_command, word_command};
 ghost use Rattle.sumcheck_c.specs.Handed.{IsHanded};
-ghost use Rattle.sumcheck_c.specs.TypedCalls.{TellsBuild, TellsCheck, case_by};
+ghost use Rattle.sumcheck_c.specs.TypedCalls.{TellsBuild, TellsCheck, built_in, case_by, left_in};
 
 mod handed;
 mod line;
@@ -145,8 +145,8 @@ pub extern "C" fn tunaprow_check_65537<'a>(
         (table_answer (fields_of names.F65537)
         (case_by terms.now table.now points.now values.now draws.now
         (check (Some (given_of rounds.now witnesses.now)))))
-        (record { figures = figures.old; challenges = challenges.old; polynomial = polynomial.old })
-        (record { figures = figures.new; challenges = challenges.new; polynomial = polynomial.new })
+        (left_in figures.old challenges.old polynomial.old)
+        (left_in figures.new challenges.new polynomial.new)
         result }
 {
     let mode = TableMode::Check { rounds, witnesses };
@@ -180,24 +180,8 @@ pub extern "C" fn tunaprow_build_65537<'a>(
     ensures { TellsBuild
         (table_answer (fields_of names.F65537)
         (case_by terms.now table.now points.now values.now draws.now (build Plain)))
-        (record {
-          left = record {
-            figures = figures.old;
-            challenges = challenges.old;
-            polynomial = polynomial.old;
-          };
-          rounds = map numbers_in rounds.old;
-          witnesses = witnesses.old;
-        })
-        (record {
-          left = record {
-            figures = figures.new;
-            challenges = challenges.new;
-            polynomial = polynomial.new;
-          };
-          rounds = map numbers_in rounds.new;
-          witnesses = witnesses.new;
-        })
+        (built_in (left_in figures.old challenges.old polynomial.old) rounds.old witnesses.old)
+        (built_in (left_in figures.new challenges.new polynomial.new) rounds.new witnesses.new)
         result }
 {
     let mode = TableMode::Build(Strategy::Plain);

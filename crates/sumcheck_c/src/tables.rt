@@ -9,7 +9,7 @@ ghost use Rattle.sumcheck_tables.specs.Tables.{table_answer};
 ghost use Rattle.sumcheck_tables.specs.Views.{case_in, draws_in, numbers_in, task_in};
 ghost use Rattle.sumcheck_c.specs.TypedCalls.{basis_by, case_by, draws_by, error_code, found_of};
 ghost use Rattle.sumcheck_c.specs.TypedCalls.{finding_code, fronted, left_of, order_by};
-ghost use Rattle.sumcheck_c.specs.TypedCalls.{polynomial_of, TellsBuild, TellsCheck};
+ghost use Rattle.sumcheck_c.specs.TypedCalls.{built_in, left_in, polynomial_of, TellsBuild, TellsCheck};
 
 use crate::handed::OUT_OF_MEMORY;
 use sc_audit::{AuditError, Report, Verdict};
@@ -136,8 +136,8 @@ pub(crate) fn check(
     polynomial: &mut [u32],
 ) -> u8
     ensures { TellsCheck (table_answer (fields_of names.F65537) (case_in job.now))
-        (record { figures = figures.old; challenges = challenges.old; polynomial = polynomial.old })
-        (record { figures = figures.new; challenges = challenges.new; polynomial = polynomial.new })
+        (left_in figures.old challenges.old polynomial.old)
+        (left_in figures.new challenges.new polynomial.new)
         result }
 {
     match audit_table::<F65537, F65537, F65537>(alloc, job) {
@@ -157,24 +157,8 @@ pub(crate) fn build(
     polynomial: &mut [u32],
 ) -> u8
     ensures { TellsBuild (table_answer (fields_of names.F65537) (case_in job.now))
-        (record {
-          left = record {
-            figures = figures.old;
-            challenges = challenges.old;
-            polynomial = polynomial.old;
-          };
-          rounds = map numbers_in rounds.old;
-          witnesses = witnesses.old;
-        })
-        (record {
-          left = record {
-            figures = figures.new;
-            challenges = challenges.new;
-            polynomial = polynomial.new;
-          };
-          rounds = map numbers_in rounds.new;
-          witnesses = witnesses.new;
-        })
+        (built_in (left_in figures.old challenges.old polynomial.old) rounds.old witnesses.old)
+        (built_in (left_in figures.new challenges.new polynomial.new) rounds.new witnesses.new)
         result }
 {
     match audit_table::<F65537, F65537, F65537>(alloc, job) {
@@ -195,17 +179,9 @@ fn tell(
     challenges: &mut [u32],
     polynomial: &mut [u32],
 ) -> u8
-    ensures left { (record {
-      figures = figures.new;
-      challenges = challenges.new;
-      polynomial = polynomial.new;
-    }) ≡ left_of
+    ensures left { left_in figures.new challenges.new polynomial.new ≡ left_of
         (report_in ⟦<F65537 as Field>⟧.number ⟦<F65537 as Field>⟧.number report.now).figures
-        (record {
-          figures = figures.old;
-          challenges = challenges.old;
-          polynomial = polynomial.old;
-        }) }
+        (left_in figures.old challenges.old polynomial.old) }
     ensures status { result
         ≡ finding_code (finding_in ⟦<F65537 as Field>⟧.number report.now.verdict) }
 {
